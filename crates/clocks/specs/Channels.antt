@@ -1,0 +1,92 @@
+-- The channels of a survival clock (HazardChannelState of hazard_clock.rs): eight places by ascending cause, of which the first count are used.
+use mathlib.Core.Bool.{Bool, cond, _&&_}
+use mathlib.Core.List.{List, [], _∷_, _++_, map}
+use Prim.Native.Nat.{ℕ, zero, suc, _+_, _-_}
+use lib.Dec.{eqb, ltb}
+use lib.ListN.{length, getD, set, take, drop, replicate}
+use lib.Ieee.{Float, binary64, add, sub, le}
+use Rattle.hazards.specs.Floats.{z, notBelowZero}
+use Rattle.hazards.specs.Rates.{cumulativeHazard, invertCumulativeHazard}
+use Rattle.hazards.specs.declared.rates.HazardRate.{HazardRate}
+use Rattle.hazards.specs.declared.rates.HazardRate.the-variants.{Zero}
+use Rattle.hazards.specs.declared.rates.Intervals.{Intervals}
+use Rattle.hazards.specs.Ties.{candidateAfter}
+use Rattle.hazards.specs.declared.ties.Candidate.{Candidate}
+use Rattle.clocks.specs.declared.channels.HazardChannelState.{HazardChannelState}
+
+-- what an unused place holds
+abbrev pub emptyIntervals : Intervals
+emptyIntervals = record { ends = replicate 8 z; rates = replicate 8 z; count = 0 }
+
+abbrev pub emptyChannel : HazardChannelState
+emptyChannel = record {
+  «cause_id» = 0;
+  priority = 0;
+  hazard = Zero;
+  intervals = emptyIntervals;
+  «accumulated_hazard» = z;
+  «target_threshold» = z;
+  «interval_start_time» = z;
+}
+
+-- a channel with another accumulated hazard and interval start
+abbrev pub withProgress : HazardChannelState → Float → Float → HazardChannelState
+withProgress c accumulated start = record {
+  «cause_id» = c .«cause_id»;
+  priority = c .priority;
+  hazard = c .hazard;
+  intervals = c .intervals;
+  «accumulated_hazard» = accumulated;
+  «target_threshold» = c .«target_threshold»;
+  «interval_start_time» = start;
+}
+
+-- the hazard of the time since the interval's start, at least 0, added to what was accumulated before
+unfoldable pub settledHazard : HazardChannelState → Float → Float
+settledHazard c now =
+    let elapsed = notBelowZero (sub binary64 now (c .«interval_start_time»)) in
+    add binary64 (c .«accumulated_hazard») (cumulativeHazard (c .hazard) (c .intervals) elapsed)
+
+-- settling a channel: its elapsed hazard is accumulated, and a new interval starts
+abbrev pub settled : Float → HazardChannelState → HazardChannelState
+settled now c = withProgress c (settledHazard c now) now
+
+-- a new interval starts, and nothing is accumulated
+abbrev pub restarted : Float → HazardChannelState → HazardChannelState
+restarted now c = withProgress c (c .«accumulated_hazard») now
+
+-- f on each used channel
+unfoldable pub onUsed : (HazardChannelState → HazardChannelState) → ℕ → List HazardChannelState → List HazardChannelState
+onUsed f count cs = map f (take count cs) ++ drop count cs
+
+-- ---- by cause
+
+-- the place of the first of these whose cause is not below the given one, or their number
+unfoldable pub placeOf : ℕ → List HazardChannelState → ℕ
+placeOf cause [] = 0
+placeOf cause (c ∷ cs) = cond (ltb (c .«cause_id») cause) (suc (placeOf cause cs)) 0
+
+-- whether a place among these holds a cause
+unfoldable pub holdsAt : ℕ → ℕ → List HazardChannelState → Bool
+holdsAt at cause cs = ltb at (length cs) && eqb (getD cs at emptyChannel .«cause_id») cause
+
+-- the eight places with a channel put in at a place, those from there on one further
+unfoldable pub insertAt : ℕ → HazardChannelState → List HazardChannelState → List HazardChannelState
+insertAt at c cs = take at cs ++ (c ∷ take (7 - at) (drop at cs))
+
+-- the eight places without the one at a place, those after it one nearer
+unfoldable pub removeAt : ℕ → List HazardChannelState → List HazardChannelState
+removeAt at cs = take at cs ++ (drop (at + 1) cs ++ (emptyChannel ∷ []))
+
+-- ---- candidates of compute_earliest_event
+
+abbrev pub candidateAt : HazardChannelState → Float → Candidate
+candidateAt c time = record { «cause_id» = c .«cause_id»; priority = c .priority; time = time }
+
+-- a channel whose threshold is reached is a candidate now; any other after its wait, if that is finite
+unfoldable pub channelCandidate : Float → HazardChannelState → List Candidate
+channelCandidate now c =
+    let remaining = sub binary64 (c .«target_threshold») (c .«accumulated_hazard») in
+    cond (le remaining z) (candidateAt c now ∷ [])
+    (candidateAfter (c .«cause_id») (c .priority) (λ wait. add binary64 now wait)
+    (invertCumulativeHazard (c .hazard) (c .intervals) z remaining))

@@ -1,0 +1,5 @@
+pub mod Ticks
+pub mod Channels
+pub mod Clocks
+pub mod Setting
+pub mod Scheduling

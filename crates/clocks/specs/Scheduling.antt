@@ -1,0 +1,103 @@
+-- reschedule, pause, resume and on_event_dispatched of hazard_clock.rs. The queue is the engine's: each method says which scheduled event it withdraws and
+-- what it asks to have scheduled.
+use mathlib.Core.Bool.{Bool, true, false, cond}
+use mathlib.Core.List.{List}
+use Prim.Native.Nat.{ℕ}
+use lib.Dec.{eqb}
+use lib.Ieee.{Float, binary64, add, sub, le}
+use Rattle.hazards.specs.Floats.{z, notBelowZero}
+use Rattle.hazards.specs.Refusals.{noCause}
+use Rattle.hazards.specs.declared.ties.Earliest.{Earliest}
+use Rattle.hazards.specs.declared.ties.Earliest.the-variants.{Nothing, Found}
+use Rattle.clocks.specs.Ticks.{ticksAt}
+use Rattle.clocks.specs.Channels.{settled, restarted, onUsed}
+use Rattle.clocks.specs.Clocks.{notScheduled, noWinner, withChannels, withSchedule, earliestEvent}
+use Rattle.clocks.specs.declared.clocks.ScheduledEvent.{ScheduledEvent}
+use Rattle.clocks.specs.declared.clocks.SurvivalClock.{SurvivalClock}
+use Rattle.clocks.specs.declared.scheduling.Censor.{Censor}
+use Rattle.clocks.specs.declared.scheduling.RealizedEvent.{RealizedEvent}
+use Rattle.clocks.specs.declared.scheduling.Rescheduled.{Rescheduled}
+use Rattle.clocks.specs.declared.scheduling.Paused.{Paused}
+use Rattle.clocks.specs.declared.scheduling.Dispatched.{Dispatched}
+use Rattle.clocks.specs.declared.ticks.Ticks.{Ticks}
+
+-- no event
+abbrev pub notRealized : RealizedEvent
+notRealized = record { present = false; «winning_cause» = 0; «delta_time» = z; «is_censored» = false }
+
+-- an event of a cause, or a censored one of noCause
+abbrev pub realized : ℕ → Float → Bool → RealizedEvent
+realized cause delta censored = record {
+  present = true;
+  «winning_cause» = cause;
+  «delta_time» = delta;
+  «is_censored» = censored;
+}
+
+-- the event that a clock is rescheduled to: an event after the censor time is censored at it, one at the censor time is not; without a candidate a
+-- censor time from now on is answered
+unfoldable pub finalEvent : Earliest → Float → Censor → RealizedEvent
+finalEvent (Found c) now censor =
+    let event = realized (c .«cause_id») (notBelowZero (sub binary64 (c .time) now)) false in
+    cond (censor .present)
+    (cond (le (c .time) (censor .time)) event
+    (realized noCause (notBelowZero (sub binary64 (censor .time) now)) true))
+    event
+finalEvent Nothing now censor =
+    cond (censor .present)
+    (cond (le now (censor .time)) (realized noCause (sub binary64 (censor .time) now) true) notRealized)
+    notRealized
+
+-- the old event is withdrawn in any case; without a new one winner and active flag stay. index is that of the next request
+unfoldable pub scheduledFor : SurvivalClock → Float → RealizedEvent → ℕ → Rescheduled
+scheduledFor k now event index =
+    let at = add binary64 now (event .«delta_time») in
+    cond (event .present)
+    (record {
+      clock =
+        withSchedule k (record { present = true; index = index })
+        (record { present = true; «cause_id» = event .«winning_cause»; time = at }) true now;
+      withdrawn = k .«scheduled_event»;
+      event = event;
+      ticks = ticksAt now (event .«delta_time») (k .«tick_scale»);
+    })
+    (record {
+      clock = withSchedule k notScheduled (k .«current_winner») (k .«is_active») now;
+      withdrawn = k .«scheduled_event»;
+      event = event;
+      ticks = record { low = 0; high = 0 };
+    })
+
+-- nothing is settled
+unfoldable pub reschedule : SurvivalClock → Float → Censor → ℕ → Rescheduled
+reschedule k now censor index = scheduledFor k now (finalEvent (earliestEvent k now) now censor) index
+
+-- an active clock settles every channel and withdraws its event; any other is left as it is
+unfoldable pub pause : SurvivalClock → Float → Paused
+pause k now =
+    cond (k .«is_active»)
+    (record {
+      clock =
+        withSchedule (withChannels k (onUsed (settled now) (k .«channel_count») (k .channels)) (k .«channel_count»))
+        notScheduled (k .«current_winner») false now;
+      withdrawn = k .«scheduled_event»;
+    })
+    (record { clock = k; withdrawn = notScheduled })
+
+-- every channel starts a new interval, and the clock is rescheduled
+unfoldable pub resume : SurvivalClock → Float → Censor → ℕ → Rescheduled
+resume k now censor index =
+    reschedule (withChannels k (onUsed (restarted now) (k .«channel_count») (k .channels)) (k .«channel_count»)) now censor
+    index
+
+-- the winner is taken, and the clock is idle
+unfoldable pub onEventDispatched : SurvivalClock → Dispatched
+onEventDispatched k =
+    let w = k .«current_winner» in
+    record {
+      clock = withSchedule k notScheduled noWinner false (k .«last_update_time»);
+      event =
+        cond (w .present)
+        (realized (w .«cause_id») (notBelowZero (sub binary64 (w .time) (k .«last_update_time»))) (eqb (w .«cause_id») noCause))
+        notRealized;
+    }

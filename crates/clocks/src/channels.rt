@@ -1,0 +1,52 @@
+// The channels of a survival clock: one cause with its hazard, its threshold and what was gathered of it.
+ghost use mathlib.Core.Path.{_≡_};
+ghost use Rattle.clocks.specs.Channels.{emptyIntervals, emptyChannel, settledHazard};
+use hazards::rates::HazardRate;
+use hazards::rates::Intervals;
+
+pub struct HazardChannelState {
+    pub cause_id: u32,
+    pub priority: u32,
+    pub hazard: HazardRate,
+    pub intervals: Intervals,
+    pub accumulated_hazard: f64,
+    pub target_threshold: f64,
+    pub interval_start_time: f64,
+}
+
+pub fn empty_intervals() -> Intervals
+    ensures { λ r. ⌜ r ≡ emptyIntervals ⌝ }
+{
+    Intervals { ends: [0.0; 8], rates: [0.0; 8], count: 0 }
+}
+
+// What an unused place holds.
+pub fn empty_channel() -> HazardChannelState
+    ensures { λ r. ⌜ r ≡ emptyChannel ⌝ }
+{
+    let intervals = empty_intervals();
+    HazardChannelState {
+        cause_id: 0,
+        priority: 0,
+        hazard: HazardRate::Zero,
+        intervals,
+        accumulated_hazard: 0.0,
+        target_threshold: 0.0,
+        interval_start_time: 0.0,
+    }
+}
+
+// The hazard of the time since the interval's start, added to what was accumulated before.
+pub fn settled_hazard(channel: HazardChannelState, now: f64) -> f64
+    ensures { λ r. ⌜ r ≡ settledHazard channel now ⌝ }
+{
+    let elapsed = hazards::rates::not_below_zero(now - channel.interval_start_time);
+    let added = hazards::rates::cumulative_hazard(
+        channel.hazard,
+        &channel.intervals.ends,
+        &channel.intervals.rates,
+        channel.intervals.count,
+        elapsed,
+    );
+    channel.accumulated_hazard + added
+}

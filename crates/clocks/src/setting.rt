@@ -1,0 +1,97 @@
+// set_channel of hazard_clock.rs: adds a cause or sets it again, with its draw; a refusal changes nothing.
+ghost use mathlib.Core.Path.{_≡_};
+ghost use Rattle.clocks.specs.Setting.{channelOf, drawsAgain, notSet, setAgain, setNew, setChannel};
+use crate::channels::HazardChannelState;
+use crate::clocks::HazardInterruptionPolicy;
+use crate::clocks::SurvivalClock;
+use hazards::rates::HazardRate;
+use hazards::rates::Intervals;
+
+// What SET says of a cause.
+pub struct CauseSetting {
+    pub cause_id: u32,
+    pub priority: u32,
+    pub hazard: HazardRate,
+    pub intervals: Intervals,
+    pub now: f64,
+}
+
+// The refusal or 0, the clock and the draw position after it.
+pub struct ChannelSet {
+    pub number: u8,
+    pub clock: SurvivalClock,
+    pub position: usize,
+}
+
+fn channel_of(setting: CauseSetting, accumulated: f64, threshold: f64) -> HazardChannelState
+    ensures { λ r. ⌜ r ≡ channelOf setting accumulated threshold ⌝ }
+{
+    let hazard = setting.hazard;
+    let intervals = setting.intervals;
+    HazardChannelState {
+        cause_id: setting.cause_id,
+        priority: setting.priority,
+        hazard,
+        intervals,
+        accumulated_hazard: accumulated,
+        target_threshold: threshold,
+        interval_start_time: setting.now,
+    }
+}
+
+fn draws_again(policy: HazardInterruptionPolicy, accumulated: f64, threshold: f64) -> bool
+    ensures { λ r. ⌜ r ≡ drawsAgain policy accumulated threshold ⌝ }
+{
+    match policy {
+        HazardInterruptionPolicy::Restart => true,
+        HazardInterruptionPolicy::RetainResidual => accumulated >= threshold,
+    }
+}
+
+// A cause that the clock has, at its place.
+fn set_again(clock: SurvivalClock, setting: CauseSetting, stream: &[u8], position: usize, at: usize) -> ChannelSet
+    requires { ⌜ at ≤ 7 ⌝ }
+    ensures { λ r. ⌜ r ≡ setAgain clock setting (now (stream .entry)) position at ⌝ }
+{
+    let old = clock.channels[at];
+    let accumulated = crate::channels::settled_hazard(old, setting.now);
+    let mut after = clock;
+    if !draws_again(clock.policy, accumulated, old.target_threshold) {
+        let kept = channel_of(setting, accumulated, old.target_threshold);
+        after.channels[at] = kept;
+        return ChannelSet { number: 0, clock: after, position };
+    }
+    let drawn = hazards::draws::draw_from(stream, position);
+    if drawn.number != 0 {
+        return ChannelSet { number: drawn.number, clock, position };
+    }
+    let fresh = channel_of(setting, 0.0, drawn.threshold);
+    after.channels[at] = fresh;
+    ChannelSet { number: 0, clock: after, position: drawn.position }
+}
+
+// A cause that is new to the clock; a ninth is refused.
+fn set_new(clock: SurvivalClock, setting: CauseSetting, stream: &[u8], position: usize, at: usize) -> ChannelSet
+    requires { ⌜ at ≤ 7 ⌝ }
+    ensures { λ r. ⌜ r ≡ setNew clock setting (now (stream .entry)) position at ⌝ }
+{
+    if clock.channel_count >= 8 {
+        return ChannelSet { number: hazards::refusals::TOO_MANY_CAUSES, clock, position };
+    }
+    let drawn = hazards::draws::draw_from(stream, position);
+    if drawn.number != 0 {
+        return ChannelSet { number: drawn.number, clock, position };
+    }
+    let fresh = channel_of(setting, 0.0, drawn.threshold);
+    ChannelSet { number: 0, clock: clock.inserted(at, fresh), position: drawn.position }
+}
+
+pub fn set_channel(clock: SurvivalClock, setting: CauseSetting, stream: &[u8], position: usize) -> ChannelSet
+    ensures { λ r. ⌜ r ≡ setChannel clock setting (now (stream .entry)) position ⌝ }
+{
+    let at = clock.place_of(setting.cause_id);
+    if clock.holds_at(at, setting.cause_id) {
+        return set_again(clock, setting, stream, position, at);
+    }
+    set_new(clock, setting, stream, position, at)
+}

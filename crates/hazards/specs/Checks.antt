@@ -1,0 +1,87 @@
+-- Document 01, "A command comes in": what refusals 4 to 6 say of a hazard. 5 and 6 are stated of the hazard itself, so that they serve the fields of a
+-- command and a stored channel alike.
+use mathlib.Core.Bool.{Bool, true, false, not, cond, _&&_, _||_}
+use mathlib.Core.List.{List, [], _∷_}
+use Prim.Native.Nat.{ℕ, _-_, min}
+use lib.Dec.{eqb, ltb}
+use lib.Ieee.{Float, lt, le}
+use Rattle.hazards.specs.Floats.{z, limit, zeroBits, inRange}
+use Rattle.hazards.specs.Lists.{all}
+use Rattle.hazards.specs.Rates.{Pair, pairsFrom}
+use Rattle.hazards.specs.declared.checks.HazardFields.{HazardFields}
+use Rattle.hazards.specs.declared.refusals.Faults.{Faults}
+use Rattle.hazards.specs.declared.rates.HazardRate.{HazardRate}
+use Rattle.hazards.specs.declared.rates.HazardRate.the-variants.{Zero, Constant, Gompertz, Piecewise}
+use Rattle.hazards.specs.declared.rates.Intervals.{Intervals}
+
+-- ---- the kinds: 0 Zero, 1 Constant, 2 Gompertz, 3 PiecewiseConstant
+
+-- a kind above 3 is refused by 4 before this is asked
+abbrev pub rateOfKind : ℕ → Float → HazardRate
+rateOfKind kind first =
+    cond (eqb kind 0) Zero
+    (cond (eqb kind 1) (Constant first) (cond (eqb kind 2) (Gompertz first) (Piecewise first)))
+
+-- the kind's own rate, +0.0 for Zero
+unfoldable pub ownRate : HazardRate → Float
+ownRate Zero = z
+ownRate (Constant rate) = rate
+ownRate (Gompertz eta) = eta
+ownRate (Piecewise trailing) = trailing
+
+-- how many pairs a kind can use
+unfoldable pub mostPairs : HazardRate → ℕ
+mostPairs Zero = 0
+mostPairs (Constant rate) = 0
+mostPairs (Gompertz eta) = 0
+mostPairs (Piecewise trailing) = 8
+
+-- the used pairs are the first count, at most 8, of kind 3
+abbrev pub usedCount : HazardRate → Intervals → ℕ
+usedCount h p = min (p .count) (mostPairs h)
+
+abbrev pub usedOf : HazardRate → Intervals → List Pair
+usedOf h p = pairsFrom p 0 (usedCount h p)
+
+-- and the rest of the eight
+abbrev pub unusedOf : HazardRate → Intervals → List Pair
+unusedOf h p = pairsFrom p (usedCount h p) (8 - usedCount h p)
+
+-- ---- refusals 5 and 6 of a hazard
+
+-- 5: its own rate or a used rate not finite or of size above 2^40
+unfoldable pub rangeFault : HazardRate → Intervals → Bool
+rangeFault h p = not (inRange (ownRate h) && all (λ q. inRange (q .rate)) (usedOf h p))
+
+abbrev pub zeroPair : Pair → Bool
+zeroPair q = zeroBits (q .end) && zeroBits (q .rate)
+
+-- each end above the one before it, and at most 2^40
+unfoldable pub ascending : Float → List Pair → Bool
+ascending before [] = true
+ascending before (q ∷ qs) = lt before (q .end) && (le (q .end) limit && ascending (q .end) qs)
+
+-- 6: a count above 8, or not 0 where it is unused; an unused pair not zero bits; used ends not above 0, at most 2^40 and strictly ascending
+unfoldable pub intervalsFault : HazardRate → Intervals → Bool
+intervalsFault h p =
+    ltb (mostPairs h) (p .count) || not (all zeroPair (unusedOf h p) && ascending z (usedOf h p))
+
+-- ---- the fields of a hazard as in SET
+
+abbrev pub hazardOf : HazardFields → HazardRate
+hazardOf f = rateOfKind (f .kind) (f .first)
+
+abbrev pub intervalsOf : HazardFields → Intervals
+intervalsOf f = record { ends = f .ends; rates = f .rates; count = f .count }
+
+-- 4: a kind off its list, or the unused first of kind 0 not zero bits
+unfoldable pub choiceFault : HazardFields → Bool
+choiceFault f = ltb 3 (f .kind) || (eqb (f .kind) 0 && not (zeroBits (f .first)))
+
+unfoldable pub hazardFaults : HazardFields → Faults
+hazardFaults f = record {
+  choice = choiceFault f;
+  range = rangeFault (hazardOf f) (intervalsOf f);
+  intervals = intervalsFault (hazardOf f) (intervalsOf f);
+  identifier = false;
+}

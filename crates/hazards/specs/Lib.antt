@@ -1,0 +1,11 @@
+pub mod Floats
+pub mod Lists
+pub mod Fields
+pub mod Refusals
+pub mod Answers
+pub mod Rates
+pub mod Checks
+pub mod Evaluations
+pub mod Draws
+pub mod Ties
+pub mod Sampler

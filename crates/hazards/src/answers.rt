@@ -1,0 +1,75 @@
+// Document 01, "Answer": the fields of an answer, which the sampler and every command give, and its bytes.
+ghost use mathlib.Core.Path.{_≡_};
+ghost use Rattle.hazards.specs.Answers.{noEvent, eventOf, flagByte, withAnswer};
+
+// The cause of a censored event, which no record may name.
+pub const NO_CAUSE: u32 = 0xffff_ffff;
+
+// How many bytes an answer has.
+pub const ANSWER_WIDTH: usize = 32;
+
+pub struct Answer {
+    pub number: u8,
+    pub event: bool,
+    pub censored: bool,
+    pub withdrawn: bool,
+    pub cause: u32,
+    pub delta: f64,
+    pub ticks_low: u64,
+    pub ticks_high: u64,
+}
+
+// No event, or a refusal with its number; zero elsewhere.
+pub fn no_event(number: u8) -> Answer
+    ensures { λ r. ⌜ r ≡ noEvent number ⌝ }
+{
+    Answer {
+        number,
+        event: false,
+        censored: false,
+        withdrawn: false,
+        cause: 0,
+        delta: 0.0,
+        ticks_low: 0,
+        ticks_high: 0,
+    }
+}
+
+// An event of a cause, or a censored one of NO_CAUSE; withdrawn and ticks zero.
+pub fn event_of(cause: u32, delta: f64, censored: bool) -> Answer
+    ensures { λ r. ⌜ r ≡ eventOf cause delta censored ⌝ }
+{
+    Answer {
+        number: 0,
+        event: true,
+        censored,
+        withdrawn: false,
+        cause,
+        delta,
+        ticks_low: 0,
+        ticks_high: 0,
+    }
+}
+
+fn flag_byte(flag: bool) -> u8
+    ensures { λ r. ⌜ r ≡ flagByte flag ⌝ }
+{
+    if flag { 1 } else { 0 }
+}
+
+// Writes an answer's bytes at a place; one that does not lie whole in the buffer changes nothing.
+pub fn put_answer(bytes: &mut [u8], at: usize, answer: Answer)
+    ensures { λ _. ⌜ now (bytes .exit) ≡ withAnswer (now (bytes .entry)) at answer ⌝ }
+{
+    let whole = crate::fields::lies_whole(bytes, at, ANSWER_WIDTH);
+    if whole {
+        bytes[at] = answer.number;
+        bytes[at + 1] = flag_byte(answer.event);
+        bytes[at + 2] = flag_byte(answer.censored);
+        bytes[at + 3] = flag_byte(answer.withdrawn);
+        crate::fields::put_u32(bytes, at + 4, answer.cause);
+        crate::fields::put_f64(bytes, at + 8, answer.delta);
+        crate::fields::put_u64(bytes, at + 16, answer.ticks_low);
+        crate::fields::put_u64(bytes, at + 24, answer.ticks_high);
+    }
+}

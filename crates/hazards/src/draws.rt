@@ -1,0 +1,64 @@
+// Draws from the recorded threshold stream: lent bytes, each whole 8 of them one f64.
+ghost use mathlib.Core.Path.{_≡_};
+ghost use Rattle.hazards.specs.Floats.{isThreshold};
+ghost use Rattle.hazards.specs.Draws.{drawAt, withPosition};
+
+// Where the next draw reads.
+pub struct StreamPosition {
+    pub next: usize,
+}
+
+// A draw: its refusal or 0, the threshold, and the position after it.
+pub struct DrawOutcome {
+    pub number: u8,
+    pub threshold: f64,
+    pub position: usize,
+}
+
+// A draw without its position.
+pub struct Draw {
+    pub number: u8,
+    pub threshold: f64,
+}
+
+fn is_threshold(x: f64) -> bool
+    ensures { λ r. ⌜ r ≡ isThreshold x ⌝ }
+{
+    x >= 0.0 && x <= 1024.0
+}
+
+// The draw at a position: what it reads, and the position after it. Nothing moves on refusal.
+pub fn draw_at(stream: &[u8], position: usize) -> DrawOutcome
+    ensures { λ r. ⌜ r ≡ drawAt (now (stream .entry)) position ⌝ }
+{
+    let length = stream.len() / 8;
+    if position > length {
+        return DrawOutcome { number: crate::refusals::INVALID_STATE, threshold: 0.0, position };
+    }
+    if position == length {
+        return DrawOutcome { number: crate::refusals::STREAM_EXHAUSTED, threshold: 0.0, position };
+    }
+    let threshold = crate::fields::f64_at(stream, 8 * position);
+    if !is_threshold(threshold) {
+        return DrawOutcome { number: crate::refusals::BAD_THRESHOLD, threshold: 0.0, position };
+    }
+    DrawOutcome { number: 0, threshold, position: position + 1 }
+}
+
+// draw_standard_threshold of competing_risks.rs: the position is lent, and moves past what was drawn.
+pub fn draw_standard_threshold<'s, 'p>(stream: &'s [u8], position: &'p mut StreamPosition) -> Draw
+    ensures { λ r. ⌜ withPosition r (now (position .exit)) ≡ drawAt (now (stream .entry)) (now (position .entry) .next) ⌝ }
+{
+    let drawn = draw_at(stream, position.next);
+    position.next = drawn.position;
+    Draw { number: drawn.number, threshold: drawn.threshold }
+}
+
+// A draw through a position that is lent, for callers that keep a number.
+pub fn draw_from(stream: &[u8], position: usize) -> DrawOutcome
+    ensures { λ r. ⌜ r ≡ drawAt (now (stream .entry)) position ⌝ }
+{
+    let mut lent = StreamPosition { next: position };
+    let draw = draw_standard_threshold(stream, &mut lent);
+    DrawOutcome { number: draw.number, threshold: draw.threshold, position: lent.next }
+}

@@ -1,0 +1,131 @@
+// Fields in byte buffers, little-endian. A field that does not lie whole in the buffer reads as 0, and writing it changes nothing.
+ghost use mathlib.Core.Path.{_≡_};
+ghost use Prim.Native.Nat.{_+_, _≤_, _<_};
+ghost use mathlib.Core.List.{_++_};
+ghost use lib.ListN.{length, take, drop};
+ghost use lib.Dec.{leb};
+ghost use Rattle.hazards.specs.Fields.{littleEndian, bytesOf, fieldAt, withField, f64At, withF64, i32At, withI32};
+
+fn wide(x: u8) -> u64
+    ensures { λ r. ⌜ (r ≡ x) × (r < 256) ⌝ }
+{
+    x as u64
+}
+
+// Whether a field of `width` bytes lies whole at a place.
+fn lies_whole(bytes: &[u8], at: usize, width: usize) -> bool
+    ensures { λ r. ⌜ r ≡ leb (at + width) (length (now (bytes .entry))) ⌝ }
+{
+    if at <= bytes.len() {
+        width <= bytes.len() - at
+    } else {
+        false
+    }
+}
+
+fn word_at(bytes: &[u8], at: usize, width: usize) -> u64
+    requires { ⌜ (width ≤ 8) × (at + width ≤ length (now bytes)) ⌝ }
+    ensures { λ r. ⌜ r ≡ littleEndian (take width (drop at (now (bytes .entry)))) ⌝ }
+{
+    let mut left = width;
+    let mut word: u64 = 0;
+    while 0 < left {
+        left -= 1;
+        word = 256 * word + wide(bytes[at + left]);
+    }
+    word
+}
+
+fn put_word(bytes: &mut [u8], at: usize, width: usize, word: u64)
+    requires { ⌜ at + width ≤ length (now bytes) ⌝ }
+    ensures { λ _. ⌜ now (bytes .exit) ≡ take at (now (bytes .entry)) ++ (bytesOf width word ++ drop (at + width) (now (bytes .entry))) ⌝ }
+{
+    let mut written: usize = 0;
+    let mut rest = word;
+    while written < width {
+        bytes[at + written] = (rest % 256) as u8;
+        rest = rest / 256;
+        written += 1;
+    }
+}
+
+pub fn u32_at(bytes: &[u8], at: usize) -> u32
+    ensures { λ r. ⌜ r ≡ fieldAt 4 (now (bytes .entry)) at ⌝ }
+{
+    let whole = lies_whole(bytes, at, 4);
+    if !whole {
+        return 0;
+    }
+    (word_at(bytes, at, 4) % 0x1_0000_0000) as u32
+}
+
+pub fn u64_at(bytes: &[u8], at: usize) -> u64
+    ensures { λ r. ⌜ r ≡ fieldAt 8 (now (bytes .entry)) at ⌝ }
+{
+    let whole = lies_whole(bytes, at, 8);
+    if !whole {
+        return 0;
+    }
+    word_at(bytes, at, 8)
+}
+
+pub fn i32_at(bytes: &[u8], at: usize) -> i32
+    ensures { λ r. ⌜ r ≡ i32At (now (bytes .entry)) at ⌝ }
+{
+    let word = u32_at(bytes, at);
+    if word < 0x8000_0000 {
+        word as i32
+    } else {
+        -((0xffff_ffff - word) as i32) - 1
+    }
+}
+
+// Every NaN pattern reads as a NaN.
+pub fn f64_at(bytes: &[u8], at: usize) -> f64
+    ensures { λ r. ⌜ r ≡ f64At (now (bytes .entry)) at ⌝ }
+{
+    let bits = u64_at(bytes, at);
+    if bits % 0x8000_0000_0000_0000 > 0x7ff0_0000_0000_0000 {
+        return 0.0 / 0.0;
+    }
+    f64::from_bits(bits)
+}
+
+pub fn put_u32(bytes: &mut [u8], at: usize, x: u32)
+    ensures { λ _. ⌜ now (bytes .exit) ≡ withField 4 (now (bytes .entry)) at x ⌝ }
+{
+    let whole = lies_whole(bytes, at, 4);
+    if whole {
+        put_word(bytes, at, 4, x as u64);
+    }
+}
+
+pub fn put_u64(bytes: &mut [u8], at: usize, x: u64)
+    ensures { λ _. ⌜ now (bytes .exit) ≡ withField 8 (now (bytes .entry)) at x ⌝ }
+{
+    let whole = lies_whole(bytes, at, 8);
+    if whole {
+        put_word(bytes, at, 8, x);
+    }
+}
+
+pub fn put_i32(bytes: &mut [u8], at: usize, x: i32)
+    ensures { λ _. ⌜ now (bytes .exit) ≡ withI32 (now (bytes .entry)) at x ⌝ }
+{
+    if x < 0 {
+        put_u32(bytes, at, 0xffff_ffff - ((-(x + 1)) as u32));
+    } else {
+        put_u32(bytes, at, x as u32);
+    }
+}
+
+// A NaN is written as its quiet pattern with a clear sign.
+pub fn put_f64(bytes: &mut [u8], at: usize, x: f64)
+    ensures { λ _. ⌜ now (bytes .exit) ≡ withF64 (now (bytes .entry)) at x ⌝ }
+{
+    if x != x {
+        put_u64(bytes, at, 0x7ff8_0000_0000_0000);
+    } else {
+        put_u64(bytes, at, f64::to_bits(x));
+    }
+}

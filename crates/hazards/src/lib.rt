@@ -1,0 +1,11 @@
+// Hazards: rates and waits of competing causes, draws from a recorded stream of thresholds, and the sampler over them.
+// Definitions: specs/, one file for each module here.
+pub mod answers;
+pub mod checks;
+pub mod draws;
+pub mod evaluations;
+pub mod fields;
+pub mod rates;
+pub mod refusals;
+pub mod sampler;
+pub mod ties;

@@ -1,0 +1,58 @@
+// What is wrong with an input, one flag for each of refusals 4 to 7, and the refusals' numbers.
+ghost use mathlib.Core.Path.{_≡_};
+ghost use Rattle.hazards.specs.Refusals.{either, noFaults, numberOf};
+
+pub const INVALID_STATE: u8 = 1;
+pub const BAD_CHOICE: u8 = 4;
+pub const OUT_OF_RANGE: u8 = 5;
+pub const BAD_INTERVALS: u8 = 6;
+pub const BAD_IDENTIFIER: u8 = 7;
+pub const TOO_MANY_CAUSES: u8 = 10;
+pub const STREAM_USED_UP: u8 = 15;
+pub const BAD_THRESHOLD: u8 = 16;
+
+pub struct Faults {
+    pub choice: bool,
+    pub range: bool,
+    pub intervals: bool,
+    pub identifier: bool,
+}
+
+impl Faults {
+    pub fn none() -> Faults
+        ensures { λ r. ⌜ r ≡ noFaults ⌝ }
+    {
+        Faults { choice: false, range: false, intervals: false, identifier: false }
+    }
+
+    // The faults of both.
+    pub fn or(self, other: Faults) -> Faults
+        ensures { λ r. ⌜ r ≡ either self other ⌝ }
+    {
+        Faults {
+            choice: self.choice | other.choice,
+            range: self.range | other.range,
+            intervals: self.intervals | other.intervals,
+            identifier: self.identifier | other.identifier,
+        }
+    }
+
+    // The number of the refusal: the first of the table that is met, or 0.
+    pub fn number(self) -> u8
+        ensures { λ r. ⌜ r ≡ numberOf self ⌝ }
+    {
+        if self.choice {
+            return BAD_CHOICE;
+        }
+        if self.range {
+            return OUT_OF_RANGE;
+        }
+        if self.intervals {
+            return BAD_INTERVALS;
+        }
+        if self.identifier {
+            return BAD_IDENTIFIER;
+        }
+        0
+    }
+}

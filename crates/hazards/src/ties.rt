@@ -1,0 +1,94 @@
+// Candidates and which of them comes first.
+ghost use mathlib.Core.Path.{_≡_};
+ghost use Rattle.hazards.specs.Floats.{isFiniteWait};
+ghost use Rattle.hazards.specs.Ties.{tieBreakerOf, preferred, precedes, earlier};
+
+pub enum TieBreaker {
+    LowestCauseId,
+    HighestCauseId,
+    ExplicitPriority,
+}
+
+pub struct Candidate {
+    pub cause_id: u32,
+    pub priority: u32,
+    pub time: f64,
+}
+
+// The best of the candidates so far.
+pub enum Earliest {
+    Nothing,
+    Found(Candidate),
+}
+
+// An infinite wait is no candidate.
+pub fn is_finite_wait(x: f64) -> bool
+    ensures { λ r. ⌜ r ≡ isFiniteWait x ⌝ }
+{
+    let infinity = 1.0 / 0.0;
+    x >= 0.0 && x < infinity
+}
+
+pub fn tie_breaker(tie: u8) -> TieBreaker
+    ensures { λ r. ⌜ r ≡ tieBreakerOf tie ⌝ }
+{
+    if tie == 0 {
+        return TieBreaker::LowestCauseId;
+    }
+    if tie == 1 {
+        return TieBreaker::HighestCauseId;
+    }
+    TieBreaker::ExplicitPriority
+}
+
+fn explicitly_preferred(a: Candidate, b: Candidate) -> bool
+    ensures { λ r. ⌜ r ≡ preferred TieBreaker.ExplicitPriority a b ⌝ }
+{
+    if b.priority < a.priority {
+        return true;
+    }
+    if a.priority < b.priority {
+        return false;
+    }
+    a.cause_id < b.cause_id
+}
+
+fn is_preferred(tie: TieBreaker, a: Candidate, b: Candidate) -> bool
+    ensures { λ r. ⌜ r ≡ preferred tie a b ⌝ }
+{
+    match tie {
+        TieBreaker::LowestCauseId => a.cause_id < b.cause_id,
+        TieBreaker::HighestCauseId => b.cause_id < a.cause_id,
+        TieBreaker::ExplicitPriority => explicitly_preferred(a, b),
+    }
+}
+
+fn comes_before(tie: TieBreaker, a: Candidate, b: Candidate) -> bool
+    ensures { λ r. ⌜ r ≡ precedes tie a b ⌝ }
+{
+    if a.time < b.time {
+        return true;
+    }
+    if b.time < a.time {
+        return false;
+    }
+    is_preferred(tie, a, b)
+}
+
+impl Earliest {
+    // The better of what was found and the next candidate; on a full tie what was found.
+    pub fn or_earlier(self, tie: TieBreaker, next: Candidate) -> Earliest
+        ensures { λ r. ⌜ r ≡ earlier tie self next ⌝ }
+    {
+        match self {
+            Earliest::Nothing => Earliest::Found(next),
+            Earliest::Found(best) => {
+                if comes_before(tie, next, best) {
+                    Earliest::Found(next)
+                } else {
+                    Earliest::Found(best)
+                }
+            }
+        }
+    }
+}

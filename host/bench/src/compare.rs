@@ -1,0 +1,90 @@
+//! Random evaluations and samples through both sides, up to the first difference.
+
+use crate::describe;
+use crate::formats::{self, EVALUATION_BYTES, Evaluate, POSITION_BYTES, SAMPLE_BYTES};
+use crate::probe;
+use cases::chosen;
+use cases::evaluations::EvaluationCase;
+use cases::random::Random;
+use cases::samples::SampleCase;
+
+/// What stands in a buffer before a call, so that a byte left out is seen.
+const FILLED: u8 = 0xA5;
+
+/// The second is compared on accepted cases.
+const CALLS: [(&str, Evaluate); 2] = [
+    ("probe_evaluate", probe::evaluate),
+    ("probe_evaluate_unchecked", probe::evaluate_unchecked),
+];
+
+/// The chosen cases, then as many random evaluations and samples as asked for.
+pub fn run(seed: u64, count: u64) -> Result<(), String> {
+    chosen::evaluations().iter().try_for_each(evaluation)?;
+    for case in chosen::samples() {
+        sample(&case, &[])?;
+    }
+    let mut random = Random::new(seed);
+    for index in 0..count {
+        let place = |difference| format!("case {index} of seed {seed}: {difference}");
+        evaluation(&EvaluationCase::random(&mut random)).map_err(place)?;
+        let case = SampleCase::random(&mut random);
+        let left_over = &random.word().to_le_bytes()[..random.index(8)];
+        sample(&case, left_over).map_err(place)?;
+    }
+    Ok(())
+}
+
+fn evaluation(case: &EvaluationCase) -> Result<(), String> {
+    let answer = case.expected();
+    let expected = formats::evaluation(&answer);
+    let mut hazard = Vec::new();
+    case.hazard.encode(&mut hazard);
+    let point = formats::point(case.t, case.w);
+    let calls = if answer.number == 0 {
+        &CALLS[..]
+    } else {
+        &CALLS[..1]
+    };
+    for (name, call) in calls {
+        let mut out = [FILLED; EVALUATION_BYTES];
+        let done = call(case.operation, &hazard, &point, &mut out);
+        if done != 1 || out != expected {
+            let sides = [expected, out].map(|bytes| describe::evaluation(&bytes));
+            return Err(difference(
+                name,
+                &describe::evaluation_case(case),
+                done,
+                sides,
+            ));
+        }
+    }
+    Ok(())
+}
+
+/// `left_over`: under 8 bytes after the last whole threshold.
+fn sample(case: &SampleCase, left_over: &[u8]) -> Result<(), String> {
+    let (answer, after) = case.expected();
+    let expected = formats::sample(&answer, after);
+    let mut request = Vec::new();
+    case.request.encode_head(&mut request);
+    case.request.encode_records(&mut request);
+    let stream = [&case.threshold_bytes(), left_over].concat();
+    let positions: [u8; POSITION_BYTES] = case.position.to_le_bytes();
+    let mut out = [FILLED; SAMPLE_BYTES];
+    let done = probe::sample(&request, &stream, &positions, &mut out);
+    if done == 1 && out == expected {
+        return Ok(());
+    }
+    let sides = [expected, out].map(|bytes| describe::sample(&bytes));
+    Err(difference(
+        "probe_sample",
+        &describe::sample_case(case),
+        done,
+        sides,
+    ))
+}
+
+/// The case, and what each side gave.
+fn difference(name: &str, case: &str, done: u64, [rust, rattle]: [String; 2]) -> String {
+    format!("{name} differs, {done} done (1 expected)\n{case}\nRust    {rust}\nRattle  {rattle}")
+}

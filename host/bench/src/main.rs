@@ -1,0 +1,50 @@
+//! `bench` times the Rattle library against the unchanged Rust.
+//! `bench --compare SEED COUNT` compares their answers on random cases.
+
+#![deny(unsafe_code)]
+
+mod compare;
+mod describe;
+mod formats;
+mod probe;
+mod report;
+mod rust_side;
+mod timing;
+mod workloads;
+
+use std::env;
+use std::process::ExitCode;
+
+fn main() -> ExitCode {
+    let words: Vec<String> = env::args().skip(1).collect();
+    let words: Vec<&str> = words.iter().map(String::as_str).collect();
+    match words.as_slice() {
+        [] => {
+            report::print();
+            ExitCode::SUCCESS
+        }
+        ["--compare", seed, count] => match (seed.parse(), count.parse()) {
+            (Ok(seed), Ok(count)) => compare(seed, count),
+            _ => usage(),
+        },
+        _ => usage(),
+    }
+}
+
+fn compare(seed: u64, count: u64) -> ExitCode {
+    match compare::run(seed, count) {
+        Ok(()) => {
+            println!("seed {seed}: {count} evaluations and {count} samples, no difference");
+            ExitCode::SUCCESS
+        }
+        Err(difference) => {
+            println!("{difference}");
+            ExitCode::FAILURE
+        }
+    }
+}
+
+fn usage() -> ExitCode {
+    eprintln!("usage: bench [--compare SEED COUNT]");
+    ExitCode::from(2)
+}

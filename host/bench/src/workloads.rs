@@ -1,0 +1,104 @@
+//! What is timed: points and hazards for the evaluations, causes and thresholds for the sampler.
+
+use crate::formats;
+use cases::floats::{Style, positive};
+use cases::random::Random;
+use reference::hazard::{CONSTANT, GOMPERTZ, Hazard};
+use reference::request::{Record, Request};
+
+const SEED: u64 = 1;
+pub const POINTS: usize = 1024;
+pub const POSITIONS: usize = 512;
+
+/// Ends and rates of the piecewise hazard.
+const PAIRS: [(f64, f64); 8] = [
+    (1.0, 0.1),
+    (2.0, 0.3),
+    (4.0, 0.2),
+    (8.0, 0.05),
+    (12.0, 0.4),
+    (16.0, 0.1),
+    (24.0, 0.25),
+    (30.0, 0.15),
+];
+
+pub struct EvaluationWorkload {
+    pub name: &'static str,
+    pub hazard: Vec<u8>,
+}
+
+pub fn evaluations() -> [EvaluationWorkload; 3] {
+    [
+        ("constant", Hazard::single_rate(CONSTANT, 0.3)),
+        ("gompertz", Hazard::single_rate(GOMPERTZ, 0.3)),
+        ("piecewise, 8 pairs", Hazard::piecewise(&PAIRS, 0.2)),
+    ]
+    .map(|(name, hazard)| EvaluationWorkload {
+        name,
+        hazard: encoded(&hazard),
+    })
+}
+
+fn encoded(hazard: &Hazard) -> Vec<u8> {
+    let mut out = Vec::new();
+    hazard.encode(&mut out);
+    out
+}
+
+/// Times and w of moderate size, reaching every piece.
+pub fn points() -> Vec<u8> {
+    let mut random = Random::new(SEED);
+    let mut number = || positive(&mut random, Style::Moderate);
+    (0..POINTS)
+        .flat_map(|_| formats::point(number(), number()))
+        .collect()
+}
+
+pub struct SampleWorkload {
+    pub name: &'static str,
+    pub request: Vec<u8>,
+}
+
+pub fn samples() -> [SampleWorkload; 3] {
+    let constant = |index: u32| Hazard::single_rate(CONSTANT, 0.1 + 0.05 * f64::from(index));
+    let pieces = |index: u32| Hazard::piecewise(&PAIRS, 0.1 + 0.05 * f64::from(index));
+    [
+        ("4 constant", request(4, constant)),
+        ("8 constant", request(8, constant)),
+        ("8 piecewise, 8 pairs", request(8, pieces)),
+    ]
+    .map(|(name, request)| SampleWorkload { name, request })
+}
+
+/// Causes in descending order, so that both sides have to put them in order.
+fn request(n: u8, hazard: impl Fn(u32) -> Hazard) -> Vec<u8> {
+    let mut request = Request {
+        n,
+        age: 0.5,
+        has_censor: 1,
+        censor: 100.0,
+        ..Request::default()
+    };
+    for (index, record) in (0..u32::from(n)).zip(&mut request.records) {
+        *record = Record {
+            cause: 100 - index,
+            priority: index,
+            hazard: hazard(index),
+        };
+    }
+    let mut out = Vec::new();
+    request.encode_head(&mut out);
+    request.encode_records(&mut out);
+    out
+}
+
+pub fn thresholds() -> Vec<u8> {
+    let mut random = Random::new(SEED);
+    (0..POSITIONS + 8)
+        .flat_map(|_| positive(&mut random, Style::Moderate).to_le_bytes())
+        .collect()
+}
+
+pub fn positions() -> Vec<u8> {
+    (0..POSITIONS as u64).flat_map(u64::to_le_bytes).collect()
+}

@@ -1,0 +1,144 @@
+//! The fixed lists: their layout, that they are the same in every run, and what they cover.
+
+use cases::evaluations::{self, EvaluationCase};
+use cases::samples::{self, SampleCase};
+use cases::{lists, tally};
+use reference::fields::LIMIT;
+use reference::hazard::{Hazard, PIECEWISE};
+use std::collections::BTreeSet;
+
+/// FNV-1a. A new value here means that the lists have changed and have to be written again.
+fn checksum(bytes: &[u8]) -> u64 {
+    bytes.iter().fold(0xCBF2_9CE4_8422_2325, |hash, byte| {
+        (hash ^ u64::from(*byte)).wrapping_mul(0x0000_0100_0000_01B3)
+    })
+}
+
+#[test]
+fn evaluations_are_the_same_each_time() {
+    let bytes = lists::evaluation_bytes(&lists::evaluations());
+    assert_eq!(bytes, lists::evaluation_bytes(&lists::evaluations()));
+    assert_eq!(
+        bytes.len(),
+        lists::EVALUATION_COUNT * evaluations::CASE_BYTES
+    );
+    assert_eq!(checksum(&bytes), 0xD06E_98E4_9EA3_8C47);
+}
+
+#[test]
+fn samples_are_the_same_each_time() {
+    let bytes = lists::sample_bytes(&lists::samples());
+    assert_eq!(bytes, lists::sample_bytes(&lists::samples()));
+    assert_eq!(bytes.len(), lists::SAMPLE_COUNT * samples::CASE_BYTES);
+    assert_eq!(checksum(&bytes), 0x4CDD_A67A_AC5B_ACC0);
+}
+
+/// Row 1 comes second: cumulative of Constant 0.5 at 4.0 is 2.0.
+#[test]
+fn layout_of_an_evaluation() {
+    let bytes = lists::evaluation_bytes(&lists::evaluations());
+    let case = &bytes[evaluations::CASE_BYTES..2 * evaluations::CASE_BYTES];
+    assert_eq!(case[..2], [1, 1]);
+    assert_eq!(case[2..10], 0.5f64.to_le_bytes());
+    assert_eq!(case[10..139], [0; 129]);
+    assert_eq!(case[139..147], 4.0f64.to_le_bytes());
+    assert_eq!(case[147..155], [0; 8]);
+    assert_eq!(case[155..157], [0, 1]);
+    assert_eq!(case[157..165], 2.0f64.to_le_bytes());
+}
+
+/// Row 7 with tie 0 comes first: causes 3 and 7, both waits 4.0.
+#[test]
+fn layout_of_a_sample() {
+    let bytes = lists::sample_bytes(&lists::samples());
+    let case = &bytes[..samples::CASE_BYTES];
+    assert_eq!(case[..2], [2, 0]);
+    assert_eq!(case[2..27], [0; 25]);
+    assert_eq!(case[27], 2);
+    assert_eq!(case[28..36], 2.0f64.to_le_bytes());
+    assert_eq!(case[44..124], [0; 80]);
+    assert_eq!(case[124..132], [3, 0, 0, 0, 1, 0, 0, 0]);
+    assert_eq!(case[270..278], [7, 0, 0, 0, 9, 0, 0, 0]);
+    assert_eq!(case[1292..1300], [0, 1, 0, 0, 3, 0, 0, 0]);
+    assert_eq!(case[1300..1308], 4.0f64.to_le_bytes());
+    assert_eq!(case[1308..1324], [0; 16]);
+    assert_eq!(case[1324..], [2, 0, 0, 0, 0, 0, 0, 0]);
+}
+
+#[test]
+fn every_refusal_is_among_the_cases() {
+    let evaluations = tally::evaluations(&lists::evaluations());
+    assert_eq!(numbers(&evaluations), [4, 5, 6]);
+    let samples = tally::samples(&lists::samples());
+    assert_eq!(numbers(&samples), [1, 4, 5, 6, 7, 10, 15, 16]);
+}
+
+fn numbers(tally: &tally::Tally) -> Vec<u8> {
+    tally.refusals.keys().copied().collect()
+}
+
+#[test]
+fn most_cases_are_accepted() {
+    let evaluations = lists::evaluations();
+    let accepted = |case: &&EvaluationCase| case.expected().number == 0;
+    assert!(evaluations.iter().filter(accepted).count() * 4 >= evaluations.len() * 3);
+    let samples = lists::samples();
+    let accepted = |case: &&SampleCase| case.expected().0.number == 0;
+    assert!(samples.iter().filter(accepted).count() * 3 >= samples.len() * 2);
+}
+
+#[test]
+fn every_count_is_accepted_by_every_operation() {
+    let accepted: BTreeSet<(u8, u8)> = lists::evaluations()
+        .iter()
+        .filter(|case| case.hazard.kind == PIECEWISE && case.expected().number == 0)
+        .map(|case| (case.operation, case.hazard.count))
+        .collect();
+    let all = (0..3).flat_map(|operation| (0..=8).map(move |count| (operation, count)));
+    assert_eq!(accepted, all.collect());
+}
+
+#[test]
+fn every_number_of_causes_is_accepted_under_every_tie_choice() {
+    let accepted: BTreeSet<(u8, u8)> = lists::samples()
+        .iter()
+        .filter(|case| case.expected().0.number == 0)
+        .map(|case| (case.request.n, case.request.tie))
+        .collect();
+    let all = (0..=8).flat_map(|n| (0..3).map(move |tie| (n, tie)));
+    assert_eq!(accepted, all.collect());
+}
+
+#[test]
+fn ties_are_decided_by_every_tie_choice() {
+    let decided: BTreeSet<u8> = lists::samples()
+        .iter()
+        .filter(|case| case.expected().0.delta > 0.0 && tally::decided_by_tie(case))
+        .map(|case| case.request.tie)
+        .collect();
+    assert_eq!(decided, BTreeSet::from([0, 1, 2]));
+}
+
+/// Each of these stands in the time or rates of an accepted evaluation.
+#[test]
+fn extreme_floats_are_accepted() {
+    let extremes = [-0.0, f64::from_bits(1), LIMIT, LIMIT.next_down(), -LIMIT];
+    let accepted: Vec<EvaluationCase> = lists::evaluations()
+        .into_iter()
+        .filter(|case| case.expected().number == 0)
+        .collect();
+    for extreme in extremes {
+        let same = |value: f64| value.to_bits() == extreme.to_bits();
+        assert!(accepted.iter().any(|case| same(case.t)), "time {extreme:e}");
+        assert!(accepted.iter().any(|case| has_rate(&case.hazard, same)));
+    }
+    assert!(accepted.iter().any(at_an_end));
+}
+
+fn has_rate(hazard: &Hazard, test: impl Fn(f64) -> bool) -> bool {
+    test(hazard.first) || hazard.used().iter().any(|pair| test(pair.rate))
+}
+
+fn at_an_end(case: &EvaluationCase) -> bool {
+    case.hazard.used().iter().any(|pair| pair.end == case.t)
+}

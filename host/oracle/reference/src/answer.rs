@@ -1,0 +1,52 @@
+//! The answer of 32 bytes (document 01, "Answer").
+
+use crate::refusal::Refusal;
+use kairo_ecs_rng::RealizedEvent;
+
+pub const ANSWER_BYTES: usize = 32;
+
+/// What does not apply is zero.
+#[derive(Clone, Copy, Debug, Default, PartialEq)]
+pub struct Answer {
+    pub number: u8,
+    pub event: bool,
+    pub censored: bool,
+    pub withdrawn: bool,
+    pub cause: u32,
+    pub delta: f64,
+    pub ticks_low: u64,
+    pub ticks_high: u64,
+}
+
+impl Answer {
+    pub fn refused(refusal: Refusal) -> Self {
+        Self {
+            number: refusal.number(),
+            ..Self::default()
+        }
+    }
+
+    /// The sampler's answer: nothing withdrawn, no ticks.
+    pub fn sampled(event: Option<RealizedEvent>) -> Self {
+        event.map_or_else(Self::default, |event| Self {
+            event: true,
+            censored: event.is_censored,
+            cause: event.winning_cause.0,
+            delta: event.delta_time,
+            ..Self::default()
+        })
+    }
+
+    pub fn to_bytes(&self) -> [u8; ANSWER_BYTES] {
+        let mut out = [0; ANSWER_BYTES];
+        out[0] = self.number;
+        out[1] = u8::from(self.event);
+        out[2] = u8::from(self.censored);
+        out[3] = u8::from(self.withdrawn);
+        out[4..8].copy_from_slice(&self.cause.to_le_bytes());
+        out[8..16].copy_from_slice(&self.delta.to_le_bytes());
+        out[16..24].copy_from_slice(&self.ticks_low.to_le_bytes());
+        out[24..32].copy_from_slice(&self.ticks_high.to_le_bytes());
+        out
+    }
+}

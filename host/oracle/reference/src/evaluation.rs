@@ -1,0 +1,97 @@
+//! The three public evaluations (document 01, "Hazard arithmetic").
+
+use crate::fields::size_in_range;
+use crate::hazard::Hazard;
+use crate::refusal::{Refusal, first_failure};
+use kairo_ecs_rng::HazardRate;
+
+pub const HAZARD_AT: u8 = 0;
+pub const CUMULATIVE_HAZARD: u8 = 1;
+pub const INVERT_CUMULATIVE_HAZARD: u8 = 2;
+
+/// By operation number.
+pub const OPERATIONS: [&str; 3] = ["hazard_at", "cumulative_hazard", "invert_cumulative_hazard"];
+
+/// The hazard rate at a time.
+pub fn hazard_at(hazard: &Hazard, t: f64) -> Result<f64, Refusal> {
+    check(hazard, t, 0.0)?;
+    Ok(positive_zero(hazard.build().hazard_at(t)))
+}
+
+/// The cumulative hazard from 0 to a time.
+pub fn cumulative_hazard(hazard: &Hazard, t: f64) -> Result<f64, Refusal> {
+    check(hazard, t, 0.0)?;
+    Ok(positive_zero(hazard.build().cumulative_hazard(t)))
+}
+
+/// How long from `start` until `w` has been added to the cumulative hazard; `None` if never.
+pub fn invert_cumulative_hazard(
+    hazard: &Hazard,
+    start: f64,
+    w: f64,
+) -> Result<Option<f64>, Refusal> {
+    check(hazard, start, w)?;
+    Ok(hazard.build().invert_cumulative_hazard(start, w))
+}
+
+/// 4, then 5 on hazard, time and w, then 6.
+fn check(hazard: &Hazard, t: f64, w: f64) -> Result<(), Refusal> {
+    let in_range = hazard.rates_in_range() && size_in_range(t) && size_in_range(w);
+    let refused = first_failure(&[
+        (hazard.choice_valid(), Refusal::InvalidChoice),
+        (in_range, Refusal::OutOfRange),
+        (hazard.pairs_valid(), Refusal::InvalidPairs),
+    ]);
+    refused.map_or(Ok(()), Err)
+}
+
+/// Document 01: a negative rate or negative zero counts as +0.0. `f64::max(-0.0, 0.0)` leaves the
+/// sign of zero open, so `hazard_at` and the cumulative of Constant may come out as -0.0. This is
+/// the only place where a value of the Rust is changed.
+fn positive_zero(value: f64) -> f64 {
+    if value == 0.0 { 0.0 } else { value }
+}
+
+/// An answer in fields: a number (0 or the refusal), whether there is a value, and the value.
+#[derive(Clone, Copy, Debug, Default, PartialEq)]
+pub struct Evaluation {
+    pub number: u8,
+    pub found: bool,
+    pub value: f64,
+}
+
+impl Evaluation {
+    pub fn of(answer: Result<Option<f64>, Refusal>) -> Self {
+        match answer {
+            Ok(Some(value)) => Self {
+                number: 0,
+                found: true,
+                value,
+            },
+            Ok(None) => Self::default(),
+            Err(refusal) => Self {
+                number: refusal.number(),
+                ..Self::default()
+            },
+        }
+    }
+}
+
+/// One evaluation by its operation number. `w` is used by the inversion alone.
+pub fn evaluate(operation: u8, hazard: &Hazard, t: f64, w: f64) -> Evaluation {
+    Evaluation::of(match operation {
+        HAZARD_AT => hazard_at(hazard, t).map(Some),
+        CUMULATIVE_HAZARD => cumulative_hazard(hazard, t).map(Some),
+        INVERT_CUMULATIVE_HAZARD => invert_cumulative_hazard(hazard, t, w),
+        _ => panic!("no such operation: {operation}"),
+    })
+}
+
+/// The Rust's evaluation as it stands, with no check and no change of a zero's sign.
+pub fn evaluate_unchecked(operation: u8, rate: &HazardRate, t: f64, w: f64) -> Option<f64> {
+    match operation {
+        HAZARD_AT => Some(rate.hazard_at(t)),
+        CUMULATIVE_HAZARD => Some(rate.cumulative_hazard(t)),
+        _ => rate.invert_cumulative_hazard(t, w),
+    }
+}

@@ -1,0 +1,145 @@
+//! A sampler request: tie, age, censor and eight records (document 01, "Run call and sampler").
+
+use crate::fields::{Reader, is_zero_bits, time_in_range};
+use crate::hazard::{HAZARD_BYTES, Hazard};
+use crate::refusal::{Refusal, first_failure};
+use kairo_ecs_rng::{CauseId, CompetingCause, CompetingHazards, TieBreaker};
+
+pub const RECORDS: usize = 8;
+pub const RECORD_BYTES: usize = 8 + HAZARD_BYTES;
+/// n, tie, age, has-censor, censor: what stands before the records.
+pub const HEAD_BYTES: usize = 19;
+pub const REQUEST_BYTES: usize = HEAD_BYTES + RECORDS * RECORD_BYTES;
+
+/// The cause of a censored event.
+pub const CENSORED_CAUSE: u32 = u32::MAX;
+
+#[derive(Clone, Copy, Debug, Default, PartialEq)]
+pub struct Record {
+    pub cause: u32,
+    pub priority: u32,
+    pub hazard: Hazard,
+}
+
+/// The fields as given, tested or not. The first n records are used, all eight for n above 8.
+#[derive(Clone, Copy, Debug, Default, PartialEq)]
+pub struct Request {
+    pub n: u8,
+    pub tie: u8,
+    pub age: f64,
+    pub has_censor: u8,
+    pub censor: f64,
+    pub records: [Record; RECORDS],
+}
+
+impl Record {
+    pub fn decode(bytes: &[u8]) -> Self {
+        let mut reader = Reader(bytes);
+        Self {
+            cause: reader.u32(),
+            priority: reader.u32(),
+            hazard: Hazard::decode(reader.0),
+        }
+    }
+
+    pub fn encode(&self, out: &mut Vec<u8>) {
+        out.extend(self.cause.to_le_bytes());
+        out.extend(self.priority.to_le_bytes());
+        self.hazard.encode(out);
+    }
+
+    fn build(&self) -> CompetingCause {
+        CompetingCause {
+            cause_id: CauseId(self.cause),
+            priority: self.priority,
+            hazard: self.hazard.build(),
+        }
+    }
+}
+
+impl Request {
+    /// Reads the head and the used records; the rest are left zero.
+    pub fn decode(bytes: &[u8]) -> Self {
+        let mut reader = Reader(&bytes[..HEAD_BYTES]);
+        let mut request = Self {
+            n: reader.u8(),
+            tie: reader.u8(),
+            age: reader.f64(),
+            has_censor: reader.u8(),
+            censor: reader.f64(),
+            ..Self::default()
+        };
+        let used = request.used_count();
+        let records = bytes[HEAD_BYTES..].chunks_exact(RECORD_BYTES);
+        for (record, bytes) in request.records[..used].iter_mut().zip(records) {
+            *record = Record::decode(bytes);
+        }
+        request
+    }
+
+    pub fn encode_head(&self, out: &mut Vec<u8>) {
+        out.push(self.n);
+        out.push(self.tie);
+        out.extend(self.age.to_le_bytes());
+        out.push(self.has_censor);
+        out.extend(self.censor.to_le_bytes());
+    }
+
+    pub fn encode_records(&self, out: &mut Vec<u8>) {
+        for record in &self.records {
+            record.encode(out);
+        }
+    }
+
+    pub fn used_count(&self) -> usize {
+        usize::from(self.n).min(RECORDS)
+    }
+
+    pub fn used(&self) -> &[Record] {
+        &self.records[..self.used_count()]
+    }
+
+    /// The censor age, if there is one.
+    pub fn censor_age(&self) -> Option<f64> {
+        (self.has_censor == 1).then_some(self.censor)
+    }
+
+    /// The Rust's own value for a request that passes 4 and 6.
+    pub fn build(&self) -> CompetingHazards {
+        let tie_breaker = match self.tie {
+            0 => TieBreaker::LowestCauseId,
+            1 => TieBreaker::HighestCauseId,
+            _ => TieBreaker::ExplicitPriority,
+        };
+        CompetingHazards::new(self.used().iter().map(Record::build).collect(), tie_breaker)
+    }
+
+    /// By 4 to 7, each number over all fields before the next, then 10.
+    pub fn field_refusal(&self) -> Option<Refusal> {
+        let every = |test: fn(&Record) -> bool| self.used().iter().all(test);
+        first_failure(&[
+            (
+                self.choices_valid() && every(|r| r.hazard.choice_valid()),
+                Refusal::InvalidChoice,
+            ),
+            (
+                self.times_in_range() && every(|r| r.hazard.rates_in_range()),
+                Refusal::OutOfRange,
+            ),
+            (every(|r| r.hazard.pairs_valid()), Refusal::InvalidPairs),
+            (every(|r| r.cause != CENSORED_CAUSE), Refusal::InvalidName),
+            (usize::from(self.n) <= RECORDS, Refusal::TooManyCauses),
+        ])
+    }
+
+    /// Tie and has-censor on their lists, and an unused censor zero.
+    fn choices_valid(&self) -> bool {
+        let censor_valid = self.has_censor == 1 || is_zero_bits(self.censor);
+        self.tie <= 2 && self.has_censor <= 1 && censor_valid
+    }
+
+    /// An unused censor is zero by then, and zero is in range.
+    fn times_in_range(&self) -> bool {
+        time_in_range(self.age) && time_in_range(self.censor)
+    }
+}
