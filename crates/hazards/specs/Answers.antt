@@ -42,14 +42,15 @@ answerWidth = 32
 abbrev pub flagByte : Bool → ℕ
 flagByte flag = cond flag 1 0
 
--- number, event, censored and withdrawn, cause u32, delta f64, ticks low u64, ticks high u64
+-- number, event, censored and withdrawn, a byte each
+unfoldable pub headBytes : Answer → List ℕ
+headBytes a = a .number ∷ flagByte (a .event) ∷ flagByte (a .censored) ∷ flagByte (a .withdrawn) ∷ []
+
+-- then cause u32, delta f64, ticks low u64, ticks high u64
 unfoldable pub answerBytes : Answer → List ℕ
 answerBytes a =
-    a .number
-    ∷ flagByte (a .event)
-    ∷ flagByte (a .censored)
-    ∷ flagByte (a .withdrawn)
-    ∷ (bytesOf 4 (a .cause)
+    headBytes a
+    ++ (bytesOf 4 (a .cause)
     ++ (bytesOf 8 (toBits binary64 (a .delta)) ++ (bytesOf 8 (a .«ticks_low») ++ bytesOf 8 (a .«ticks_high»))))
 
 -- a buffer with an answer at a place; one that does not lie whole in it changes nothing

@@ -1,9 +1,8 @@
 // Document 01, "Answer": the fields of an answer, which the sampler and every command give, and its bytes.
 ghost use mathlib.Core.Path.{_≡_};
-ghost use Rattle.hazards.specs.Answers.{noEvent, eventOf, flagByte, withAnswer};
-
-// The cause of a censored event, which no record may name.
-pub const NO_CAUSE: u32 = 0xffff_ffff;
+ghost use Prim.Native.Nat.{_<_};
+ghost use Rattle.hazards.specs.Answers.{noEvent, eventOf, flagByte, headBytes, withAnswer};
+ghost use Rattle.hazards.specs.Fields.{bytesOf};
 
 // How many bytes an answer has.
 pub const ANSWER_WIDTH: usize = 32;
@@ -51,10 +50,21 @@ pub fn event_of(cause: u32, delta: f64, censored: bool) -> Answer
     }
 }
 
-fn flag_byte(flag: bool) -> u8
-    ensures { λ r. ⌜ r ≡ flagByte flag ⌝ }
+fn flag_byte(flag: bool) -> u32
+    ensures { λ r. ⌜ (r ≡ flagByte flag) × (r < 256) ⌝ }
 {
     if flag { 1 } else { 0 }
+}
+
+// The first four bytes, as one word.
+fn head_word(answer: Answer) -> u32
+    ensures { λ r. ⌜ bytesOf 4 r ≡ headBytes answer ⌝ }
+{
+    let number = answer.number as u32;
+    let event = flag_byte(answer.event);
+    let censored = flag_byte(answer.censored);
+    let withdrawn = flag_byte(answer.withdrawn);
+    number + 256 * (event + 256 * (censored + 256 * withdrawn))
 }
 
 // Writes an answer's bytes at a place; one that does not lie whole in the buffer changes nothing.
@@ -63,10 +73,8 @@ pub fn put_answer(bytes: &mut [u8], at: usize, answer: Answer)
 {
     let whole = crate::fields::lies_whole(bytes, at, ANSWER_WIDTH);
     if whole {
-        bytes[at] = answer.number;
-        bytes[at + 1] = flag_byte(answer.event);
-        bytes[at + 2] = flag_byte(answer.censored);
-        bytes[at + 3] = flag_byte(answer.withdrawn);
+        let head = head_word(answer);
+        crate::fields::put_u32(bytes, at, head);
         crate::fields::put_u32(bytes, at + 4, answer.cause);
         crate::fields::put_f64(bytes, at + 8, answer.delta);
         crate::fields::put_u64(bytes, at + 16, answer.ticks_low);

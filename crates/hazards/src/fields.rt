@@ -1,6 +1,6 @@
 // Fields in byte buffers, little-endian. A field that does not lie whole in the buffer reads as 0, and writing it changes nothing.
 ghost use mathlib.Core.Path.{_≡_};
-ghost use Prim.Native.Nat.{_+_, _≤_, _<_};
+ghost use Prim.Native.Nat.{_+_, _^_, _≤_, _<_};
 ghost use mathlib.Core.List.{_++_};
 ghost use lib.ListN.{length, take, drop};
 ghost use lib.Dec.{leb};
@@ -13,7 +13,7 @@ fn wide(x: u8) -> u64
 }
 
 // Whether a field of `width` bytes lies whole at a place.
-fn lies_whole(bytes: &[u8], at: usize, width: usize) -> bool
+pub fn lies_whole(bytes: &[u8], at: usize, width: usize) -> bool
     ensures { λ r. ⌜ r ≡ leb (at + width) (length (now (bytes .entry))) ⌝ }
 {
     if at <= bytes.len() {
@@ -25,7 +25,7 @@ fn lies_whole(bytes: &[u8], at: usize, width: usize) -> bool
 
 fn word_at(bytes: &[u8], at: usize, width: usize) -> u64
     requires { ⌜ (width ≤ 8) × (at + width ≤ length (now bytes)) ⌝ }
-    ensures { λ r. ⌜ r ≡ littleEndian (take width (drop at (now (bytes .entry)))) ⌝ }
+    ensures { λ r. ⌜ (r ≡ littleEndian (take width (drop at (now (bytes .entry))))) × (r < 256 ^ width) ⌝ }
 {
     let mut left = width;
     let mut word: u64 = 0;

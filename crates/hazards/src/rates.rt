@@ -1,11 +1,11 @@
 // Hazard rates of competing_risks.rs: the hazard, the cumulative hazard and its inverse, each float operation rounded once.
 ghost use mathlib.Core.Path.{_≡_};
 ghost use mathlib.Core.Bool.{_&&_};
-ghost use Prim.Native.Nat.{_≤_, min};
-ghost use lib.ListN.{take};
+ghost use Prim.Native.Nat.{_-_, min};
+ghost use mathlib.Core.List.{[]};
 ghost use lib.Ieee.{lt, le};
 ghost use Rattle.hazards.specs.Floats.{z, notBelowZero};
-ghost use Rattle.hazards.specs.Rates.{pairsOf, piecewiseHazard, piecewiseCumulative, pairsAfter, piecewiseWait, constantWait, hazardAt, cumulativeHazard, invertCumulativeHazard, waitThrough};
+ghost use Rattle.hazards.specs.Rates.{intervalsNow, pairsFrom, usedPairs, piecewiseHazard, piecewiseCumulative, pairsAfter, piecewiseWait, constantWait, hazardAt, cumulativeHazard, invertCumulativeHazard};
 
 // A kind with its own rate: the rate of Constant, eta of Gompertz (with b = 0), the trailing rate of PiecewiseConstant.
 pub enum HazardRate {
@@ -42,12 +42,18 @@ fn at_most_eight(count: usize) -> usize
     if count < 8 { count } else { 8 }
 }
 
-fn piecewise_hazard<'a>(ends: &'a [f64; 8], rates: &'a [f64; 8], count: usize, trailing: f64, t: f64) -> f64
-    requires { ⌜ count ≤ 8 ⌝ }
-    ensures { λ r. ⌜ r ≡ piecewiseHazard (take count (pairsOf (now (ends .entry)) (now (rates .entry)))) trailing t ⌝ }
+fn piecewise_hazard<'a>(
+    ends: &'a [f64; 8],
+    rates: &'a [f64; 8],
+    count: usize,
+    trailing: f64,
+    t: f64,
+) -> f64
+    ensures { λ r. ⌜ r ≡ piecewiseHazard (usedPairs (intervalsNow (now (ends .entry)) (now (rates .entry)) count)) trailing t ⌝ }
 {
+    let used = at_most_eight(count);
     let mut i: usize = 0;
-    while i < count {
+    while i < used {
         if t < ends[i] {
             return not_below_zero(rates[i]);
         }
@@ -56,8 +62,14 @@ fn piecewise_hazard<'a>(ends: &'a [f64; 8], rates: &'a [f64; 8], count: usize, t
     not_below_zero(trailing)
 }
 
-pub fn hazard_at(hazard: HazardRate, intervals: Intervals, t: f64) -> f64
-    ensures { λ r. ⌜ r ≡ hazardAt hazard intervals t ⌝ }
+pub fn hazard_at<'a>(
+    hazard: HazardRate,
+    ends: &'a [f64; 8],
+    rates: &'a [f64; 8],
+    count: usize,
+    t: f64,
+) -> f64
+    ensures { λ r. ⌜ r ≡ hazardAt hazard (intervalsNow (now (ends .entry)) (now (rates .entry)) count) t ⌝ }
 {
     if t < 0.0 {
         return 0.0;
@@ -65,22 +77,25 @@ pub fn hazard_at(hazard: HazardRate, intervals: Intervals, t: f64) -> f64
     match hazard {
         HazardRate::Zero => 0.0,
         HazardRate::Constant(rate) => not_below_zero(rate),
-        HazardRate::Gompertz(eta) => not_below_zero(eta),
-        HazardRate::Piecewise(trailing) => {
-            let count = at_most_eight(intervals.count);
-            piecewise_hazard(&intervals.ends, &intervals.rates, count, trailing, t)
-        }
+        HazardRate::Gompertz(eta) => if eta <= 0.0 { 0.0 } else { eta },
+        HazardRate::Piecewise(trailing) => piecewise_hazard(ends, rates, count, trailing, t),
     }
 }
 
-fn piecewise_cumulative<'a>(ends: &'a [f64; 8], rates: &'a [f64; 8], count: usize, trailing: f64, t: f64) -> f64
-    requires { ⌜ count ≤ 8 ⌝ }
-    ensures { λ r. ⌜ r ≡ piecewiseCumulative (take count (pairsOf (now (ends .entry)) (now (rates .entry)))) trailing t z z ⌝ }
+fn piecewise_cumulative<'a>(
+    ends: &'a [f64; 8],
+    rates: &'a [f64; 8],
+    count: usize,
+    trailing: f64,
+    t: f64,
+) -> f64
+    ensures { λ r. ⌜ r ≡ piecewiseCumulative (usedPairs (intervalsNow (now (ends .entry)) (now (rates .entry)) count)) trailing t z z ⌝ }
 {
+    let used = at_most_eight(count);
     let mut cum = 0.0;
     let mut cur_t = 0.0;
     let mut i: usize = 0;
-    while i < count {
+    while i < used {
         let end_t = ends[i];
         let rate = not_below_zero(rates[i]);
         if t <= end_t {
@@ -93,8 +108,14 @@ fn piecewise_cumulative<'a>(ends: &'a [f64; 8], rates: &'a [f64; 8], count: usiz
     cum + not_below_zero(trailing) * (t - cur_t)
 }
 
-pub fn cumulative_hazard(hazard: HazardRate, intervals: Intervals, t: f64) -> f64
-    ensures { λ r. ⌜ r ≡ cumulativeHazard hazard intervals t ⌝ }
+pub fn cumulative_hazard<'a>(
+    hazard: HazardRate,
+    ends: &'a [f64; 8],
+    rates: &'a [f64; 8],
+    count: usize,
+    t: f64,
+) -> f64
+    ensures { λ r. ⌜ r ≡ cumulativeHazard hazard (intervalsNow (now (ends .entry)) (now (rates .entry)) count) t ⌝ }
 {
     if t <= 0.0 {
         return 0.0;
@@ -103,19 +124,17 @@ pub fn cumulative_hazard(hazard: HazardRate, intervals: Intervals, t: f64) -> f6
         HazardRate::Zero => 0.0,
         HazardRate::Constant(rate) => not_below_zero(rate) * t,
         HazardRate::Gompertz(eta) => if eta <= 0.0 { 0.0 } else { eta * t },
-        HazardRate::Piecewise(trailing) => {
-            let count = at_most_eight(intervals.count);
-            piecewise_cumulative(&intervals.ends, &intervals.rates, count, trailing, t)
-        }
+        HazardRate::Piecewise(trailing) => piecewise_cumulative(ends, rates, count, trailing, t),
     }
 }
 
-// The first pair that does not end at or before t, or count.
-fn interval_after(ends: &[f64; 8], count: usize, t: f64) -> usize
-    requires { ⌜ count ≤ 8 ⌝ }
+// The place of the first pair that does not end at or before t, or one past the used pairs.
+fn interval_after<'a>(ends: &'a [f64; 8], rates: &'a [f64; 8], count: usize, t: f64) -> usize
+    ensures { λ r. ⌜ pairsFrom (intervalsNow (now (ends .entry)) (now (rates .entry)) count) r (min count 8 - r) ≡ pairsAfter t (usedPairs (intervalsNow (now (ends .entry)) (now (rates .entry)) count)) ⌝ }
 {
+    let used = at_most_eight(count);
     let mut i: usize = 0;
-    while i < count {
+    while i < used {
         if !(t >= ends[i]) {
             return i;
         }
@@ -130,9 +149,11 @@ fn within_capacity(rate: f64, w: f64, capacity: f64) -> bool
     rate > 0.0 && w <= capacity
 }
 
-// The wait at a rate for ever.
-fn trailing_wait(rate: f64, start: f64, cur_t: f64, w: f64) -> Wait
+// The wait at the trailing rate, from cur_t on.
+fn trailing_wait(trailing: f64, start: f64, cur_t: f64, w: f64) -> Wait
+    ensures { λ r. ⌜ r ≡ piecewiseWait [] trailing start «cur_t» w ⌝ }
 {
+    let rate = not_below_zero(trailing);
     if rate <= 0.0 {
         Wait::Never
     } else {
@@ -140,14 +161,21 @@ fn trailing_wait(rate: f64, start: f64, cur_t: f64, w: f64) -> Wait
     }
 }
 
-fn piecewise_wait<'a>(ends: &'a [f64; 8], rates: &'a [f64; 8], count: usize, trailing: f64, start: f64, w: f64) -> Wait
-    requires { ⌜ count ≤ 8 ⌝ }
-    ensures { λ r. ⌜ r ≡ piecewiseWait (pairsAfter start (take count (pairsOf (now (ends .entry)) (now (rates .entry))))) trailing start start w ⌝ }
+fn piecewise_wait<'a>(
+    ends: &'a [f64; 8],
+    rates: &'a [f64; 8],
+    count: usize,
+    trailing: f64,
+    start: f64,
+    w: f64,
+) -> Wait
+    ensures { λ r. ⌜ r ≡ piecewiseWait (pairsAfter start (usedPairs (intervalsNow (now (ends .entry)) (now (rates .entry)) count))) trailing start start w ⌝ }
 {
-    let mut i = interval_after(ends, count, start);
+    let used = at_most_eight(count);
+    let mut i = interval_after(ends, rates, count, start);
     let mut cur_t = start;
     let mut remaining_w = w;
-    while i < count {
+    while i < used {
         let end_t = ends[i];
         let rate = not_below_zero(rates[i]);
         let capacity_w = rate * (end_t - cur_t);
@@ -158,7 +186,7 @@ fn piecewise_wait<'a>(ends: &'a [f64; 8], rates: &'a [f64; 8], count: usize, tra
         cur_t = end_t;
         i += 1;
     }
-    trailing_wait(not_below_zero(trailing), start, cur_t, remaining_w)
+    trailing_wait(trailing, start, cur_t, remaining_w)
 }
 
 fn constant_wait(rate: f64, w: f64) -> Wait
@@ -172,8 +200,15 @@ fn constant_wait(rate: f64, w: f64) -> Wait
 }
 
 // The wait from an age on until the hazard gathered reaches w.
-pub fn invert_cumulative_hazard(hazard: HazardRate, intervals: Intervals, t_start: f64, target_w: f64) -> Wait
-    ensures { λ r. ⌜ r ≡ invertCumulativeHazard hazard intervals «t_start» «target_w» ⌝ }
+pub fn invert_cumulative_hazard<'a>(
+    hazard: HazardRate,
+    ends: &'a [f64; 8],
+    rates: &'a [f64; 8],
+    count: usize,
+    t_start: f64,
+    target_w: f64,
+) -> Wait
+    ensures { λ r. ⌜ r ≡ invertCumulativeHazard hazard (intervalsNow (now (ends .entry)) (now (rates .entry)) count) «t_start» «target_w» ⌝ }
 {
     if target_w <= 0.0 {
         return Wait::After(0.0);
@@ -182,10 +217,13 @@ pub fn invert_cumulative_hazard(hazard: HazardRate, intervals: Intervals, t_star
         HazardRate::Zero => Wait::Never,
         HazardRate::Constant(rate) => constant_wait(not_below_zero(rate), target_w),
         HazardRate::Gompertz(eta) => constant_wait(eta, target_w),
-        HazardRate::Piecewise(trailing) => {
-            let count = at_most_eight(intervals.count);
-            let start = not_below_zero(t_start);
-            piecewise_wait(&intervals.ends, &intervals.rates, count, trailing, start, target_w)
-        }
+        HazardRate::Piecewise(trailing) => piecewise_wait(
+            ends,
+            rates,
+            count,
+            trailing,
+            not_below_zero(t_start),
+            target_w,
+        ),
     }
 }

@@ -1,21 +1,28 @@
 // The hazards crate's calls over records of bytes, for the fixed lists, the comparison with the Rust and the benchmark.
 // A hazard is 138 bytes as in SET: kind, first f64, count, then 8 pairs (end f64, rate f64). A cause is 146: cause u32, priority u32, hazard.
+ghost use Prim.Native.Nat.{_≤_};
+ghost use lib.ListN.{length};
+ghost use mathlib.Core.Path.{_≡_};
 use hazards::checks::HazardFields;
 use hazards::evaluations::Evaluation;
 use hazards::fields::f64_at;
+use hazards::fields::put_f64;
+use hazards::fields::put_u64;
 use hazards::fields::u32_at;
+use hazards::fields::u64_at;
+use hazards::rates::Wait;
 use hazards::sampler::CompetingCause;
 use hazards::sampler::SampleSettings;
+use hazards::sampler::Sampled;
 
 fn byte_at(bytes: &[u8], at: usize) -> u8 {
     if at < bytes.len() { bytes[at] } else { 0 }
 }
 
 // The eight floats that stand 16 bytes apart.
-fn floats_at(bytes: &[u8], at: usize) -> [f64; 8] {
-    if at > 65536 {
-        return [0.0; 8];
-    }
+fn floats_at(bytes: &[u8], at: usize) -> [f64; 8]
+    requires { ⌜ at ≤ 131072 ⌝ }
+{
     [
         f64_at(bytes, at),
         f64_at(bytes, at + 16),
@@ -28,8 +35,9 @@ fn floats_at(bytes: &[u8], at: usize) -> [f64; 8] {
     ]
 }
 
-pub fn hazard_fields(bytes: &[u8], start: usize) -> HazardFields {
-    let at = if start > 65536 { 65536 } else { start };
+pub fn hazard_fields(bytes: &[u8], at: usize) -> HazardFields
+    requires { ⌜ at ≤ 65536 ⌝ }
+{
     let ends = floats_at(bytes, at + 10);
     let rates = floats_at(bytes, at + 18);
     HazardFields {
@@ -41,6 +49,44 @@ pub fn hazard_fields(bytes: &[u8], start: usize) -> HazardFields {
     }
 }
 
+fn cause_at(bytes: &[u8], at: usize) -> CompetingCause
+    requires { ⌜ at ≤ 32768 ⌝ }
+{
+    let hazard = hazard_fields(bytes, at + 8);
+    CompetingCause {
+        cause_id: u32_at(bytes, at),
+        priority: u32_at(bytes, at + 4),
+        hazard,
+    }
+}
+
+pub fn causes_at(bytes: &[u8], at: usize) -> [CompetingCause; 8]
+    requires { ⌜ at ≤ 16384 ⌝ }
+{
+    let first = cause_at(bytes, at);
+    let second = cause_at(bytes, at + 146);
+    let third = cause_at(bytes, at + 292);
+    let fourth = cause_at(bytes, at + 438);
+    let fifth = cause_at(bytes, at + 584);
+    let sixth = cause_at(bytes, at + 730);
+    let seventh = cause_at(bytes, at + 876);
+    let eighth = cause_at(bytes, at + 1022);
+    [first, second, third, fourth, fifth, sixth, seventh, eighth]
+}
+
+// tie u8, age f64, has-censor u8, censor f64.
+pub fn settings_at(bytes: &[u8], at: usize) -> SampleSettings
+    requires { ⌜ at ≤ 16384 ⌝ }
+{
+    SampleSettings {
+        tie: byte_at(bytes, at),
+        current_age: f64_at(bytes, at + 1),
+        has_censor: byte_at(bytes, at + 9),
+        censor_age: f64_at(bytes, at + 10),
+    }
+}
+
+// 0 hazard_at, 1 cumulative_hazard, else invert_cumulative_hazard.
 pub fn evaluate(op: u8, fields: HazardFields, t: f64, w: f64) -> Evaluation {
     if op == 0 {
         return hazards::evaluations::evaluate_hazard_at(fields, t);
@@ -49,4 +95,31 @@ pub fn evaluate(op: u8, fields: HazardFields, t: f64, w: f64) -> Evaluation {
         return hazards::evaluations::evaluate_cumulative_hazard(fields, t);
     }
     hazards::evaluations::evaluate_inversion(fields, t, w)
+}
+
+// The same evaluation on a hazard that was checked before.
+fn evaluate_unchecked(op: u8, fields: HazardFields, t: f64, w: f64) -> Evaluation {
+    let hazard = fields.hazard();
+    let count = fields.count as usize;
+    if op == 0 {
+        let value = hazards::rates::hazard_at(hazard, &fields.ends, &fields.rates, count, t);
+        return Evaluation { number: 0, found: true, value };
+    }
+    if op == 1 {
+        let value = hazards::rates::cumulative_hazard(hazard, &fields.ends, &fields.rates, count, t);
+        return Evaluation { number: 0, found: true, value };
+    }
+    match hazards::rates::invert_cumulative_hazard(hazard, &fields.ends, &fields.rates, count, t, w) {
+        Wait::After(value) => Evaluation { number: 0, found: true, value },
+        Wait::Never => Evaluation { number: 0, found: false, value: 0.0 },
+    }
+}
+
+// number u8, found u8, six zero bytes, value f64.
+fn put_evaluation(out: &mut [u8], at: usize, e: Evaluation)
+    requires { ⌜ at + 16 ≤ length (now out) ⌝ }
+{
+    let found: u64 = if e.found { 256 } else { 0 };
+    put_u64(out, at, (e.number as u64) + found);
+    put_f64(out, at + 8, e.value);
 }

@@ -26,7 +26,7 @@ impl Answer {
         }
     }
 
-    /// The sampler's answer: nothing withdrawn, no ticks.
+    /// Nothing withdrawn, no ticks: the sampler's whole answer.
     pub fn sampled(event: Option<RealizedEvent>) -> Self {
         event.map_or_else(Self::default, |event| Self {
             event: true,
@@ -35,6 +35,19 @@ impl Answer {
             delta: event.delta_time,
             ..Self::default()
         })
+    }
+
+    /// The same answer with ticks as low and high u64.
+    pub fn with_ticks(self, ticks: u128) -> Self {
+        Self {
+            ticks_low: ticks as u64,
+            ticks_high: (ticks >> 64) as u64,
+            ..self
+        }
+    }
+
+    pub fn ticks(&self) -> u128 {
+        u128::from(self.ticks_high) << 64 | u128::from(self.ticks_low)
     }
 
     pub fn to_bytes(&self) -> [u8; ANSWER_BYTES] {

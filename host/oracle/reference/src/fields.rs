@@ -36,6 +36,10 @@ impl Reader<'_> {
         u32::from_le_bytes(self.take())
     }
 
+    pub fn i32(&mut self) -> i32 {
+        i32::from_le_bytes(self.take())
+    }
+
     pub fn u64(&mut self) -> u64 {
         u64::from_le_bytes(self.take())
     }

@@ -47,6 +47,21 @@ impl Hazard {
         hazard
     }
 
+    /// The fields of the Rust's own value. `None` for what is not carried and for more than eight
+    /// pairs.
+    pub fn of(rate: &HazardRate) -> Option<Self> {
+        match rate {
+            HazardRate::Zero => Some(Self::default()),
+            HazardRate::Constant { rate } => Some(Self::single_rate(CONSTANT, *rate)),
+            HazardRate::Gompertz { eta, b: 0.0 } => Some(Self::single_rate(GOMPERTZ, *eta)),
+            HazardRate::PiecewiseConstant {
+                intervals,
+                trailing_rate,
+            } if intervals.len() <= PAIRS => Some(Self::piecewise(intervals, *trailing_rate)),
+            _ => None,
+        }
+    }
+
     pub fn decode(bytes: &[u8]) -> Self {
         let mut reader = Reader(bytes);
         Self {

@@ -1,12 +1,23 @@
-//! The calls of document 01 over the unchanged Rust: refusals are written from the paper, values
-//! come from the Rust. Clocks and engine join as modules of their own.
+//! The calls of document 01 over the unchanged Rust: refusals, journal, undo and batch run are
+//! written from the paper, values come from the Rust.
 
 #![forbid(unsafe_code)]
 
 pub mod answer;
+pub mod batch;
+pub mod choices;
+pub mod clock;
+pub mod command;
+pub mod command_fields;
+pub mod dump;
 pub mod evaluation;
+pub mod execute;
 pub mod fields;
 pub mod hazard;
+pub mod ledger;
 pub mod refusal;
 pub mod request;
 pub mod sampler;
+pub mod state;
+pub mod undo;
+pub mod validation;

@@ -1,9 +1,10 @@
 //! A sampler request: tie, age, censor and eight records (document 01, "Run call and sampler").
 
+use crate::choices::{TIES, has_field_valid};
 use crate::fields::{Reader, is_zero_bits, time_in_range};
 use crate::hazard::{HAZARD_BYTES, Hazard};
 use crate::refusal::{Refusal, first_failure};
-use kairo_ecs_rng::{CauseId, CompetingCause, CompetingHazards, TieBreaker};
+use kairo_ecs_rng::{CauseId, CompetingCause, CompetingHazards};
 
 pub const RECORDS: usize = 8;
 pub const RECORD_BYTES: usize = 8 + HAZARD_BYTES;
@@ -106,11 +107,7 @@ impl Request {
 
     /// The Rust's own value for a request that passes 4 and 6.
     pub fn build(&self) -> CompetingHazards {
-        let tie_breaker = match self.tie {
-            0 => TieBreaker::LowestCauseId,
-            1 => TieBreaker::HighestCauseId,
-            _ => TieBreaker::ExplicitPriority,
-        };
+        let tie_breaker = TIES[usize::from(self.tie)];
         CompetingHazards::new(self.used().iter().map(Record::build).collect(), tie_breaker)
     }
 
@@ -134,8 +131,8 @@ impl Request {
 
     /// Tie and has-censor on their lists, and an unused censor zero.
     fn choices_valid(&self) -> bool {
-        let censor_valid = self.has_censor == 1 || is_zero_bits(self.censor);
-        self.tie <= 2 && self.has_censor <= 1 && censor_valid
+        let tie_valid = usize::from(self.tie) < TIES.len();
+        tie_valid && has_field_valid(self.has_censor, is_zero_bits(self.censor))
     }
 
     /// An unused censor is zero by then, and zero is in range.

@@ -9,7 +9,7 @@ use kairo_ecs_rng::DeterministicStream;
 pub const THRESHOLD_LIMIT: f64 = 1024.0;
 
 /// By 1 for a position past the thresholds, then 15 or 16 by the first draw that would fail.
-fn draw_refusal(stream: &DeterministicStream, draws: usize) -> Option<Refusal> {
+pub fn draw_refusal(stream: &DeterministicStream, draws: usize) -> Option<Refusal> {
     let position = stream.position();
     if position > stream.len() {
         return Some(Refusal::InvalidState);

@@ -3,7 +3,6 @@
 use reference::answer::Answer;
 use reference::fields::LIMIT;
 use reference::hazard::{CONSTANT, Hazard};
-use reference::refusal::Refusal;
 use reference::request::{CENSORED_CAUSE, Record, Request};
 use reference::sampler::sample;
 
@@ -139,21 +138,4 @@ fn no_causes_answer_no_event_even_with_a_censor() {
     let mut empty = request(0);
     (empty.has_censor, empty.censor) = (1, 5.0);
     assert_eq!(run(&empty, &[], 0), Answer::default());
-}
-
-#[test]
-fn every_refusal_has_a_meaning() {
-    let all = [1, 4, 5, 6, 7, 10, 15, 16];
-    let refusals = [
-        Refusal::InvalidState,
-        Refusal::InvalidChoice,
-        Refusal::OutOfRange,
-        Refusal::InvalidPairs,
-        Refusal::InvalidName,
-        Refusal::TooManyCauses,
-        Refusal::StreamExhausted,
-        Refusal::InvalidThreshold,
-    ];
-    assert_eq!(refusals.map(Refusal::number), all);
-    assert!(refusals.iter().all(|r| !r.meaning().is_empty()));
 }

@@ -1,0 +1,36 @@
+-- A field that lies whole is written as its word's bytes; a cut one is left.
+use mathlib.Core.Path.{sym, _∙_}
+use borrow.Author.Needs.{needs}
+use borrow.Author.Tests.{leb-true}
+use Rattle.hazards.proofs.Bytes.{writes-whole, writes-cut}
+use Rattle.hazards.proofs.fields.put_u32.Statement.{statement}
+use Rattle.hazards.proofs.fields.put_u32.Tie as tie
+
+lies-whole-requires : tie.Need-lies-whole-requires
+lies-whole-requires c κs = search needs
+
+put-word-requires : tie.Need-put-word-requires
+put-word-requires c κs = leb-true _ _ (sym (c .before .before .lies-whole .ensures) ∙ c .before .if1 .taken)
+
+same-length : tie.Need-same-length
+same-length c = search needs
+
+returns : tie.Need-returns
+returns c =
+    let w = c .before .before .before .before .before in
+    let a = w .before .before .before .args in
+    c .before .before .put-word .ensures
+    ∙ sym (writes-whole 4 (a .bytes .now) (a .at) (a .x) (sym (w .lies-whole .ensures) ∙ c .before .before .before .before .if1 .taken))
+
+same-length-2 : tie.Need-same-length-2
+same-length-2 c = search needs
+
+returns-2 : tie.Need-returns-2
+returns-2 c =
+    let a = c .before .before .before .before .args in
+    sym (writes-cut 4 (a .bytes .now) (a .at) (a .x) (sym (c .before .lies-whole .ensures) ∙ c .if1 .left))
+
+pub put-u32-spec : {M : Type 1} → statement M
+put-u32-spec =
+    tie.close
+    (tie.spec lies-whole-requires put-word-requires same-length returns same-length-2 returns-2)

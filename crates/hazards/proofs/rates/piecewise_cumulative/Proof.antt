@@ -1,0 +1,95 @@
+-- `rates::piecewise_cumulative` meets its contract: at each turn the cumulative hazard over the pairs from i on, added to cum, is that over all used
+-- pairs.
+use mathlib.Core.Path.{_≡_, sym, _∙_}
+use Prim.Native.Nat.{_-_}
+use native.Mathlib.Omega.{arith}
+use lib.Ieee.{ofBits}
+use borrow.Author.Needs.{needs}
+use Rattle.hazards.specs.Floats.{z}
+use Rattle.hazards.specs.Rates.{intervalsNow, pairsFrom, usedPairs, piecewiseCumulative}
+use Rattle.hazards.proofs.Pairs.{pairs-start, pairs-next, pairs-end}
+use Rattle.hazards.proofs.Turns.{cumulative-here, cumulative-later, cumulative-trailing}
+use Rattle.hazards.proofs.rates.piecewise_cumulative.Statement.{statement}
+use Rattle.hazards.proofs.rates.piecewise_cumulative.Tie as tie
+
+abbrev Inv-loop : tie.InvT-loop
+Inv-loop ends rates count trailing t used cum₀ cur-t₀ i₀ cum cur-t i =
+    piecewiseCumulative (pairsFrom (intervalsNow ends rates count) i (used - i)) trailing t cum cur-t
+    ≡ piecewiseCumulative (usedPairs (intervalsNow ends rates count)) trailing t z z
+
+abbrev μ-loop : tie.MeasureT-loop
+μ-loop ends rates count trailing t used cum₀ cur-t₀ i₀ cum cur-t i = used - i
+
+at-most-eight-requires : tie.Need-at-most-eight-requires Inv-loop μ-loop
+at-most-eight-requires c κs = search needs
+
+loop-holds : tie.Need-loop-holds Inv-loop μ-loop
+unfolding ofBits
+loop-holds c = rw (pairs-start (intervalsNow (c .before .args .ends .now) (c .before .args .rates .now) (c .before .args .count)) (c .at-most-eight .ensures))
+
+mul-end-t : tie.Need-mul-end-t Inv-loop μ-loop
+mul-end-t c = omega arith
+
+element-copy-out-end-t : tie.Need-element-copy-out-end-t Inv-loop μ-loop
+element-copy-out-end-t c = omega arith
+
+mul-not-below-zero : tie.Need-mul-not-below-zero Inv-loop μ-loop
+mul-not-below-zero c = omega arith
+
+element-copy-out-not-below-zero : tie.Need-element-copy-out-not-below-zero Inv-loop μ-loop
+element-copy-out-not-below-zero c = omega arith
+
+not-below-zero-requires : tie.Need-not-below-zero-requires Inv-loop μ-loop
+not-below-zero-requires c κs = search needs
+
+returns : tie.Need-returns Inv-loop μ-loop
+returns c =
+    let l = c .before .before .before .before .before in
+    let a = l .before .before .args in
+    let next = pairs-next (intervalsNow (a .ends .now) (a .rates .now) (a .count)) (l .before .at-most-eight .result) (l .loop .i) (omega arith) in
+    sym (cumulative-here (a .trailing) (a .t) (l .loop .cum) (l .loop .cur-t) next (c .before .not-below-zero .ensures) (c .if1 .taken))
+    ∙ l .loop .inv
+
+add-i : tie.Need-add-i Inv-loop μ-loop
+add-i c = omega arith
+
+loop-less : tie.Need-loop-less Inv-loop μ-loop
+loop-less c = omega arith
+
+loop-again : tie.Need-loop-again Inv-loop μ-loop
+loop-again c =
+    let l = c .before .before .before .before .before in
+    let a = l .before .before .args in
+    let next = pairs-next (intervalsNow (a .ends .now) (a .rates .now) (a .count)) (l .before .at-most-eight .result) (l .loop .i) (omega arith) in
+    sym (cumulative-later (a .trailing) (a .t) (l .loop .cum) (l .loop .cur-t) next (c .before .not-below-zero .ensures) (c .if1 .left))
+    ∙ l .loop .inv
+
+not-below-zero-requires-2 : tie.Need-not-below-zero-requires-2 Inv-loop μ-loop
+not-below-zero-requires-2 c κs = search needs
+
+returns-2 : tie.Need-returns-2 Inv-loop μ-loop
+returns-2 c =
+    let l = c .before .before in
+    let a = l .before .before .args in
+    let end = pairs-end (intervalsNow (a .ends .now) (a .rates .now) (a .count)) (l .before .at-most-eight .result) (l .loop .i) (omega arith) in
+    sym (cumulative-trailing (a .trailing) (a .t) (l .loop .cum) (l .loop .cur-t) end (c .not-below-zero2 .ensures)) ∙ l .loop .inv
+
+pub piecewise-cumulative-spec : {M : Type 1} → statement M
+piecewise-cumulative-spec =
+    tie.close
+    (tie.spec
+    Inv-loop
+    μ-loop
+    at-most-eight-requires
+    loop-holds
+    mul-end-t
+    element-copy-out-end-t
+    mul-not-below-zero
+    element-copy-out-not-below-zero
+    not-below-zero-requires
+    returns
+    add-i
+    loop-less
+    loop-again
+    not-below-zero-requires-2
+    returns-2)
