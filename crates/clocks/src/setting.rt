@@ -1,5 +1,6 @@
 // set_channel of hazard_clock.rs: adds a cause or sets it again, with its draw; a refusal changes nothing.
 ghost use mathlib.Core.Path.{_≡_};
+ghost use Prim.Native.Nat.{_≤_};
 ghost use Rattle.clocks.specs.Setting.{channelOf, drawsAgain, notSet, setAgain, setNew, setChannel};
 use crate::channels::HazardChannelState;
 use crate::clocks::HazardInterruptionPolicy;

@@ -1,5 +1,5 @@
--- Laws of fields in byte buffers, once for every width: steps of the two loops, what was written reads back, and fields elsewhere are left alone.
--- Assumes nothing.
+-- Laws of fields in byte buffers, once for every width: steps of the two loops, what was written reads back, and fields elsewhere are left
+-- alone. Assumes nothing.
 use mathlib.Core.Path.{_≡_, refl, sym, _∙_, ap, subst}
 use mathlib.Core.Bool.{Bool, true, false}
 use mathlib.Core.List.{List, [], _∷_, _++_, append-assoc}
@@ -14,7 +14,8 @@ use mir.Syntax.{w32}
 use mir.Val.{SFits, toZ, ofZ}
 use mir.Facts.{toZ-ofZ, fits-ofZ}
 use lib.ListN.{length, getD, set, take, drop, length-append, length-drop, take-append-drop}
-use lib.Seq.{drop-cons, drop-set-lt, take-suc-set, length-take-le, take-at, drop-at, take-append-le, drop-drop, take-take, take-nil, getD-drop}
+use lib.Seq.{drop-cons, drop-set-lt, take-suc-set, take-at, take-take, take-nil, take-append-le}
+use lib.Seq.{drop-at, drop-drop, length-take-le, getD-drop}
 use borrow.Author.Tests.{le-leb, lt-leb, leb-true, leb-false}
 use Rattle.hazards.specs.Fields.{littleEndian, bytesOf, fieldAt, withField, f64At, withF64, i32At, withI32}
 

@@ -9,3 +9,4 @@ pub mod Evaluations
 pub mod Draws
 pub mod Ties
 pub mod Sampler
+pub mod Bounds

@@ -1,4 +1,4 @@
-// Hazards: rates and waits of competing causes, draws from a recorded stream of thresholds, and the sampler over them.
+// Hazards: rates and waits of competing causes, draws from a recorded threshold stream, and the sampler over them.
 // Definitions: specs/, one file for each module here.
 pub mod answers;
 pub mod checks;

@@ -1,6 +1,6 @@
 // What is wrong with an input, one flag for each of refusals 4 to 7, and the refusals' numbers.
 ghost use mathlib.Core.Path.{_≡_};
-ghost use Rattle.hazards.specs.Refusals.{either, noFaults, numberOf};
+ghost use Rattle.hazards.specs.Refusals.{noFaults, rangeFaultUnless, isReserved, identifierFaultIf, joined, numberOf};
 
 pub const INVALID_STATE: u8 = 1;
 pub const BAD_CHOICE: u8 = 4;
@@ -8,14 +8,37 @@ pub const OUT_OF_RANGE: u8 = 5;
 pub const BAD_INTERVALS: u8 = 6;
 pub const BAD_IDENTIFIER: u8 = 7;
 pub const TOO_MANY_CAUSES: u8 = 10;
-pub const STREAM_USED_UP: u8 = 15;
+pub const STREAM_EXHAUSTED: u8 = 15;
 pub const BAD_THRESHOLD: u8 = 16;
+
+// The cause of a censored event, which no record may name.
+pub const NO_CAUSE: u32 = 0xffff_ffff;
 
 pub struct Faults {
     pub choice: bool,
     pub range: bool,
     pub intervals: bool,
     pub identifier: bool,
+}
+
+// Refusal 5 alone, where a test on a float fails.
+pub fn range_fault_unless(ok: bool) -> Faults
+    ensures { λ r. ⌜ r ≡ rangeFaultUnless ok ⌝ }
+{
+    Faults { choice: false, range: !ok, intervals: false, identifier: false }
+}
+
+pub fn is_reserved(cause: u32) -> bool
+    ensures { λ r. ⌜ r ≡ isReserved cause ⌝ }
+{
+    cause == NO_CAUSE
+}
+
+// Refusal 7 alone, where a test holds.
+pub fn identifier_fault_if(reserved: bool) -> Faults
+    ensures { λ r. ⌜ r ≡ identifierFaultIf reserved ⌝ }
+{
+    Faults { choice: false, range: false, intervals: false, identifier: reserved }
 }
 
 impl Faults {
@@ -26,8 +49,8 @@ impl Faults {
     }
 
     // The faults of both.
-    pub fn or(self, other: Faults) -> Faults
-        ensures { λ r. ⌜ r ≡ either self other ⌝ }
+    pub fn joined(self, other: Faults) -> Faults
+        ensures { λ r. ⌜ r ≡ joined self other ⌝ }
     {
         Faults {
             choice: self.choice | other.choice,

@@ -53,7 +53,7 @@ fn explicitly_preferred(a: Candidate, b: Candidate) -> bool
     a.cause_id < b.cause_id
 }
 
-fn is_preferred(tie: TieBreaker, a: Candidate, b: Candidate) -> bool
+fn preferred(tie: TieBreaker, a: Candidate, b: Candidate) -> bool
     ensures { λ r. ⌜ r ≡ preferred tie a b ⌝ }
 {
     match tie {
@@ -63,7 +63,7 @@ fn is_preferred(tie: TieBreaker, a: Candidate, b: Candidate) -> bool
     }
 }
 
-fn comes_before(tie: TieBreaker, a: Candidate, b: Candidate) -> bool
+fn precedes(tie: TieBreaker, a: Candidate, b: Candidate) -> bool
     ensures { λ r. ⌜ r ≡ precedes tie a b ⌝ }
 {
     if a.time < b.time {
@@ -72,18 +72,18 @@ fn comes_before(tie: TieBreaker, a: Candidate, b: Candidate) -> bool
     if b.time < a.time {
         return false;
     }
-    is_preferred(tie, a, b)
+    preferred(tie, a, b)
 }
 
 impl Earliest {
     // The better of what was found and the next candidate; on a full tie what was found.
-    pub fn or_earlier(self, tie: TieBreaker, next: Candidate) -> Earliest
+    pub fn earlier(self, tie: TieBreaker, next: Candidate) -> Earliest
         ensures { λ r. ⌜ r ≡ earlier tie self next ⌝ }
     {
         match self {
             Earliest::Nothing => Earliest::Found(next),
             Earliest::Found(best) => {
-                if comes_before(tie, next, best) {
+                if precedes(tie, next, best) {
                     Earliest::Found(next)
                 } else {
                     Earliest::Found(best)

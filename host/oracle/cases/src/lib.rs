@@ -1,15 +1,23 @@
-//! Inputs of evaluations and samples: random ones from a seed, chosen ones, and the fixed lists.
+//! Inputs of evaluations, samples, clocks and engines: random ones from a seed, chosen ones, and the fixed lists.
 //! Expected answers come from the crate `reference`.
 
 #![forbid(unsafe_code)]
 
 pub mod chosen;
+pub mod chosen_histories;
+pub mod chosen_sessions;
+pub mod clock_histories;
+pub mod clock_steps;
+pub mod command_damage;
+pub mod commands;
 pub mod evaluations;
 pub mod floats;
 pub mod hazard_damage;
 pub mod hazards;
 pub mod lists;
 pub mod random;
+pub mod random_sessions;
 pub mod sample_damage;
 pub mod samples;
+pub mod sessions;
 pub mod tally;

@@ -13,7 +13,7 @@ pub const CASE_BYTES: usize = 1332;
 /// Room for thresholds in a case.
 pub const THRESHOLDS: usize = 12;
 
-const CAUSES: [u32; 10] = [0, 1, 2, 3, 5, 7, 11, 256, 1 << 31, u32::MAX - 1];
+pub const CAUSES: [u32; 10] = [0, 1, 2, 3, 5, 7, 11, 256, 1 << 31, u32::MAX - 1];
 
 #[derive(Clone, Debug)]
 pub struct SampleCase {

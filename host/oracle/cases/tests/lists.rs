@@ -1,18 +1,15 @@
-//! The fixed lists: their layout, that they are the same in every run, and what they cover.
+//! The lists of evaluations and samples: their layout, that they are the same in every run, and
+//! what they cover.
+
+mod common;
 
 use cases::evaluations::{self, EvaluationCase};
 use cases::samples::{self, SampleCase};
 use cases::{lists, tally};
+use common::{checksum, numbers};
 use reference::fields::LIMIT;
 use reference::hazard::{Hazard, PIECEWISE};
 use std::collections::BTreeSet;
-
-/// FNV-1a. A new value here means that the lists have changed and have to be written again.
-fn checksum(bytes: &[u8]) -> u64 {
-    bytes.iter().fold(0xCBF2_9CE4_8422_2325, |hash, byte| {
-        (hash ^ u64::from(*byte)).wrapping_mul(0x0000_0100_0000_01B3)
-    })
-}
 
 #[test]
 fn evaluations_are_the_same_each_time() {
@@ -71,10 +68,6 @@ fn every_refusal_is_among_the_cases() {
     assert_eq!(numbers(&evaluations), [4, 5, 6]);
     let samples = tally::samples(&lists::samples());
     assert_eq!(numbers(&samples), [1, 4, 5, 6, 7, 10, 15, 16]);
-}
-
-fn numbers(tally: &tally::Tally) -> Vec<u8> {
-    tally.refusals.keys().copied().collect()
 }
 
 #[test]

@@ -3,7 +3,7 @@ use mathlib.Core.Path.{sym, ap, _∙_}
 use lib.Ieee.{binary64, ofBits}
 use borrow.Author.Needs.{needs}
 use Rattle.hazards.specs.Fields.{f64At}
-use Rattle.hazards.proofs.Nans.{nan-pattern, number-pattern, zero-over-zero}
+use Rattle.hazards.proofs.Patterns.{nan-pattern, number-pattern, zero-over-zero}
 use Rattle.hazards.proofs.fields.f64_at.Statement.{statement}
 use Rattle.hazards.proofs.fields.f64_at.Tie as tie
 

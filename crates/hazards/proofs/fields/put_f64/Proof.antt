@@ -3,7 +3,7 @@ use mathlib.Core.Path.{sym, ap, _∙_}
 use lib.Ieee.{binary64, toBits}
 use borrow.Author.Needs.{needs}
 use Rattle.hazards.specs.Fields.{withField, withF64}
-use Rattle.hazards.proofs.Nans.{differs, same-no-nan, nan-bits}
+use Rattle.hazards.proofs.Patterns.{differs, same-no-nan, nan-bits}
 use Rattle.hazards.proofs.fields.put_f64.Statement.{statement}
 use Rattle.hazards.proofs.fields.put_f64.Tie as tie
 

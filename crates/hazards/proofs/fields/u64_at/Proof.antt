@@ -1,6 +1,9 @@
 -- A field that lies whole is its word; a cut one is 0.
+use Prim.Native.Nat.{_+_}
 use mathlib.Core.Path.{sym, _∙_}
+use native.Mathlib.Omega.{arith}
 use lib.Dec.{lit≤}
+use lib.ListN.{length}
 use borrow.Author.Needs.{needs}
 use borrow.Author.Tests.{not-true, not-false, leb-true}
 use Rattle.hazards.proofs.Bytes.{reads-whole, reads-cut}
@@ -16,7 +19,10 @@ returns c =
     sym (reads-cut 8 (a .bytes .now) (a .at) (sym (c .before .lies-whole .ensures) ∙ not-true _ (c .if1 .taken)))
 
 word-at-requires : tie.Need-word-at-requires
-word-at-requires c κs = (lit≤ tt, leb-true _ _ (sym (c .before .lies-whole .ensures) ∙ not-false _ (c .if1 .left)))
+word-at-requires c κs =
+    let a = c .before .before .before .args in
+    let h = leb-true (a .at + 8) (length (a .bytes .now)) (sym (c .before .lies-whole .ensures) ∙ not-false _ (c .if1 .left)) in
+    (lit≤ tt, omega arith)
 
 returns-2 : tie.Need-returns-2
 returns-2 c =

@@ -35,6 +35,14 @@ pub struct Scheduler {
 }
 
 impl Scheduler {
+    /// An empty queue after that many requests.
+    pub fn new(requests_made: u64) -> Self {
+        Self {
+            requests_made,
+            ..Self::default()
+        }
+    }
+
     /// Names the clock that makes the next requests.
     pub fn lent_to(&mut self, clock: u8) -> &mut Self {
         self.borrower = clock;

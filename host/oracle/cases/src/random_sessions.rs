@@ -1,0 +1,251 @@
+//! Random sessions: commands aimed at the state that the ones before them leave.
+
+use crate::clock_histories::command_time;
+use crate::command_damage::damage;
+use crate::commands::{self, View};
+use crate::floats::{Style, not_a_threshold, style, threshold};
+use crate::random::Random;
+use crate::sessions::{BUFFER_LIMIT, Session, command_count};
+use kairo_ecs_rng::{DeterministicStream, THRESHOLD_BYTES};
+use reference::answer::ANSWER_BYTES;
+use reference::batch::RESULT_BYTES;
+use reference::command::{Command, UNDO, width};
+use reference::execute::execute;
+use reference::fields::time_in_range;
+use reference::state::{State, open};
+
+/// What a session is like; shares are in percent.
+struct Plan {
+    style: Style,
+    /// Clocks 0 up to this one are named.
+    clocks: u64,
+    commands: usize,
+    undo: u64,
+    deliver: u64,
+    damage: u64,
+    /// The scale of all clocks, if they share one: a small one gives them the same ticks.
+    scale: Option<f64>,
+    /// Channels that a clock is given before anything else is likely.
+    channels: usize,
+}
+
+fn plan(random: &mut Random) -> Plan {
+    Plan {
+        style: if random.chance(50) {
+            Style::Simple
+        } else {
+            style(random)
+        },
+        clocks: random.pick(&[1, 1, 2, 3, 5, 16, 16]),
+        commands: random.pick(&[4, 10, 25, 50, 80, 110]),
+        undo: random.pick(&[0, 5, 10, 20, 40]),
+        deliver: random.pick(&[3, 6, 15]),
+        damage: random.pick(&[0, 0, 3, 10]),
+        scale: random.pick(&[None, None, Some(1.0), Some(0.125), Some(0.01)]),
+        channels: random.pick(&[1, 1, 1, 2, 3, 9]),
+    }
+}
+
+/// The engine that the commands so far have been given to.
+struct Builder {
+    state: State,
+    journal: Vec<u8>,
+    stream: Vec<u8>,
+    commands: Vec<u8>,
+    now: f64,
+}
+
+impl Builder {
+    fn new(journal: usize, stream: Vec<u8>) -> Self {
+        let mut journal = vec![0; journal];
+        Self {
+            state: open(&mut journal),
+            journal,
+            stream,
+            commands: Vec::new(),
+            now: 0.0,
+        }
+    }
+
+    /// Adds a command; whether there was room for it.
+    fn give(&mut self, command: &Command) -> bool {
+        let has_room = self.commands.len() + command.width() <= BUFFER_LIMIT;
+        if has_room {
+            let bytes = command.to_bytes();
+            execute(&mut self.state, &mut self.journal, &self.stream, &bytes);
+            self.commands.extend(bytes);
+            let time = command_time(command).filter(|now| time_in_range(*now));
+            self.now = time.unwrap_or(self.now);
+        }
+        has_room
+    }
+
+    fn due(&self) -> Option<f64> {
+        let stream = DeterministicStream::new(&self.stream, 0);
+        stream.threshold(self.state.position)
+    }
+}
+
+pub fn session(random: &mut Random) -> Session {
+    let plan = plan(random);
+    let stream = stream(random, plan.style);
+    let journal = journal_length(random);
+    let most = plan.commands.min(8 + journal / 12);
+    let mut builder = Builder::new(journal, stream);
+    if random.chance(50) {
+        give_all_clocks(random, &plan, &mut builder);
+    }
+    let mut has_room = true;
+    while has_room && command_count(&builder.commands) < most {
+        let mut command = next(random, &plan, &builder);
+        if random.chance(plan.damage) {
+            damage(random, &mut command);
+        }
+        has_room = builder.give(&command);
+    }
+    let Builder {
+        mut commands,
+        stream,
+        journal,
+        ..
+    } = builder;
+    if random.chance(20) {
+        spoil(random, &mut commands);
+    }
+    buffers(random, commands, stream, journal.len())
+}
+
+/// CREATE for each clock of the plan, so that many are queued at once.
+fn give_all_clocks(random: &mut Random, plan: &Plan, builder: &mut Builder) {
+    for name in 0..plan.clocks {
+        builder.give(&create(random, plan, name as u8));
+    }
+}
+
+fn next(random: &mut Random, plan: &Plan, builder: &Builder) -> Command {
+    let (applied, queue) = (builder.state.applied_length, &builder.state.scheduler.queue);
+    if random.chance(plan.undo) && (applied > 0 || random.chance(10)) {
+        return Command::Undo;
+    }
+    if random.chance(plan.deliver) && (!queue.is_empty() || random.chance(5)) {
+        return Command::Deliver;
+    }
+    let name = name(random, plan, builder);
+    match &builder.state.clocks[usize::from(name)] {
+        None if random.chance(95) => create(random, plan, name),
+        Some(_) if random.chance(2) => create(random, plan, name),
+        None => Command::Pause {
+            clock: name,
+            now: builder.now,
+        },
+        Some(clock) => {
+            let view = View {
+                name,
+                clock,
+                style: plan.style,
+                now: builder.now,
+                due: builder.due(),
+            };
+            aimed(random, plan, &view)
+        }
+    }
+}
+
+/// A clock that is present, or any of the plan's.
+fn name(random: &mut Random, plan: &Plan, builder: &Builder) -> u8 {
+    let clocks = &builder.state.clocks;
+    let present: Vec<u8> = (0..)
+        .zip(clocks)
+        .filter(|(_, c)| c.is_some())
+        .map(|(n, _)| n)
+        .collect();
+    if present.is_empty() || random.chance(35) {
+        random.below(plan.clocks) as u8
+    } else {
+        random.pick(&present)
+    }
+}
+
+fn aimed(random: &mut Random, plan: &Plan, view: &View) -> Command {
+    let room = view.due.is_some() || random.chance(10);
+    if view.clock.channels.len() < plan.channels && room && random.chance(80) {
+        Command::Set(commands::set_new(random, view))
+    } else {
+        commands::any(random, view)
+    }
+}
+
+fn create(random: &mut Random, plan: &Plan, name: u8) -> Command {
+    let mut create = commands::create(random, plan.style, name);
+    create.scale = plan.scale.unwrap_or(create.scale);
+    Command::Create(create)
+}
+
+/// Thresholds of the style, few or many, some of them bad.
+fn stream(random: &mut Random, style: Style) -> Vec<u8> {
+    let length = random.pick(&[0, 1, 2, 5, 16, 40, 40, 64, 64, 64]);
+    let bad = random.pick(&[0, 0, 0, 2, 10]);
+    let mut one = |_| {
+        if random.chance(bad) {
+            not_a_threshold(random)
+        } else {
+            threshold(random, style)
+        }
+    };
+    (0..length).flat_map(|n| one(n).to_le_bytes()).collect()
+}
+
+fn journal_length(random: &mut Random) -> usize {
+    match random.below(12) {
+        0 => random.index(40),
+        1 => random.index(400),
+        2 => random.index(1500),
+        _ => 1500 + random.index(BUFFER_LIMIT - 1499),
+    }
+}
+
+/// A code off the list or a cut command, at the end or before it.
+fn spoil(random: &mut Random, commands: &mut Vec<u8>) {
+    match random.below(4) {
+        0 => commands.push(0),
+        1 => commands.push(random.byte_from(UNDO + 1)),
+        2 => {
+            let kept = random.index(commands.len() + 1);
+            commands.truncate(kept);
+        }
+        _ => {
+            let code = 1 + random.below(6) as u8;
+            let cut = random.index(width(code).expect("a code of the table"));
+            commands.push(code);
+            commands.extend((1..cut).map(|_| random.word() as u8));
+        }
+    }
+    commands.truncate(BUFFER_LIMIT);
+}
+
+/// Mostly room for every answer; some streams and results that 18 refuses.
+fn buffers(random: &mut Random, commands: Vec<u8>, mut stream: Vec<u8>, journal: usize) -> Session {
+    let needed = command_count(&commands) * ANSWER_BYTES;
+    let answers = match random.below(10) {
+        0 => random.index(needed + 1),
+        1 => needed.saturating_sub(1),
+        2..6 => needed,
+        _ => needed + random.index(100),
+    };
+    if random.chance(3) {
+        let cut = 1 + random.index(THRESHOLD_BYTES - 1);
+        stream.resize(stream.len() + cut, 0);
+    }
+    let result = if random.chance(3) {
+        random.pick(&[0, 1, 8, 15, 17, 24, 32])
+    } else {
+        RESULT_BYTES
+    };
+    Session {
+        commands,
+        stream,
+        journal,
+        answers: answers.min(BUFFER_LIMIT),
+        result,
+    }
+}
