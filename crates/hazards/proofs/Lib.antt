@@ -2,11 +2,14 @@ pub mod AcceptedFlags
 pub mod AcceptedHazards
 pub mod AnswerBytes
 pub mod Bytes
+pub mod CheckLaws
 pub mod DrawLaws
+pub mod EvaluationLaws
 pub mod Exact
 pub mod HazardBounds
 pub mod Largest
 pub mod Limits
+pub mod ListLaws
 pub mod Overwrite
 pub mod Pairs
 pub mod Patterns

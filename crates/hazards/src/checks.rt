@@ -1,10 +1,14 @@
-// The fields of a hazard as in SET, what refusals 4 to 6 say of them, and the hazard that they stand for.
+// What refusals 4 to 6 say of a hazard, and the fields of a hazard as in SET with the hazard that they stand for.
 ghost use mathlib.Core.Path.{_≡_};
-ghost use Prim.Native.Nat.{_≤_, min};
-ghost use lib.ListN.{take, drop};
-ghost use Rattle.hazards.specs.Floats.{z, zeroBits, inRange, isTime};
+ghost use mathlib.Core.Bool.{not, _&&_, _||_};
+ghost use mathlib.Core.List.{List};
+ghost use Prim.Native.Nat.{ℕ, _-_, _≤_, min};
+ghost use lib.Dec.{eqb, ltb};
+ghost use lib.Ieee.{Float, lt, le};
+ghost use Rattle.hazards.specs.Floats.{z, limit, zeroBits, inRange, isTime};
 ghost use Rattle.hazards.specs.Lists.{all};
-ghost use Rattle.hazards.specs.Checks.{usedCount, ascending, choiceFault, rangeFault, intervalsFault, hazardFaults, rangeFaultUnless, hazardOf, intervalsOf};
+ghost use Rattle.hazards.specs.Rates.{intervalsNow, pairsFrom};
+ghost use Rattle.hazards.specs.Checks.{rateOfKind, ownRate, mostPairs, rangeFault, zeroPair, ascending, intervalsFault, hazardOf, intervalsOf, hazardFaults};
 use crate::rates::HazardRate;
 use crate::rates::Intervals;
 use crate::refusals::Faults;
@@ -21,11 +25,7 @@ pub struct HazardFields {
 pub fn zero_bits(x: f64) -> bool
     ensures { λ r. ⌜ r ≡ zeroBits x ⌝ }
 {
-    if x != x {
-        false
-    } else {
-        f64::to_bits(x) == 0
-    }
+    if x != x { false } else { f64::to_bits(x) == 0 }
 }
 
 // Finite and of size at most 2^40.
@@ -46,24 +46,46 @@ pub fn is_time(x: f64) -> bool
     }
 }
 
-// How many pairs are used, of the eight that there are.
-fn used_count(kind: u8, count: u8) -> usize
-    ensures { λ r. ⌜ r ≤ 8 ⌝ }
+// The kind's own rate, +0.0 for Zero.
+fn own_rate(hazard: HazardRate) -> f64
+    ensures { λ r. ⌜ r ≡ ownRate hazard ⌝ }
 {
-    if kind != 3 {
-        return 0;
+    match hazard {
+        HazardRate::Zero => 0.0,
+        HazardRate::Constant(rate) => rate,
+        HazardRate::Gompertz(eta) => eta,
+        HazardRate::Piecewise(trailing) => trailing,
     }
-    if count < 8 { count as usize } else { 8 }
 }
 
-// The first `count` are in range.
-fn all_in_range(values: &[f64; 8], count: usize) -> bool
-    requires { ⌜ count ≤ 8 ⌝ }
-    ensures { λ r. ⌜ r ≡ all inRange (take count (now (values .entry))) ⌝ }
+// How many pairs a kind can use.
+fn most_pairs(hazard: HazardRate) -> usize
+    ensures { λ r. ⌜ r ≡ mostPairs hazard ⌝ }
+{
+    match hazard {
+        HazardRate::Zero => 0,
+        HazardRate::Constant(_) => 0,
+        HazardRate::Gompertz(_) => 0,
+        HazardRate::Piecewise(_) => 8,
+    }
+}
+
+// How many of the pairs are used.
+fn used_count(hazard: HazardRate, count: usize) -> usize
+    ensures { λ r. ⌜ r ≡ min count (mostPairs hazard) ⌝ }
+{
+    let most = most_pairs(hazard);
+    if count < most { count } else { most }
+}
+
+// The rates of the first `used` pairs are in range.
+fn rates_in_range(rates: &[f64; 8], used: usize) -> bool
+    requires { ⌜ used ≤ 8 ⌝ }
+    ensures { λ r. ⌜ ((ends : List Float) (n : ℕ) → r ≡ all (λ q. inRange (q .rate)) (pairsFrom (intervalsNow ends (now (rates .entry)) n) 0 used)) ⌝ }
 {
     let mut i: usize = 0;
-    while i < count {
-        if !in_range(values[i]) {
+    while i < used {
+        if !in_range(rates[i]) {
             return false;
         }
         i += 1;
@@ -71,31 +93,23 @@ fn all_in_range(values: &[f64; 8], count: usize) -> bool
     true
 }
 
-// All bits of those from `count` on are zero.
-fn zero_from(values: &[f64; 8], count: usize) -> bool
-    requires { ⌜ count ≤ 8 ⌝ }
-    ensures { λ r. ⌜ r ≡ all zeroBits (drop count (now (values .entry))) ⌝ }
+// An end above the one before it and at most 2^40.
+fn ascends(before: f64, end: f64) -> bool
+    ensures { λ r. ⌜ r ≡ (lt before end && le end limit) ⌝ }
 {
-    let mut i = count;
-    while i < 8 {
-        if !zero_bits(values[i]) {
-            return false;
-        }
-        i += 1;
-    }
-    true
+    before < end && end <= 1099511627776.0
 }
 
-// The first `count` ascend from above 0 to at most 2^40.
-fn ends_ascend(ends: &[f64; 8], count: usize) -> bool
-    requires { ⌜ count ≤ 8 ⌝ }
-    ensures { λ r. ⌜ r ≡ ascending z (take count (now (ends .entry))) ⌝ }
+// The ends of the first `used` pairs ascend from above 0 to at most 2^40.
+fn ends_ascend(ends: &[f64; 8], used: usize) -> bool
+    requires { ⌜ used ≤ 8 ⌝ }
+    ensures { λ r. ⌜ ((rates : List Float) (n : ℕ) → r ≡ ascending z (pairsFrom (intervalsNow (now (ends .entry)) rates n) 0 used)) ⌝ }
 {
     let mut before = 0.0;
     let mut i: usize = 0;
-    while i < count {
+    while i < used {
         let end = ends[i];
-        if !(before < end && end <= 1099511627776.0) {
+        if !ascends(before, end) {
             return false;
         }
         before = end;
@@ -104,66 +118,89 @@ fn ends_ascend(ends: &[f64; 8], count: usize) -> bool
     true
 }
 
-impl HazardFields {
-    fn choice_fault(self) -> bool
-        ensures { λ r. ⌜ r ≡ choiceFault self ⌝ }
-    {
-        if self.kind > 3 {
-            return true;
-        }
-        if self.kind != 0 {
+fn zero_pair(end: f64, rate: f64) -> bool
+    ensures { λ r. ⌜ r ≡ (zeroBits end && zeroBits rate) ⌝ }
+{
+    let end_zero = zero_bits(end);
+    let rate_zero = zero_bits(rate);
+    end_zero & rate_zero
+}
+
+// All bits of the pairs from `used` on are zero.
+fn unused_are_zero<'a>(ends: &'a [f64; 8], rates: &'a [f64; 8], used: usize) -> bool
+    ensures { λ r. ⌜ ((n : ℕ) → r ≡ all zeroPair (pairsFrom (intervalsNow (now (ends .entry)) (now (rates .entry)) n) used (8 - used))) ⌝ }
+{
+    let mut i = used;
+    while i < 8 {
+        if !zero_pair(ends[i], rates[i]) {
             return false;
         }
-        !zero_bits(self.first)
+        i += 1;
     }
+    true
+}
 
-    fn range_fault(self) -> bool
-        ensures { λ r. ⌜ r ≡ rangeFault self ⌝ }
-    {
-        let used = used_count(self.kind, self.count);
-        let first = in_range(self.first);
-        let rates = all_in_range(&self.rates, used);
-        !(first & rates)
+// Refusal 5 of a hazard, whatever its ends.
+pub fn range_fault(hazard: HazardRate, rates: &[f64; 8], count: usize) -> bool
+    ensures { λ r. ⌜ ((ends : List Float) → r ≡ rangeFault hazard (intervalsNow ends (now (rates .entry)) count)) ⌝ }
+{
+    let used = used_count(hazard, count);
+    let own = in_range(own_rate(hazard));
+    let pairs = rates_in_range(rates, used);
+    !(own & pairs)
+}
+
+// Refusal 6 of a hazard.
+pub fn intervals_fault<'a>(
+    hazard: HazardRate,
+    ends: &'a [f64; 8],
+    rates: &'a [f64; 8],
+    count: usize,
+) -> bool
+    ensures { λ r. ⌜ r ≡ intervalsFault hazard (intervalsNow (now (ends .entry)) (now (rates .entry)) count) ⌝ }
+{
+    if count > most_pairs(hazard) {
+        return true;
     }
+    let used = used_count(hazard, count);
+    let unused = unused_are_zero(ends, rates, used);
+    let ascend = ends_ascend(ends, used);
+    !(unused & ascend)
+}
 
-    fn intervals_fault(self) -> bool
-        ensures { λ r. ⌜ r ≡ intervalsFault self ⌝ }
-    {
-        let most = if self.kind == 3 { 8 } else { 0 };
-        if self.count > most {
-            return true;
-        }
-        let used = used_count(self.kind, self.count);
-        let ends = zero_from(&self.ends, used);
-        let rates = zero_from(&self.rates, used);
-        let ascend = ends_ascend(&self.ends, used);
-        !(ends & (rates & ascend))
+fn rate_of_kind(kind: u8, first: f64) -> HazardRate
+    ensures { λ r. ⌜ r ≡ rateOfKind kind first ⌝ }
+{
+    if kind == 0 {
+        return HazardRate::Zero;
     }
-
-    pub fn faults(self) -> Faults
-        ensures { λ r. ⌜ r ≡ hazardFaults self ⌝ }
-    {
-        Faults {
-            choice: self.choice_fault(),
-            range: self.range_fault(),
-            intervals: self.intervals_fault(),
-            identifier: false,
-        }
+    if kind == 1 {
+        return HazardRate::Constant(first);
     }
+    if kind == 2 {
+        return HazardRate::Gompertz(first);
+    }
+    HazardRate::Piecewise(first)
+}
 
+// Refusal 4 of a hazard's fields.
+fn choice_fault(kind: u8, first: f64) -> bool
+    ensures { λ r. ⌜ r ≡ (ltb 3 kind || (eqb kind 0 && not (zeroBits first))) ⌝ }
+{
+    if kind > 3 {
+        return true;
+    }
+    if kind != 0 {
+        return false;
+    }
+    !zero_bits(first)
+}
+
+impl HazardFields {
     pub fn hazard(self) -> HazardRate
         ensures { λ r. ⌜ r ≡ hazardOf self ⌝ }
     {
-        if self.kind == 0 {
-            return HazardRate::Zero;
-        }
-        if self.kind == 1 {
-            return HazardRate::Constant(self.first);
-        }
-        if self.kind == 2 {
-            return HazardRate::Gompertz(self.first);
-        }
-        HazardRate::Piecewise(self.first)
+        rate_of_kind(self.kind, self.first)
     }
 
     pub fn intervals(self) -> Intervals
@@ -171,13 +208,23 @@ impl HazardFields {
     {
         let ends = self.ends;
         let rates = self.rates;
-        Intervals { ends, rates, count: self.count as usize }
+        Intervals {
+            ends,
+            rates,
+            count: self.count as usize,
+        }
     }
-}
 
-// Refusal 5 where a test on a float failed.
-pub fn range_fault_unless(ok: bool) -> Faults
-    ensures { λ r. ⌜ r ≡ rangeFaultUnless ok ⌝ }
-{
-    Faults { choice: false, range: !ok, intervals: false, identifier: false }
+    pub fn faults(self) -> Faults
+        ensures { λ r. ⌜ r ≡ hazardFaults self ⌝ }
+    {
+        let hazard = rate_of_kind(self.kind, self.first);
+        let count = self.count as usize;
+        Faults {
+            choice: choice_fault(self.kind, self.first),
+            range: range_fault(hazard, &self.rates, count),
+            intervals: intervals_fault(hazard, &self.ends, &self.rates, count),
+            identifier: false,
+        }
+    }
 }

@@ -1,6 +1,6 @@
 // The three evaluations as public calls on the fields of a hazard: refused by 4, 5 or 6, or the value.
 ghost use mathlib.Core.Path.{_≡_};
-ghost use Rattle.hazards.specs.Evaluations.{without, waitValued, evaluatedHazard, evaluatedCumulative, evaluatedWait};
+ghost use Rattle.hazards.specs.Evaluations.{valued, withoutValue, waitValued, evaluationRefusal, evaluatedHazardAt, evaluatedCumulativeHazard, evaluatedInversion};
 use crate::checks::HazardFields;
 use crate::rates::Wait;
 
@@ -11,54 +11,86 @@ pub struct Evaluation {
     pub value: f64,
 }
 
-fn without_value(number: u8) -> Evaluation
-    ensures { λ r. ⌜ r ≡ without number ⌝ }
+fn valued(value: f64) -> Evaluation
+    ensures { λ r. ⌜ r ≡ valued value ⌝ }
 {
-    Evaluation { number, found: false, value: 0.0 }
+    Evaluation {
+        number: 0,
+        found: true,
+        value,
+    }
 }
 
-fn of_wait(wait: Wait) -> Evaluation
+fn without_value(number: u8) -> Evaluation
+    ensures { λ r. ⌜ r ≡ withoutValue number ⌝ }
+{
+    Evaluation {
+        number,
+        found: false,
+        value: 0.0,
+    }
+}
+
+fn wait_valued(wait: Wait) -> Evaluation
     ensures { λ r. ⌜ r ≡ waitValued wait ⌝ }
 {
     match wait {
-        Wait::After(value) => Evaluation { number: 0, found: true, value },
+        Wait::After(value) => valued(value),
         Wait::Never => without_value(0),
     }
 }
 
-pub fn evaluate_hazard_at(fields: HazardFields, t: f64) -> Evaluation
-    ensures { λ r. ⌜ r ≡ evaluatedHazard fields t ⌝ }
+// 4 on the hazard, 5 on hazard, time and w, then 6; 0 where nothing is refused.
+fn evaluation_refusal(fields: HazardFields, in_limits: bool) -> u8
+    ensures { λ r. ⌜ r ≡ evaluationRefusal fields «in_limits» ⌝ }
 {
-    let range = crate::checks::range_fault_unless(crate::checks::in_range(t));
-    let number = fields.faults().or(range).number();
+    fields
+        .faults()
+        .joined(crate::refusals::range_fault_unless(in_limits))
+        .number()
+}
+
+pub fn evaluate_hazard_at(fields: HazardFields, t: f64) -> Evaluation
+    ensures { λ r. ⌜ r ≡ evaluatedHazardAt fields t ⌝ }
+{
+    let number = evaluation_refusal(fields, crate::checks::in_range(t));
     if number != 0 {
         return without_value(number);
     }
-    let value = crate::rates::hazard_at(fields.hazard(), fields.intervals(), t);
-    Evaluation { number: 0, found: true, value }
+    let hazard = fields.hazard();
+    let count = fields.count as usize;
+    valued(crate::rates::hazard_at(hazard, &fields.ends, &fields.rates, count, t))
 }
 
 pub fn evaluate_cumulative_hazard(fields: HazardFields, t: f64) -> Evaluation
-    ensures { λ r. ⌜ r ≡ evaluatedCumulative fields t ⌝ }
+    ensures { λ r. ⌜ r ≡ evaluatedCumulativeHazard fields t ⌝ }
 {
-    let range = crate::checks::range_fault_unless(crate::checks::in_range(t));
-    let number = fields.faults().or(range).number();
+    let number = evaluation_refusal(fields, crate::checks::in_range(t));
     if number != 0 {
         return without_value(number);
     }
-    let value = crate::rates::cumulative_hazard(fields.hazard(), fields.intervals(), t);
-    Evaluation { number: 0, found: true, value }
+    let hazard = fields.hazard();
+    let count = fields.count as usize;
+    valued(crate::rates::cumulative_hazard(hazard, &fields.ends, &fields.rates, count, t))
 }
 
 pub fn evaluate_inversion(fields: HazardFields, t_start: f64, target_w: f64) -> Evaluation
-    ensures { λ r. ⌜ r ≡ evaluatedWait fields «t_start» «target_w» ⌝ }
+    ensures { λ r. ⌜ r ≡ evaluatedInversion fields «t_start» «target_w» ⌝ }
 {
     let start = crate::checks::in_range(t_start);
     let w = crate::checks::in_range(target_w);
-    let range = crate::checks::range_fault_unless(start & w);
-    let number = fields.faults().or(range).number();
+    let number = evaluation_refusal(fields, start & w);
     if number != 0 {
         return without_value(number);
     }
-    of_wait(crate::rates::invert_cumulative_hazard(fields.hazard(), fields.intervals(), t_start, target_w))
+    let hazard = fields.hazard();
+    let count = fields.count as usize;
+    wait_valued(crate::rates::invert_cumulative_hazard(
+        hazard,
+        &fields.ends,
+        &fields.rates,
+        count,
+        t_start,
+        target_w,
+    ))
 }

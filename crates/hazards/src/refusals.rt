@@ -3,12 +3,19 @@ ghost use mathlib.Core.Path.{_≡_};
 ghost use Rattle.hazards.specs.Refusals.{noFaults, rangeFaultUnless, isReserved, identifierFaultIf, joined, numberOf};
 
 pub const INVALID_STATE: u8 = 1;
+
 pub const BAD_CHOICE: u8 = 4;
+
 pub const OUT_OF_RANGE: u8 = 5;
+
 pub const BAD_INTERVALS: u8 = 6;
+
 pub const BAD_IDENTIFIER: u8 = 7;
+
 pub const TOO_MANY_CAUSES: u8 = 10;
+
 pub const STREAM_EXHAUSTED: u8 = 15;
+
 pub const BAD_THRESHOLD: u8 = 16;
 
 // The cause of a censored event, which no record may name.
@@ -25,7 +32,12 @@ pub struct Faults {
 pub fn range_fault_unless(ok: bool) -> Faults
     ensures { λ r. ⌜ r ≡ rangeFaultUnless ok ⌝ }
 {
-    Faults { choice: false, range: !ok, intervals: false, identifier: false }
+    Faults {
+        choice: false,
+        range: !ok,
+        intervals: false,
+        identifier: false,
+    }
 }
 
 pub fn is_reserved(cause: u32) -> bool
@@ -38,14 +50,24 @@ pub fn is_reserved(cause: u32) -> bool
 pub fn identifier_fault_if(reserved: bool) -> Faults
     ensures { λ r. ⌜ r ≡ identifierFaultIf reserved ⌝ }
 {
-    Faults { choice: false, range: false, intervals: false, identifier: reserved }
+    Faults {
+        choice: false,
+        range: false,
+        intervals: false,
+        identifier: reserved,
+    }
 }
 
 impl Faults {
     pub fn none() -> Faults
         ensures { λ r. ⌜ r ≡ noFaults ⌝ }
     {
-        Faults { choice: false, range: false, intervals: false, identifier: false }
+        Faults {
+            choice: false,
+            range: false,
+            intervals: false,
+            identifier: false,
+        }
     }
 
     // The faults of both.

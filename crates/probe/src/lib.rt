@@ -116,10 +116,69 @@ fn evaluate_unchecked(op: u8, fields: HazardFields, t: f64, w: f64) -> Evaluatio
 }
 
 // number u8, found u8, six zero bytes, value f64.
-fn put_evaluation(out: &mut [u8], at: usize, e: Evaluation)
-    requires { ⌜ at + 16 ≤ length (now out) ⌝ }
+pub fn put_evaluation(out: &mut [u8], at: usize, e: Evaluation)
+    requires { ⌜ at ≤ 0x7fff_ffff_ffff_ffff ⌝ }
+    ensures { λ _. ⌜ length (now (out .exit)) ≡ length (now (out .entry)) ⌝ }
 {
     let found: u64 = if e.found { 256 } else { 0 };
     put_u64(out, at, (e.number as u64) + found);
     put_f64(out, at + 8, e.value);
+}
+
+// One checked evaluation for each point of 16 bytes (t f64, w f64), while there are points and room; the number of them.
+#[no_mangle]
+pub extern "C" fn probe_evaluate(op: u8, hazard: &[u8], points: &[u8], out: &mut [u8]) -> u64 {
+    let fields = hazard_fields(hazard, 0);
+    let mut done: u64 = 0;
+    let mut at: usize = 0;
+    while at < points.len() && at < out.len() {
+        let e = evaluate(op, fields, f64_at(points, at), f64_at(points, at + 8));
+        put_evaluation(out, at, e);
+        done += 1;
+        at += 16;
+    }
+    done
+}
+
+// The same without the checks.
+#[no_mangle]
+pub extern "C" fn probe_evaluate_unchecked(op: u8, hazard: &[u8], points: &[u8], out: &mut [u8]) -> u64 {
+    let fields = hazard_fields(hazard, 0);
+    let mut done: u64 = 0;
+    let mut at: usize = 0;
+    while at < points.len() && at < out.len() {
+        let e = evaluate_unchecked(op, fields, f64_at(points, at), f64_at(points, at + 8));
+        put_evaluation(out, at, e);
+        done += 1;
+        at += 16;
+    }
+    done
+}
+
+// An answer of 32 bytes, then the position after it.
+fn put_sampled(out: &mut [u8], at: usize, sampled: Sampled)
+    requires { ⌜ at ≤ 0x7fff_ffff_ffff_ffff ⌝ }
+    ensures { λ _. ⌜ length (now (out .exit)) ≡ length (now (out .entry)) ⌝ }
+{
+    hazards::answers::put_answer(out, at, sampled.answer);
+    put_u64(out, at + 32, sampled.position as u64);
+}
+
+// One sample for each position of 8 bytes, while there are positions and room; the number of them. A request is n u8, the settings, 8 causes.
+#[no_mangle]
+pub extern "C" fn probe_sample(request: &[u8], stream: &[u8], positions: &[u8], out: &mut [u8]) -> u64 {
+    let n = byte_at(request, 0) as usize;
+    let settings = settings_at(request, 1);
+    let causes = causes_at(request, 19);
+    let mut done: u64 = 0;
+    let mut at: usize = 0;
+    let mut to: usize = 0;
+    while at < positions.len() && to < out.len() {
+        let position = u64_at(positions, at) as usize;
+        put_sampled(out, to, hazards::sampler::sample_next(causes, n, settings, stream, position));
+        done += 1;
+        at += 8;
+        to += 40;
+    }
+    done
 }

@@ -14,6 +14,7 @@ pub mod evaluations;
 pub mod floats;
 pub mod hazard_damage;
 pub mod hazards;
+pub mod inputs;
 pub mod lists;
 pub mod random;
 pub mod random_sessions;

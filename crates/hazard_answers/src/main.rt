@@ -1,0 +1,102 @@
+// Replays the fixed lists of the unchanged Rust's answers to evaluations and samples, and says how many there are and how many differ.
+// The lists' layouts, and how they were made, are in host/README.md.
+use hazards::fields::f64_at;
+use hazards::fields::put_u64;
+use hazards::fields::u64_at;
+use libc::STDOUT_FILENO;
+
+fn byte_at(bytes: &[u8], at: usize) -> u8 {
+    if at < bytes.len() { bytes[at] } else { 0 }
+}
+
+// operation u8, hazard of 138 bytes, t f64, w f64; expected: number u8, found u8, value f64.
+fn evaluation_agrees(case: &[u8]) -> bool {
+    let fields = probe::hazard_fields(case, 1);
+    let evaluation = probe::evaluate(byte_at(case, 0), fields, f64_at(case, 139), f64_at(case, 147));
+    let mut out = [0u8; 16];
+    probe::put_evaluation(&mut out, 0, evaluation);
+    if byte_at(&out, 0) != byte_at(case, 155) {
+        return false;
+    }
+    if byte_at(&out, 1) != byte_at(case, 156) {
+        return false;
+    }
+    u64_at(&out, 8) == u64_at(case, 157)
+}
+
+// The thresholds of a case: how many there are at 27, then twelve places for them.
+fn stream_of(case: &[u8]) -> &[u8] {
+    let entries = byte_at(case, 27) as usize;
+    let end = 28 + 8 * entries;
+    if end <= case.len() {
+        return &case[28..end];
+    }
+    &case[..0]
+}
+
+// n u8, tie u8, age f64, has-censor u8, censor f64, position u64, thresholds, 8 records of 146 bytes; expected: answer of 32 bytes, position u64.
+fn sample_agrees(case: &[u8]) -> bool {
+    let settings = probe::settings_at(case, 1);
+    let causes = probe::causes_at(case, 124);
+    let n = byte_at(case, 0) as usize;
+    let position = u64_at(case, 19) as usize;
+    let sampled = hazards::sampler::sample_next(causes, n, settings, stream_of(case), position);
+    let mut out = [0u8; 40];
+    hazards::answers::put_answer(&mut out, 0, sampled.answer);
+    put_u64(&mut out, 32, sampled.position as u64);
+    if case.len() < 1332 {
+        return false;
+    }
+    check::same(&out, &case[1292..1332])
+}
+
+fn print_count(label: &[u8], cases: u64, differing: u64) {
+    io::write_all(STDOUT_FILENO, label);
+    io::print_decimal(STDOUT_FILENO, cases);
+    io::write_all(STDOUT_FILENO, b" cases, ");
+    io::print_decimal(STDOUT_FILENO, differing);
+    io::write_all(STDOUT_FILENO, b" differ\n");
+}
+
+fn replay_evaluations(fd: i32) {
+    let mut case = [0u8; 165];
+    let mut cases: u64 = 0;
+    let mut differing: u64 = 0;
+    let mut left: u64 = 1000000;
+    while left > 0 {
+        if io::read_full(fd, &mut case) < 165 {
+            break;
+        }
+        cases += 1;
+        if !evaluation_agrees(&case) {
+            differing += 1;
+        }
+        left -= 1;
+    }
+    print_count(b"evaluations: ", cases, differing);
+}
+
+fn replay_samples(fd: i32) {
+    let mut case = [0u8; 1332];
+    let mut cases: u64 = 0;
+    let mut differing: u64 = 0;
+    let mut left: u64 = 1000000;
+    while left > 0 {
+        if io::read_full(fd, &mut case) < 1332 {
+            break;
+        }
+        cases += 1;
+        if !sample_agrees(&case) {
+            differing += 1;
+        }
+        left -= 1;
+    }
+    print_count(b"samples: ", cases, differing);
+}
+
+fn main() {
+    let evaluations = os::open_read(b"evaluations.bin");
+    replay_evaluations(evaluations);
+    let samples = os::open_read(b"samples.bin");
+    replay_samples(samples);
+}

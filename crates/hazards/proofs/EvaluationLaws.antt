@@ -1,0 +1,33 @@
+-- The number of an evaluation's refusal, and an evaluation that is refused or not by that number.
+use mathlib.Core.Path.{_≡_, refl, sym, _∙_, ap}
+use mathlib.Core.Bool.{Bool, cond}
+use Prim.Native.Nat.{ℕ}
+use borrow.Author.Tests.{eq-eqb, ne-eqb}
+use Rattle.hazards.specs.Refusals.{joined, rangeFaultUnless, numberOf}
+use Rattle.hazards.specs.Checks.{hazardFaults}
+use Rattle.hazards.specs.Evaluations.{withoutValue, evaluationRefusal, unlessRefused}
+use Rattle.hazards.specs.declared.checks.HazardFields.{HazardFields}
+use Rattle.hazards.specs.declared.refusals.Faults.{Faults}
+use Rattle.hazards.specs.declared.evaluations.Evaluation.{Evaluation}
+
+pub refusal-of : (f : HazardFields) (ok : Bool) {n : ℕ} {a b j : Faults}
+    → n ≡ numberOf j → j ≡ joined a b → a ≡ hazardFaults f → b ≡ rangeFaultUnless ok → n ≡ evaluationRefusal f ok
+refusal-of f ok en ej ea eb = rw (en, ej, ea, eb)
+
+unless-zero : (n : ℕ) (e : Evaluation) → n ≡ 0 → unlessRefused n e ≡ e
+unless-zero n e h = rw (eq-eqb n 0 h)
+
+unless-other : (n : ℕ) (e : Evaluation) → (n ≡ 0 → ⊥) → unlessRefused n e ≡ withoutValue n
+unless-other n e h = rw (ne-eqb n 0 h)
+
+-- the number is that of the fields, with limits that were tested as a program's value
+module _ (f : HazardFields) {limits ok : Bool} {number : ℕ} (numbered : number ≡ evaluationRefusal f ok) (tested : ok ≡ limits) where
+  in-limits : number ≡ evaluationRefusal f limits
+  in-limits = numbered ∙ ap (evaluationRefusal f) tested
+
+  pub refused : (e : Evaluation) {r : Evaluation} → (number ≡ 0 → ⊥) → r ≡ withoutValue number
+      → r ≡ unlessRefused (evaluationRefusal f limits) e
+  refused e h w = w ∙ sym (unless-other number e h) ∙ ap (λ (n : ℕ). unlessRefused n e) in-limits
+
+  pub evaluated : (e : Evaluation) {r : Evaluation} → number ≡ 0 → r ≡ e → r ≡ unlessRefused (evaluationRefusal f limits) e
+  evaluated e h w = w ∙ sym (unless-zero number e h) ∙ ap (λ (n : ℕ). unlessRefused n e) in-limits

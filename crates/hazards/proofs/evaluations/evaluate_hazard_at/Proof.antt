@@ -1,0 +1,63 @@
+-- `evaluations::evaluate_hazard_at` meets its contract.
+use mathlib.Core.Path.{_∙_, ap}
+use borrow.Author.Needs.{needs}
+use Rattle.hazards.specs.Checks.{hazardOf, intervalsOf}
+use Rattle.hazards.specs.Evaluations.{evaluatedHazardAt, valued}
+use Rattle.hazards.specs.Rates.{hazardAt}
+use Rattle.hazards.specs.declared.rates.HazardRate.{HazardRate}
+use Rattle.hazards.proofs.EvaluationLaws.{refused, evaluated}
+use Rattle.hazards.proofs.evaluations.evaluate_hazard_at.Statement.{statement}
+use Rattle.hazards.proofs.evaluations.evaluate_hazard_at.Tie as tie
+
+in-range-requires : tie.Need-in-range-requires
+in-range-requires c κs = search needs
+
+evaluation-refusal-requires : tie.Need-evaluation-refusal-requires
+evaluation-refusal-requires c κs = search needs
+
+without-value-requires : tie.Need-without-value-requires
+without-value-requires c κs = search needs
+
+returns : tie.Need-returns
+unfolding evaluatedHazardAt
+returns c =
+    let s = c .before .before in
+    let f = s .before .before .args .t1 in
+    refused f (s .evaluation-refusal .ensures) (s .before .in-range .ensures) _ (c .before .if1 .taken) (c .without-value .ensures)
+
+hazard-requires : tie.Need-hazard-requires
+hazard-requires c κs = search needs
+
+cast-count : tie.Need-cast-count
+cast-count c = search needs
+
+hazard-at-requires : tie.Need-hazard-at-requires
+hazard-at-requires c κs = search needs
+
+valued-requires : tie.Need-valued-requires
+valued-requires c κs = search needs
+
+returns-2 : tie.Need-returns-2
+unfolding evaluatedHazardAt
+returns-2 c =
+    let h = c .before .before .before .before .before in
+    let s = h .before .before in
+    let f = s .before .before .args .t1 in
+    let t = s .before .before .args .t in
+    evaluated f (s .evaluation-refusal .ensures) (s .before .in-range .ensures) (valued (hazardAt (hazardOf f) (intervalsOf f) t)) (h .before .if1 .left)
+    (c .valued .ensures
+    ∙ ap valued (c .before .hazard-at .ensures ∙ ap (λ (k : HazardRate). hazardAt k (intervalsOf f) t) (h .hazard .ensures)))
+
+pub evaluate-hazard-at-spec : {M : Type 1} → statement M
+evaluate-hazard-at-spec =
+    tie.close
+    (tie.spec
+    in-range-requires
+    evaluation-refusal-requires
+    without-value-requires
+    returns
+    hazard-requires
+    cast-count
+    hazard-at-requires
+    valued-requires
+    returns-2)

@@ -1,0 +1,76 @@
+-- `evaluations::evaluate_inversion` meets its contract.
+use mathlib.Core.Bool.{_&&_}
+use mathlib.Core.Path.{_≡_, _∙_, ap}
+use borrow.Author.Needs.{needs}
+use Rattle.hazards.specs.Checks.{hazardOf, intervalsOf}
+use Rattle.hazards.specs.Evaluations.{evaluatedInversion, waitValued}
+use Rattle.hazards.specs.Floats.{inRange}
+use Rattle.hazards.specs.Rates.{invertCumulativeHazard}
+use Rattle.hazards.specs.declared.rates.HazardRate.{HazardRate}
+use Rattle.hazards.proofs.EvaluationLaws.{refused, evaluated}
+use Rattle.hazards.proofs.evaluations.evaluate_inversion.Statement.{statement}
+use Rattle.hazards.proofs.evaluations.evaluate_inversion.Tie as tie
+
+in-range-requires : tie.Need-in-range-requires
+in-range-requires c κs = search needs
+
+in-range-requires-2 : tie.Need-in-range-requires-2
+in-range-requires-2 c κs = search needs
+
+evaluation-refusal-requires : tie.Need-evaluation-refusal-requires
+evaluation-refusal-requires c κs = search needs
+
+without-value-requires : tie.Need-without-value-requires
+without-value-requires c κs = search needs
+
+returns : tie.Need-returns
+unfolding evaluatedInversion
+returns c =
+    let s = c .before .before in
+    let a = s .before .before .before .args in
+    let e : (s .before .before .in-range .result && s .before .in-range2 .result) ≡ (inRange (a .t-start) && inRange (a .target-w)) =
+    rw (s .before .before .in-range .ensures, s .before .in-range2 .ensures) in
+    refused (a .t1) (s .evaluation-refusal .ensures) e _ (c .before .if1 .taken) (c .without-value .ensures)
+
+hazard-requires : tie.Need-hazard-requires
+hazard-requires c κs = search needs
+
+cast-count : tie.Need-cast-count
+cast-count c = search needs
+
+invert-cumulative-hazard-requires : tie.Need-invert-cumulative-hazard-requires
+invert-cumulative-hazard-requires c κs = search needs
+
+wait-valued-requires : tie.Need-wait-valued-requires
+wait-valued-requires c κs = search needs
+
+returns-2 : tie.Need-returns-2
+unfolding evaluatedInversion
+returns-2 c =
+    let h = c .before .before .before .before .before in
+    let s = h .before .before in
+    let a = s .before .before .before .args in
+    let f = a .t1 in
+    let e : (s .before .before .in-range .result && s .before .in-range2 .result) ≡ (inRange (a .t-start) && inRange (a .target-w)) =
+    rw (s .before .before .in-range .ensures, s .before .in-range2 .ensures) in
+    evaluated f (s .evaluation-refusal .ensures) e (waitValued (invertCumulativeHazard (hazardOf f) (intervalsOf f) (a .t-start) (a .target-w)))
+    (h .before .if1 .left)
+    (c .wait-valued .ensures
+    ∙ ap waitValued
+    (c .before .invert-cumulative-hazard .ensures
+    ∙ ap (λ (k : HazardRate). invertCumulativeHazard k (intervalsOf f) (a .t-start) (a .target-w)) (h .hazard .ensures)))
+
+pub evaluate-inversion-spec : {M : Type 1} → statement M
+evaluate-inversion-spec =
+    tie.close
+    (tie.spec
+    in-range-requires
+    in-range-requires-2
+    evaluation-refusal-requires
+    without-value-requires
+    returns
+    hazard-requires
+    cast-count
+    invert-cumulative-hazard-requires
+    wait-valued-requires
+    returns-2)
