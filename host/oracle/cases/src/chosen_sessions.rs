@@ -1,5 +1,5 @@
 //! Chosen sessions: rows 9 to 12 of document 01's table with their undos, its errors to shut out,
-//! each refusal, buffers of every awkward length, sixteen clocks.
+//! sixteen clocks.
 
 use crate::chosen_histories::{censored, constant, create, pause, remove, reschedule, resume};
 use crate::sessions::{Session, command_count};
@@ -21,13 +21,13 @@ pub fn session(stream: &[f64], journal: usize, inputs: &[Vec<u8>]) -> Session {
     }
 }
 
-fn of(stream: &[f64], commands: &[Command]) -> Session {
+pub fn of(stream: &[f64], commands: &[Command]) -> Session {
     let inputs: Vec<Vec<u8>> = commands.iter().map(Command::to_bytes).collect();
     session(stream, 700, &inputs)
 }
 
 /// Clock 0 of rows 9 to 12: RetainResidual, scale 10.
-fn table_clock() -> Command {
+pub fn table_clock() -> Command {
     Command::Create(create(1, 0, 10.0))
 }
 
@@ -35,95 +35,39 @@ pub fn sessions() -> Vec<Session> {
     let mut all = rows();
     all.extend(undos());
     all.extend(sixteen_clocks());
-    all.push(refusals());
-    all.extend(bad_thresholds());
-    all.extend(ends());
-    all.extend(lengths());
-    all.extend(journals());
     all
 }
 
 fn rows() -> Vec<Session> {
     let (new, set, start) = (table_clock(), constant(1, 0.5, 0.0), reschedule(0.0));
     let (undo, deliver) = (Command::Undo, Command::Deliver);
-    let stream = [2.0, 1.0];
-    vec![
-        of(&stream, &[new, set, start]),
-        of(
-            &stream,
-            &[
-                new,
-                set,
-                start,
-                pause(1.0),
-                resume(3.0),
-                undo,
-                undo,
-                deliver,
-            ],
-        ),
-        of(
-            &stream,
-            &[
-                new,
-                set,
-                start,
-                constant(1, 0.5, 4.0),
-                reschedule(4.0),
-                deliver,
-            ],
-        ),
-        of(&stream, &[new, set, censored(0.0, 4.0), deliver]),
-        of(
-            &stream,
-            &[new, set, censored(0.0, 4.0f64.next_down()), deliver],
-        ),
-    ]
+    let (pause, resume) = (pause(1.0), resume(3.0));
+    let again = [constant(1, 0.5, 4.0), reschedule(4.0), deliver];
+    let lists = [
+        vec![new, set, start],
+        vec![new, set, start, pause, resume, undo, undo, deliver],
+        [&[new, set, start][..], &again].concat(),
+        vec![new, set, censored(0.0, 4.0), deliver],
+        vec![new, set, censored(0.0, 4.0f64.next_down()), deliver],
+    ];
+    lists.map(|list| of(&[2.0, 1.0], &list)).into()
 }
 
 /// A draw, a queue number, a delivered and a withdrawn request are given back.
 fn undos() -> Vec<Session> {
     let (new, set, start) = (table_clock(), constant(1, 0.5, 0.0), reschedule(0.0));
     let (undo, deliver) = (Command::Undo, Command::Deliver);
-    let stream = [2.0, 1.0];
-    let other = constant(2, 0.5, 0.0);
-    vec![
-        of(&stream, &[new, set, undo, set, start, undo, other, start]),
-        of(
-            &stream,
-            &[
-                new,
-                set,
-                start,
-                deliver,
-                undo,
-                deliver,
-                undo,
-                pause(1.0),
-                undo,
-                deliver,
-            ],
-        ),
-        of(
-            &stream,
-            &[
-                new,
-                set,
-                start,
-                remove(1),
-                start,
-                undo,
-                undo,
-                start,
-                deliver,
-            ],
-        ),
-        of(
-            &stream,
-            &[new, set, start, undo, undo, undo, undo, new, set, start],
-        ),
-        numbers_given_back(),
-    ]
+    let (other, pause, remove) = (constant(2, 0.5, 0.0), pause(1.0), remove(1));
+    let again = [deliver, undo, deliver, undo, pause, undo, deliver];
+    let lists = [
+        vec![new, set, undo, set, start, undo, other, start],
+        [&[new, set, start][..], &again].concat(),
+        vec![new, set, start, remove, start, undo, undo, start, deliver],
+        vec![new, set, start, undo, undo, undo, undo, new, set, start],
+    ];
+    let mut all: Vec<Session> = lists.map(|list| of(&[2.0, 1.0], &list)).into();
+    all.push(numbers_given_back());
+    all
 }
 
 /// Two clocks with the same ticks and priority: the one that asked first is delivered first.
@@ -197,154 +141,4 @@ fn sixteen_clocks() -> Vec<Session> {
         ..of(&[2.0; 16], commands)
     };
     vec![whole(&delivers), whole(&undos)]
-}
-
-/// 12, 11, 9, 4, 5, 7, 8, 6, 10, 15, 14, then 2.
-fn refusals() -> Session {
-    let bytes = |command: Command| command.to_bytes();
-    let changed = |command: Command, at: usize, byte: u8| {
-        let mut bytes = command.to_bytes();
-        bytes[at] = byte;
-        bytes
-    };
-    let mut inputs = vec![
-        bytes(Command::Undo),
-        bytes(Command::Deliver),
-        bytes(remove(1)),
-        changed(table_clock(), 10, 2),
-        changed(table_clock(), 19, 0xFF),
-        changed(pause(1.0), 1, 16),
-        bytes(table_clock()),
-        bytes(table_clock()),
-        changed(constant(1, 0.5, 0.0), 27, 1),
-    ];
-    inputs.extend((0..9).map(|cause| bytes(constant(cause, 0.5, 0.0))));
-    let last = [
-        Command::Undo,
-        constant(9, 0.5, 0.0),
-        remove(9),
-        constant(9, 0.5, 0.0),
-    ];
-    inputs.extend(last.map(bytes));
-    inputs.extend([
-        bytes(reschedule(0.0)),
-        bytes(constant(9, 0.5, 0.0)),
-        vec![0xFF, 1],
-    ]);
-    session(&[1.0; 8], 1450, &inputs)
-}
-
-/// A threshold that a draw refuses, first and after others.
-fn bad_thresholds() -> Vec<Session> {
-    let bad = [f64::NAN, f64::INFINITY, -1.0, 1024.0f64.next_up()];
-    let set = |cause| constant(cause, 0.5, 0.0);
-    let commands = [
-        table_clock(),
-        set(1),
-        set(2),
-        Command::Undo,
-        set(3),
-        reschedule(0.0),
-    ];
-    let first = bad.map(|w| of(&[w, 1.0], &commands));
-    let second = bad.map(|w| of(&[1.0, w], &commands));
-    first.into_iter().chain(second).collect()
-}
-
-/// Ends of a run: unknown codes, cut commands, nothing at all.
-fn ends() -> Vec<Session> {
-    let mut all = vec![session(&[], 0, &[]), session(&[1.0], 9, &[])];
-    for code in [0, 9, 18, 255] {
-        all.push(session(&[], 60, &[table_clock().to_bytes(), vec![code, 7]]));
-    }
-    let commands = [
-        table_clock(),
-        constant(1, 0.5, 0.0),
-        remove(1),
-        reschedule(0.0),
-        pause(1.0),
-        resume(1.0),
-    ];
-    for command in commands {
-        let bytes = command.to_bytes();
-        for kept in [1, bytes.len() - 1] {
-            let cut = bytes[..kept].to_vec();
-            all.push(session(&[], 60, &[table_clock().to_bytes(), cut]));
-        }
-    }
-    all
-}
-
-/// Answers, stream and result of other lengths than are asked for.
-fn lengths() -> Vec<Session> {
-    let whole = of(
-        &[2.0],
-        &[table_clock(), constant(1, 0.5, 0.0), reschedule(0.0)],
-    );
-    let mut all = Vec::new();
-    for answers in [0, 31, 32, 95, 96, 97] {
-        all.push(Session {
-            answers,
-            ..whole.clone()
-        });
-    }
-    for result in [0, 15, 17, 32] {
-        all.push(Session {
-            result,
-            ..whole.clone()
-        });
-    }
-    for cut in [1, 7] {
-        let mut other = whole.clone();
-        other.stream.resize(8 + cut, 0);
-        all.push(other.clone());
-        all.push(Session {
-            result: 15,
-            ..other
-        });
-    }
-    all.push(Session {
-        commands: vec![0],
-        answers: 31,
-        ..whole
-    });
-    all
-}
-
-/// Journals that a command just fits or does not; room that is freed serves again.
-fn journals() -> Vec<Session> {
-    let (new, set, start) = (table_clock(), constant(1, 0.5, 0.0), reschedule(0.0));
-    let other = Command::Create(Create {
-        clock: 15,
-        ..create(0, 2, 0.0)
-    });
-    let (undo, deliver) = (Command::Undo, Command::Deliver);
-    let list = [
-        new,
-        other,
-        undo,
-        other,
-        set,
-        start,
-        deliver,
-        undo,
-        pause(0.0),
-        deliver,
-    ];
-    let lengths = [
-        0, 1, 32, 33, 34, 65, 66, 188, 189, 211, 212, 213, 222, 223, 224,
-    ];
-    let with = |journal| Session {
-        journal,
-        ..of(&[], &list)
-    };
-    let drawn = |journal| Session {
-        journal,
-        ..of(&[2.0], &list)
-    };
-    lengths
-        .map(with)
-        .into_iter()
-        .chain(lengths.map(drawn))
-        .collect()
 }

@@ -37,7 +37,7 @@ pub fn create(random: &mut Random, style: Style, clock: u8) -> Create {
         tie: random.below(3) as u8,
         scale: scale(random, style),
         has_entity: has_entity as u8,
-        entity_index: has_entity * random.word() >> random.below(64),
+        entity_index: (has_entity * random.word()) >> random.below(64),
         generation: (has_entity * random.below(1 << 32)) as u32,
     }
 }

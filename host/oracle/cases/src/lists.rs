@@ -5,7 +5,8 @@ use crate::evaluations::EvaluationCase;
 use crate::random::Random;
 use crate::samples::SampleCase;
 use crate::sessions::Session;
-use crate::{chosen, chosen_histories, chosen_sessions, clock_histories, random_sessions};
+use crate::{chosen, chosen_histories, chosen_sessions, refused_sessions};
+use crate::{clock_histories, random_sessions};
 
 pub const EVALUATION_SEED: u64 = 0x4F6C_6761_656D_7572;
 pub const EVALUATION_COUNT: usize = 3000;
@@ -69,6 +70,7 @@ pub fn clock_step_bytes(steps: &[ClockStep]) -> Vec<u8> {
 pub fn sessions() -> Vec<Session> {
     let mut random = Random::new(SESSION_SEED);
     let mut sessions = chosen_sessions::sessions();
+    sessions.extend(refused_sessions::sessions());
     sessions.resize_with(SESSION_COUNT, || random_sessions::session(&mut random));
     sessions
 }

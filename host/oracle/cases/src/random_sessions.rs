@@ -3,13 +3,12 @@
 use crate::clock_histories::command_time;
 use crate::command_damage::damage;
 use crate::commands::{self, View};
-use crate::floats::{Style, not_a_threshold, style, threshold};
+use crate::floats::{Style, style};
 use crate::random::Random;
+use crate::session_buffers::{buffers, journal_length, spoil, stream};
 use crate::sessions::{BUFFER_LIMIT, Session, command_count};
-use kairo_ecs_rng::{DeterministicStream, THRESHOLD_BYTES};
-use reference::answer::ANSWER_BYTES;
-use reference::batch::RESULT_BYTES;
-use reference::command::{Command, UNDO, width};
+use kairo_ecs_rng::DeterministicStream;
+use reference::command::Command;
 use reference::execute::execute;
 use reference::fields::time_in_range;
 use reference::state::{State, open};
@@ -17,7 +16,7 @@ use reference::state::{State, open};
 /// What a session is like; shares are in percent.
 struct Plan {
     style: Style,
-    /// Clocks 0 up to this one are named.
+    /// Clocks below this number are named.
     clocks: u64,
     commands: usize,
     undo: u64,
@@ -25,6 +24,8 @@ struct Plan {
     damage: u64,
     /// The scale of all clocks, if they share one: a small one gives them the same ticks.
     scale: Option<f64>,
+    /// How likely a clock without a scheduled event is given one.
+    queue: u64,
     /// Channels that a clock is given before anything else is likely.
     channels: usize,
 }
@@ -42,6 +43,7 @@ fn plan(random: &mut Random) -> Plan {
         deliver: random.pick(&[3, 6, 15]),
         damage: random.pick(&[0, 0, 3, 10]),
         scale: random.pick(&[None, None, Some(1.0), Some(0.125), Some(0.01)]),
+        queue: random.pick(&[0, 30, 80]),
         channels: random.pick(&[1, 1, 1, 2, 3, 9]),
     }
 }
@@ -167,6 +169,9 @@ fn name(random: &mut Random, plan: &Plan, builder: &Builder) -> u8 {
 }
 
 fn aimed(random: &mut Random, plan: &Plan, view: &View) -> Command {
+    if view.clock.scheduled_event_id.is_none() && random.chance(plan.queue) {
+        return Command::Reschedule(commands::reschedule(random, view));
+    }
     let room = view.due.is_some() || random.chance(10);
     if view.clock.channels.len() < plan.channels && room && random.chance(80) {
         Command::Set(commands::set_new(random, view))
@@ -179,73 +184,4 @@ fn create(random: &mut Random, plan: &Plan, name: u8) -> Command {
     let mut create = commands::create(random, plan.style, name);
     create.scale = plan.scale.unwrap_or(create.scale);
     Command::Create(create)
-}
-
-/// Thresholds of the style, few or many, some of them bad.
-fn stream(random: &mut Random, style: Style) -> Vec<u8> {
-    let length = random.pick(&[0, 1, 2, 5, 16, 40, 40, 64, 64, 64]);
-    let bad = random.pick(&[0, 0, 0, 2, 10]);
-    let mut one = |_| {
-        if random.chance(bad) {
-            not_a_threshold(random)
-        } else {
-            threshold(random, style)
-        }
-    };
-    (0..length).flat_map(|n| one(n).to_le_bytes()).collect()
-}
-
-fn journal_length(random: &mut Random) -> usize {
-    match random.below(12) {
-        0 => random.index(40),
-        1 => random.index(400),
-        2 => random.index(1500),
-        _ => 1500 + random.index(BUFFER_LIMIT - 1499),
-    }
-}
-
-/// A code off the list or a cut command, at the end or before it.
-fn spoil(random: &mut Random, commands: &mut Vec<u8>) {
-    match random.below(4) {
-        0 => commands.push(0),
-        1 => commands.push(random.byte_from(UNDO + 1)),
-        2 => {
-            let kept = random.index(commands.len() + 1);
-            commands.truncate(kept);
-        }
-        _ => {
-            let code = 1 + random.below(6) as u8;
-            let cut = random.index(width(code).expect("a code of the table"));
-            commands.push(code);
-            commands.extend((1..cut).map(|_| random.word() as u8));
-        }
-    }
-    commands.truncate(BUFFER_LIMIT);
-}
-
-/// Mostly room for every answer; some streams and results that 18 refuses.
-fn buffers(random: &mut Random, commands: Vec<u8>, mut stream: Vec<u8>, journal: usize) -> Session {
-    let needed = command_count(&commands) * ANSWER_BYTES;
-    let answers = match random.below(10) {
-        0 => random.index(needed + 1),
-        1 => needed.saturating_sub(1),
-        2..6 => needed,
-        _ => needed + random.index(100),
-    };
-    if random.chance(3) {
-        let cut = 1 + random.index(THRESHOLD_BYTES - 1);
-        stream.resize(stream.len() + cut, 0);
-    }
-    let result = if random.chance(3) {
-        random.pick(&[0, 1, 8, 15, 17, 24, 32])
-    } else {
-        RESULT_BYTES
-    };
-    Session {
-        commands,
-        stream,
-        journal,
-        answers: answers.min(BUFFER_LIMIT),
-        result,
-    }
 }

@@ -136,5 +136,5 @@ fn an_opened_engine_refuses_nothing_by_1_or_13() {
             most = most.max(engine.state.scheduler.queue.len());
         }
     }
-    assert!((8..=QUEUE).contains(&most));
+    assert!((8..=QUEUE).contains(&most), "{most}");
 }

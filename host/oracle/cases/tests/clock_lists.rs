@@ -3,7 +3,7 @@
 mod common;
 
 use cases::clock_steps::{ClockStep, RECORD_BYTES};
-use cases::{lists, tally};
+use cases::{command_tally, lists};
 use common::{checksum, numbers};
 use kairo_ecs_des::SurvivalClock;
 use kairo_ecs_rng::CauseId;
@@ -57,7 +57,7 @@ fn layout_of_a_clock(clock: &[u8]) {
 #[test]
 fn only_three_refusals_are_among_the_steps() {
     assert_eq!(
-        numbers(&tally::clock_steps(&lists::clock_steps())),
+        numbers(&command_tally::clock_steps(&lists::clock_steps())),
         [10, 15, 16]
     );
 }
@@ -125,7 +125,10 @@ fn every_kind_and_count_is_set() {
 fn ties_are_decided_by_every_tie_choice() {
     let decided: BTreeSet<u8> = lists::clock_steps()
         .iter()
-        .filter(|step| step.answer.delta > 0.0 && tally::step_decided_by_tie(step))
+        .filter(|step| {
+            step.answer.delta > 0.0
+                && command_tally::decided_by_tie(&step.after, &step.command, &step.answer)
+        })
         .map(|step| number_of(&TIES, &step.after.tie_breaker))
         .collect();
     assert_eq!(decided, BTreeSet::from([0, 1, 2]));

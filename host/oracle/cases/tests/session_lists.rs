@@ -3,7 +3,7 @@
 mod common;
 
 use cases::sessions::{BUFFER_LIMIT, COMMAND_LIMIT, Session, command_count};
-use cases::{lists, tally};
+use cases::{command_tally, lists};
 use common::{checksum, numbers};
 use reference::command::NAMES;
 use reference::command_fields::CLOCKS;
@@ -13,7 +13,7 @@ use std::collections::BTreeSet;
 fn sessions_are_the_same_each_time() {
     let bytes = lists::session_bytes(&lists::sessions());
     assert_eq!(bytes, lists::session_bytes(&lists::sessions()));
-    assert_eq!(checksum(&bytes), 0);
+    assert_eq!(checksum(&bytes), 0x5791_7285_A0D9_C2A0);
 }
 
 /// Row 9 comes first: CREATE, SET, RESCHEDULE over the thresholds 2.0 and 1.0.
@@ -57,11 +57,12 @@ fn no_session_is_longer_than_its_limits() {
 /// All but 1 and 13, which a run from opening never gives.
 #[test]
 fn every_refusal_is_among_the_sessions() {
-    let tally = tally::sessions(&lists::sessions());
+    let tally = command_tally::sessions(&lists::sessions());
     let expected = (2..=18).filter(|number| *number != 13);
     assert_eq!(numbers(&tally), expected.collect::<Vec<u8>>());
     assert!(NAMES[1..].iter().all(|name| tally.inputs[name] >= 100));
     assert!(tally.answers["undone"] >= 500);
+    assert!(tally.answers["decided by the tie choice"] >= 20);
     for rule in ["ticks", "priority", "index"] {
         let name = format!("delivered by {rule}");
         assert!(tally.answers[name.as_str()] >= 10, "{name}");
@@ -93,8 +94,9 @@ fn all_sixteen_clocks_are_present_and_queued_at_once() {
         last.is_some_and(|state| state.clocks.iter().flatten().count() == CLOCKS)
     };
     assert!(some(present) >= 5);
-    let most = lists::sessions().iter().flat_map(Session::steps);
-    let most = most.map(|step| step.before.scheduler.queue.len()).max();
+    let sessions = lists::sessions();
+    let steps = sessions.iter().flat_map(Session::steps);
+    let most = steps.map(|step| step.before.scheduler.queue.len()).max();
     assert_eq!(most, Some(CLOCKS));
 }
 

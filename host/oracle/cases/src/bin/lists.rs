@@ -1,6 +1,6 @@
 //! Writes the fixed lists to a folder and prints their counts.
 
-use cases::{lists, tally};
+use cases::{command_tally, lists, tally};
 use std::path::Path;
 use std::process::ExitCode;
 use std::{env, fs, io};
@@ -55,7 +55,7 @@ fn write_clock_steps(folder: &Path) -> io::Result<()> {
         lists::clock_step_bytes(&steps),
     )?;
     let (count, seed, thresholds) = (steps.len(), lists::CLOCK_SEED, stream.len() / 8);
-    let tally = tally::clock_steps(&steps);
+    let tally = command_tally::clock_steps(&steps);
     println!("clock_stream.bin: {thresholds} thresholds");
     println!("clock_steps.bin: {count} steps, seed {seed:#x}; {tally}");
     Ok(())
@@ -66,7 +66,7 @@ fn write_sessions(folder: &Path) -> io::Result<()> {
     let bytes = lists::session_bytes(&sessions);
     fs::write(folder.join("sessions.bin"), &bytes)?;
     let (count, seed, length) = (sessions.len(), lists::SESSION_SEED, bytes.len());
-    let tally = tally::sessions(&sessions);
+    let tally = command_tally::sessions(&sessions);
     println!("sessions.bin: {count} sessions, {length} bytes, seed {seed:#x}; {tally}");
     Ok(())
 }
