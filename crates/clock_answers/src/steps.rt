@@ -35,28 +35,62 @@ fn policy_of(policy: u8) -> HazardInterruptionPolicy {
 }
 
 fn created(case: &[u8]) -> SurvivalClock {
-    let entity = EntityId { index: u64_at(case, 21), generation: u32_at(case, 29) };
+    let entity = EntityId {
+        index: u64_at(case, 21),
+        generation: u32_at(case, 29),
+    };
     let policy = policy_of(byte_at(case, 10));
     let tie = hazards::ties::tie_breaker(byte_at(case, 11));
-    SurvivalClock::new(u64_at(case, 2), byte_at(case, 20) == 1, entity, policy, tie, f64_at(case, 12))
+    SurvivalClock::new(
+        u64_at(case, 2),
+        byte_at(case, 20) == 1,
+        entity,
+        policy,
+        tie,
+        f64_at(case, 12),
+    )
 }
 
 pub fn start() -> Played {
     let clock = created(b"");
-    Played { clock, ticks: Ticks { low: 0, high: 0 }, answer: hazards::answers::no_event(0), position: 0 }
+    Played {
+        clock,
+        ticks: Ticks { low: 0, high: 0 },
+        answer: hazards::answers::no_event(0),
+        position: 0,
+    }
 }
 
 fn setting_of(case: &[u8]) -> CauseSetting {
     let ends = probe::floats_at(case, 28);
     let rates = probe::floats_at(case, 36);
-    let fields = HazardFields { kind: byte_at(case, 10), first: f64_at(case, 11), count: byte_at(case, 27), ends, rates };
+    let fields = HazardFields {
+        kind: byte_at(case, 10),
+        first: f64_at(case, 11),
+        count: byte_at(case, 27),
+        ends,
+        rates,
+    };
     let hazard = fields.hazard();
-    let intervals = Intervals { ends, rates, count: byte_at(case, 27) as usize };
-    CauseSetting { cause_id: u32_at(case, 2), priority: u32_at(case, 6), hazard, intervals, now: f64_at(case, 19) }
+    let intervals = Intervals {
+        ends,
+        rates,
+        count: byte_at(case, 27) as usize,
+    };
+    CauseSetting {
+        cause_id: u32_at(case, 2),
+        priority: u32_at(case, 6),
+        hazard,
+        intervals,
+        now: f64_at(case, 19),
+    }
 }
 
 fn censor_of(case: &[u8]) -> Censor {
-    Censor { present: byte_at(case, 10) == 1, time: f64_at(case, 11) }
+    Censor {
+        present: byte_at(case, 10) == 1,
+        time: f64_at(case, 11),
+    }
 }
 
 // The answer to a step: what was realized, what was withdrawn, and the ticks of the request.
@@ -78,30 +112,66 @@ fn after_schedule(r: Rescheduled, position: usize) -> Played {
     let clock = r.clock;
     let ticks = r.ticks;
     let answer = answer_of(r.event, r.withdrawn.present, ticks);
-    Played { clock, ticks, answer, position }
+    Played {
+        clock,
+        ticks,
+        answer,
+        position,
+    }
 }
 
-fn after_set(clock: SurvivalClock, ticks: Ticks, case: &[u8], stream: &[u8], position: usize) -> Played {
+fn after_set(
+    clock: SurvivalClock,
+    ticks: Ticks,
+    case: &[u8],
+    stream: &[u8],
+    position: usize,
+) -> Played {
     let set = clocks::setting::set_channel(clock, setting_of(case), stream, position);
     let after = set.clock;
-    Played { clock: after, ticks, answer: hazards::answers::no_event(set.number), position: set.position }
+    Played {
+        clock: after,
+        ticks,
+        answer: hazards::answers::no_event(set.number),
+        position: set.position,
+    }
 }
 
 fn after_pause(clock: SurvivalClock, ticks: Ticks, now: f64, position: usize) -> Played {
     let paused = clocks::scheduling::pause(clock, now);
     let after = paused.clock;
-    let nothing = RealizedEvent { present: false, winning_cause: 0, delta_time: 0.0, is_censored: false };
-    Played { clock: after, ticks, answer: answer_of(nothing, paused.withdrawn.present, ticks), position }
+    let nothing = RealizedEvent {
+        present: false,
+        winning_cause: 0,
+        delta_time: 0.0,
+        is_censored: false,
+    };
+    Played {
+        clock: after,
+        ticks,
+        answer: answer_of(nothing, paused.withdrawn.present, ticks),
+        position,
+    }
 }
 
 fn after_delivery(clock: SurvivalClock, ticks: Ticks, position: usize) -> Played {
     let dispatched = clocks::scheduling::on_event_dispatched(clock);
     let after = dispatched.clock;
-    Played { clock: after, ticks, answer: answer_of(dispatched.event, false, ticks), position }
+    Played {
+        clock: after,
+        ticks,
+        answer: answer_of(dispatched.event, false, ticks),
+        position,
+    }
 }
 
 fn idle(clock: SurvivalClock, ticks: Ticks, position: usize) -> Played {
-    Played { clock, ticks, answer: hazards::answers::no_event(0), position }
+    Played {
+        clock,
+        ticks,
+        answer: hazards::answers::no_event(0),
+        position,
+    }
 }
 
 pub fn play(played: Played, case: &[u8], stream: &[u8]) -> Played {
@@ -115,9 +185,15 @@ pub fn play(played: Played, case: &[u8], stream: &[u8]) -> Played {
         1 => idle(created(case), ticks, position),
         2 => after_set(clock, ticks, case, stream, position),
         3 => idle(clock.remove_channel(u32_at(case, 2)), ticks, position),
-        4 => after_schedule(clocks::scheduling::reschedule(clock, now, censor_of(case), index), position),
+        4 => after_schedule(
+            clocks::scheduling::reschedule(clock, now, censor_of(case), index),
+            position,
+        ),
         5 => after_pause(clock, ticks, now, position),
-        6 => after_schedule(clocks::scheduling::resume(clock, now, censor_of(case), index), position),
+        6 => after_schedule(
+            clocks::scheduling::resume(clock, now, censor_of(case), index),
+            position,
+        ),
         _ => after_delivery(clock, ticks, position),
     }
 }

@@ -55,8 +55,8 @@ scheduledFor k now event index =
     cond (event .present)
     (record {
       clock =
-        withSchedule k (record { present = true; index = index })
-        (record { present = true; «cause_id» = event .«winning_cause»; time = at }) true now;
+          withSchedule k (record { present = true; index = index })
+          (record { present = true; «cause_id» = event .«winning_cause»; time = at }) true now;
       withdrawn = k .«scheduled_event»;
       event = event;
       ticks = ticksAt now (event .«delta_time») (k .«tick_scale»);
@@ -78,8 +78,8 @@ pause k now =
     cond (k .«is_active»)
     (record {
       clock =
-        withSchedule (withChannels k (onUsed (settled now) (k .«channel_count») (k .channels)) (k .«channel_count»))
-        notScheduled (k .«current_winner») false now;
+          withSchedule (withChannels k (onUsed (settled now) (k .«channel_count») (k .channels)) (k .«channel_count»))
+          notScheduled (k .«current_winner») false now;
       withdrawn = k .«scheduled_event»;
     })
     (record { clock = k; withdrawn = notScheduled })
@@ -97,7 +97,7 @@ onEventDispatched k =
     record {
       clock = withSchedule k notScheduled noWinner false (k .«last_update_time»);
       event =
-        cond (w .present)
-        (realized (w .«cause_id») (notBelowZero (sub binary64 (w .time) (k .«last_update_time»))) (eqb (w .«cause_id») noCause))
-        notRealized;
+          cond (w .present)
+          (realized (w .«cause_id») (notBelowZero (sub binary64 (w .time) (k .«last_update_time»))) (eqb (w .«cause_id») noCause))
+          notRealized;
     }

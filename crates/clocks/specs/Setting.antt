@@ -56,7 +56,7 @@ setAgain k s stream position at =
     (record {
       number = 0;
       clock =
-        withChannels k (set (k .channels) at (channelOf s accumulated (old .«target_threshold»))) (k .«channel_count»);
+          withChannels k (set (k .channels) at (channelOf s accumulated (old .«target_threshold»))) (k .«channel_count»);
       position = position;
     })
 

@@ -17,7 +17,11 @@ pub struct HazardChannelState {
 pub fn empty_intervals() -> Intervals
     ensures { λ r. ⌜ r ≡ emptyIntervals ⌝ }
 {
-    Intervals { ends: [0.0; 8], rates: [0.0; 8], count: 0 }
+    Intervals {
+        ends: [0.0; 8],
+        rates: [0.0; 8],
+        count: 0,
+    }
 }
 
 // What an unused place holds.

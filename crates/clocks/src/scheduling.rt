@@ -1,6 +1,8 @@
 // reschedule, pause, resume and on_event_dispatched of hazard_clock.rs, with what each asks of the engine's queue.
 ghost use mathlib.Core.Path.{_≡_};
-ghost use Rattle.clocks.specs.Scheduling.{notRealized, realized, finalEvent, scheduledFor, reschedule, pause, resume, onEventDispatched};
+ghost use Rattle.clocks.specs.Clocks.{notScheduled};
+ghost use Rattle.clocks.specs.Scheduling.{notRealized, realized, finalEvent, scheduledFor};
+ghost use Rattle.clocks.specs.Scheduling.{reschedule, pause, resume, onEventDispatched};
 use crate::clocks::ScheduledEvent;
 use crate::clocks::SurvivalClock;
 use crate::clocks::Winner;
@@ -39,16 +41,35 @@ pub struct Dispatched {
     pub event: RealizedEvent,
 }
 
+fn not_scheduled() -> ScheduledEvent
+    ensures { λ r. ⌜ r ≡ notScheduled ⌝ }
+{
+    ScheduledEvent {
+        present: false,
+        index: 0,
+    }
+}
+
 fn not_realized() -> RealizedEvent
     ensures { λ r. ⌜ r ≡ notRealized ⌝ }
 {
-    RealizedEvent { present: false, winning_cause: 0, delta_time: 0.0, is_censored: false }
+    RealizedEvent {
+        present: false,
+        winning_cause: 0,
+        delta_time: 0.0,
+        is_censored: false,
+    }
 }
 
 fn realized(winning_cause: u32, delta_time: f64, is_censored: bool) -> RealizedEvent
     ensures { λ r. ⌜ r ≡ realized «winning_cause» «delta_time» «is_censored» ⌝ }
 {
-    RealizedEvent { present: true, winning_cause, delta_time, is_censored }
+    RealizedEvent {
+        present: true,
+        winning_cause,
+        delta_time,
+        is_censored,
+    }
 }
 
 // Without a candidate a censor time from now on is answered.
@@ -89,17 +110,34 @@ fn scheduled_for(clock: SurvivalClock, now: f64, event: RealizedEvent, index: u6
     let mut after = clock;
     after.last_update_time = now;
     if !event.present {
-        let none = ScheduledEvent { present: false, index: 0 };
+        let none = not_scheduled();
         after.scheduled_event = none;
-        return Rescheduled { clock: after, withdrawn, event, ticks: Ticks { low: 0, high: 0 } };
+        return Rescheduled {
+            clock: after,
+            withdrawn,
+            event,
+            ticks: Ticks { low: 0, high: 0 },
+        };
     }
-    let scheduled = ScheduledEvent { present: true, index };
-    let winner = Winner { present: true, cause_id: event.winning_cause, time: now + event.delta_time };
+    let scheduled = ScheduledEvent {
+        present: true,
+        index,
+    };
+    let winner = Winner {
+        present: true,
+        cause_id: event.winning_cause,
+        time: now + event.delta_time,
+    };
     after.scheduled_event = scheduled;
     after.current_winner = winner;
     after.is_active = true;
     let ticks = crate::ticks::ticks_at(now, event.delta_time, clock.tick_scale);
-    Rescheduled { clock: after, withdrawn, event, ticks }
+    Rescheduled {
+        clock: after,
+        withdrawn,
+        event,
+        ticks,
+    }
 }
 
 // Nothing is settled. `index` is that of the next request.
@@ -114,16 +152,22 @@ pub fn reschedule(clock: SurvivalClock, now: f64, censor: Censor, index: u64) ->
 pub fn pause(clock: SurvivalClock, now: f64) -> Paused
     ensures { λ r. ⌜ r ≡ pause clock now ⌝ }
 {
-    let none = ScheduledEvent { present: false, index: 0 };
+    let none = not_scheduled();
     if !clock.is_active {
-        return Paused { clock, withdrawn: none };
+        return Paused {
+            clock,
+            withdrawn: none,
+        };
     }
     let withdrawn = clock.scheduled_event;
-    let mut after = clock.settled(now);
-    after.scheduled_event = none;
-    after.is_active = false;
-    after.last_update_time = now;
-    Paused { clock: after, withdrawn }
+    let mut paused = clock.settled(now);
+    paused.scheduled_event = none;
+    paused.is_active = false;
+    paused.last_update_time = now;
+    Paused {
+        clock: paused,
+        withdrawn,
+    }
 }
 
 // Every channel starts a new interval, and the clock is rescheduled.
@@ -138,16 +182,26 @@ pub fn on_event_dispatched(clock: SurvivalClock) -> Dispatched
     ensures { λ r. ⌜ r ≡ onEventDispatched clock ⌝ }
 {
     let winner = clock.current_winner;
-    let none = ScheduledEvent { present: false, index: 0 };
-    let no_winner = Winner { present: false, cause_id: 0, time: 0.0 };
-    let mut after = clock;
-    after.scheduled_event = none;
-    after.current_winner = no_winner;
-    after.is_active = false;
+    let none = not_scheduled();
+    let no_winner = Winner {
+        present: false,
+        cause_id: 0,
+        time: 0.0,
+    };
+    let mut idle = clock;
+    idle.scheduled_event = none;
+    idle.current_winner = no_winner;
+    idle.is_active = false;
     if !winner.present {
-        return Dispatched { clock: after, event: not_realized() };
+        return Dispatched {
+            clock: idle,
+            event: not_realized(),
+        };
     }
     let delta = not_below_zero(winner.time - clock.last_update_time);
     let censored = winner.cause_id == NO_CAUSE;
-    Dispatched { clock: after, event: realized(winner.cause_id, delta, censored) }
+    Dispatched {
+        clock: idle,
+        event: realized(winner.cause_id, delta, censored),
+    }
 }

@@ -1,7 +1,7 @@
 // set_channel of hazard_clock.rs: adds a cause or sets it again, with its draw; a refusal changes nothing.
 ghost use mathlib.Core.Path.{_≡_};
 ghost use Prim.Native.Nat.{_≤_};
-ghost use Rattle.clocks.specs.Setting.{channelOf, drawsAgain, notSet, setAgain, setNew, setChannel};
+ghost use Rattle.clocks.specs.Setting.{channelOf, drawsAgain, setAgain, setNew, setChannel};
 use crate::channels::HazardChannelState;
 use crate::clocks::HazardInterruptionPolicy;
 use crate::clocks::SurvivalClock;
@@ -50,7 +50,13 @@ fn draws_again(policy: HazardInterruptionPolicy, accumulated: f64, threshold: f6
 }
 
 // A cause that the clock has, at its place.
-fn set_again(clock: SurvivalClock, setting: CauseSetting, stream: &[u8], position: usize, at: usize) -> ChannelSet
+fn set_again(
+    clock: SurvivalClock,
+    setting: CauseSetting,
+    stream: &[u8],
+    position: usize,
+    at: usize,
+) -> ChannelSet
     requires { ⌜ at ≤ 7 ⌝ }
     ensures { λ r. ⌜ r ≡ setAgain clock setting (now (stream .entry)) position at ⌝ }
 {
@@ -60,34 +66,69 @@ fn set_again(clock: SurvivalClock, setting: CauseSetting, stream: &[u8], positio
     if !draws_again(clock.policy, accumulated, old.target_threshold) {
         let kept = channel_of(setting, accumulated, old.target_threshold);
         after.channels[at] = kept;
-        return ChannelSet { number: 0, clock: after, position };
+        return ChannelSet {
+            number: 0,
+            clock: after,
+            position,
+        };
     }
     let drawn = hazards::draws::draw_from(stream, position);
     if drawn.number != 0 {
-        return ChannelSet { number: drawn.number, clock, position };
+        return ChannelSet {
+            number: drawn.number,
+            clock,
+            position,
+        };
     }
     let fresh = channel_of(setting, 0.0, drawn.threshold);
     after.channels[at] = fresh;
-    ChannelSet { number: 0, clock: after, position: drawn.position }
+    ChannelSet {
+        number: 0,
+        clock: after,
+        position: drawn.position,
+    }
 }
 
 // A cause that is new to the clock; a ninth is refused.
-fn set_new(clock: SurvivalClock, setting: CauseSetting, stream: &[u8], position: usize, at: usize) -> ChannelSet
-    requires { ⌜ at ≤ 7 ⌝ }
+fn set_new(
+    clock: SurvivalClock,
+    setting: CauseSetting,
+    stream: &[u8],
+    position: usize,
+    at: usize,
+) -> ChannelSet
+    requires { ⌜ at ≤ clock .«channel_count» ⌝ }
     ensures { λ r. ⌜ r ≡ setNew clock setting (now (stream .entry)) position at ⌝ }
 {
     if clock.channel_count >= 8 {
-        return ChannelSet { number: hazards::refusals::TOO_MANY_CAUSES, clock, position };
+        return ChannelSet {
+            number: hazards::refusals::TOO_MANY_CAUSES,
+            clock,
+            position,
+        };
     }
     let drawn = hazards::draws::draw_from(stream, position);
     if drawn.number != 0 {
-        return ChannelSet { number: drawn.number, clock, position };
+        return ChannelSet {
+            number: drawn.number,
+            clock,
+            position,
+        };
     }
-    let fresh = channel_of(setting, 0.0, drawn.threshold);
-    ChannelSet { number: 0, clock: clock.inserted(at, fresh), position: drawn.position }
+    let channel = channel_of(setting, 0.0, drawn.threshold);
+    ChannelSet {
+        number: 0,
+        clock: clock.inserted(at, channel),
+        position: drawn.position,
+    }
 }
 
-pub fn set_channel(clock: SurvivalClock, setting: CauseSetting, stream: &[u8], position: usize) -> ChannelSet
+pub fn set_channel(
+    clock: SurvivalClock,
+    setting: CauseSetting,
+    stream: &[u8],
+    position: usize,
+) -> ChannelSet
     ensures { λ r. ⌜ r ≡ setChannel clock setting (now (stream .entry)) position ⌝ }
 {
     let at = clock.place_of(setting.cause_id);

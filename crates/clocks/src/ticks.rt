@@ -31,13 +31,22 @@ fn shifted(digits: u64, e: u64) -> Ticks
     ensures { λ r. ⌜ r .low + 2 ^ 64 * r .high ≡ digits * 2 ^ e ⌝ }
 {
     if e <= 11 {
-        return Ticks { low: digits * power_of_two(e), high: 0 };
+        return Ticks {
+            low: digits * power_of_two(e),
+            high: 0,
+        };
     }
     if e < 64 {
         let unit = power_of_two(64 - e);
-        return Ticks { low: (digits % unit) * power_of_two(e), high: digits / unit };
+        return Ticks {
+            low: (digits % unit) * power_of_two(e),
+            high: digits / unit,
+        };
     }
-    Ticks { low: 0, high: digits * power_of_two(e - 64) }
+    Ticks {
+        low: 0,
+        high: digits * power_of_two(e - 64),
+    }
 }
 
 // The float of these bits is (2^52 + fraction) * 2^(exponent - 1075), or below 0.5, or 2^128 or more, or negative or a NaN.
@@ -53,11 +62,17 @@ fn ticks_of_bits(bits: u64) -> Ticks
         return Ticks { low: 0, high: 0 };
     }
     if exponent > 1150 {
-        return Ticks { low: 0xffff_ffff_ffff_ffff, high: 0xffff_ffff_ffff_ffff };
+        return Ticks {
+            low: 0xffff_ffff_ffff_ffff,
+            high: 0xffff_ffff_ffff_ffff,
+        };
     }
     let digits = fraction + 0x10_0000_0000_0000;
     if exponent < 1075 {
-        return Ticks { low: rounded(digits, 1075 - exponent), high: 0 };
+        return Ticks {
+            low: rounded(digits, 1075 - exponent),
+            high: 0,
+        };
     }
     shifted(digits, exponent - 1075)
 }

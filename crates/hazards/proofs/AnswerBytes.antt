@@ -33,12 +33,16 @@ module _ (s : List ℕ) (at : ℕ) (a : Answer) (head : ℕ) (is-head : bytesOf 
   -- the runs of bytes so far
   one : List ℕ
   one = bytesOf 4 head
+
   two : List ℕ
   two = one ++ bytesOf 4 (a .cause)
+
   three : List ℕ
   three = two ++ bytesOf 8 (toBits binary64 (a .delta))
+
   four : List ℕ
   four = three ++ bytesOf 8 (a .«ticks_low»)
+
   five : List ℕ
   five = four ++ bytesOf 8 (a .«ticks_high»)
 

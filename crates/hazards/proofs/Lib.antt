@@ -10,10 +10,12 @@ pub mod HazardBounds
 pub mod Largest
 pub mod Limits
 pub mod ListLaws
+pub mod OrderLaws
 pub mod Overwrite
 pub mod Pairs
 pub mod Patterns
 pub mod Rows
+pub mod SamplerLaws
 pub mod Signed
 pub mod SignedOperations
 pub mod SoundPairs

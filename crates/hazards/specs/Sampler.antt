@@ -38,7 +38,7 @@ faultsOfAll (c ∷ cs) = joined (causeFaults c) (faultsOfAll cs)
 unfoldable pub settingsFaults : SampleSettings → Faults
 settingsFaults s = record {
   choice =
-    ltb 2 (s .tie) || (ltb 1 (s .«has_censor») || (eqb (s .«has_censor») 0 && not (zeroBits (s .«censor_age»))));
+      ltb 2 (s .tie) || (ltb 1 (s .«has_censor») || (eqb (s .«has_censor») 0 && not (zeroBits (s .«censor_age»))));
   range = not (isTime (s .«current_age») && isTime (s .«censor_age»));
   intervals = false;
   identifier = false;

@@ -103,15 +103,44 @@ fn evaluate_unchecked(op: u8, fields: HazardFields, t: f64, w: f64) -> Evaluatio
     let count = fields.count as usize;
     if op == 0 {
         let value = hazards::rates::hazard_at(hazard, &fields.ends, &fields.rates, count, t);
-        return Evaluation { number: 0, found: true, value };
+        return Evaluation {
+            number: 0,
+            found: true,
+            value,
+        };
     }
     if op == 1 {
-        let value = hazards::rates::cumulative_hazard(hazard, &fields.ends, &fields.rates, count, t);
-        return Evaluation { number: 0, found: true, value };
+        let value = hazards::rates::cumulative_hazard(
+            hazard,
+            &fields.ends,
+            &fields.rates,
+            count,
+            t,
+        );
+        return Evaluation {
+            number: 0,
+            found: true,
+            value,
+        };
     }
-    match hazards::rates::invert_cumulative_hazard(hazard, &fields.ends, &fields.rates, count, t, w) {
-        Wait::After(value) => Evaluation { number: 0, found: true, value },
-        Wait::Never => Evaluation { number: 0, found: false, value: 0.0 },
+    match hazards::rates::invert_cumulative_hazard(
+        hazard,
+        &fields.ends,
+        &fields.rates,
+        count,
+        t,
+        w,
+    ) {
+        Wait::After(value) => Evaluation {
+            number: 0,
+            found: true,
+            value,
+        },
+        Wait::Never => Evaluation {
+            number: 0,
+            found: false,
+            value: 0.0,
+        },
     }
 }
 
@@ -142,7 +171,12 @@ pub extern "C" fn probe_evaluate(op: u8, hazard: &[u8], points: &[u8], out: &mut
 
 // The same without the checks.
 #[no_mangle]
-pub extern "C" fn probe_evaluate_unchecked(op: u8, hazard: &[u8], points: &[u8], out: &mut [u8]) -> u64 {
+pub extern "C" fn probe_evaluate_unchecked(
+    op: u8,
+    hazard: &[u8],
+    points: &[u8],
+    out: &mut [u8],
+) -> u64 {
     let fields = hazard_fields(hazard, 0);
     let mut done: u64 = 0;
     let mut at: usize = 0;
@@ -166,7 +200,12 @@ fn put_sampled(out: &mut [u8], at: usize, sampled: Sampled)
 
 // One sample for each position of 8 bytes, while there are positions and room; the number of them. A request is n u8, the settings, 8 causes.
 #[no_mangle]
-pub extern "C" fn probe_sample(request: &[u8], stream: &[u8], positions: &[u8], out: &mut [u8]) -> u64 {
+pub extern "C" fn probe_sample(
+    request: &[u8],
+    stream: &[u8],
+    positions: &[u8],
+    out: &mut [u8],
+) -> u64 {
     let n = byte_at(request, 0) as usize;
     let settings = settings_at(request, 1);
     let causes = causes_at(request, 19);
@@ -175,7 +214,11 @@ pub extern "C" fn probe_sample(request: &[u8], stream: &[u8], positions: &[u8], 
     let mut to: usize = 0;
     while at < positions.len() && to < out.len() {
         let position = u64_at(positions, at) as usize;
-        put_sampled(out, to, hazards::sampler::sample_next(causes, n, settings, stream, position));
+        put_sampled(
+            out,
+            to,
+            hazards::sampler::sample_next(causes, n, settings, stream, position),
+        );
         done += 1;
         at += 8;
         to += 40;

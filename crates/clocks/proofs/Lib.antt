@@ -1,0 +1,9 @@
+pub mod EachChannel
+pub mod EarliestTurns
+pub mod Places
+pub mod Rows
+pub mod SchedulingLaws
+pub mod SettingCases
+pub mod TickRounding
+pub mod TickValues
+pub mod UsedChannels
