@@ -1,5 +1,6 @@
 // Replays the fixed lists of the unchanged Rust's answers to evaluations and samples, and says how many there are and how many differ.
 // The lists' layouts, and how they were made, are in host/README.md.
+ghost use Prim.Native.Nat.{_≤_};
 use hazards::fields::f64_at;
 use hazards::fields::put_u64;
 use hazards::fields::u64_at;
@@ -55,15 +56,27 @@ fn sample_agrees(case: &[u8]) -> bool {
     check::same(&out, &case[1292..1332])
 }
 
-fn print_count(label: &[u8], cases: u64, differing: u64) {
+fn one_unless(agrees: bool) -> u64
+    ensures { λ r. ⌜ r ≤ 1 ⌝ }
+{
+    if agrees { 0 } else { 1 }
+}
+
+// How many cases there were, and how many differ.
+struct Count {
+    cases: u64,
+    differing: u64,
+}
+
+fn print_count(label: &[u8], count: Count) {
     io::write_all(STDOUT_FILENO, label);
-    io::print_decimal(STDOUT_FILENO, cases);
+    io::print_decimal(STDOUT_FILENO, count.cases);
     io::write_all(STDOUT_FILENO, b" cases, ");
-    io::print_decimal(STDOUT_FILENO, differing);
+    io::print_decimal(STDOUT_FILENO, count.differing);
     io::write_all(STDOUT_FILENO, b" differ\n");
 }
 
-fn replay_evaluations(fd: i32) {
+fn replay_evaluations(fd: i32) -> Count {
     let mut case = [0u8; 165];
     let mut cases: u64 = 0;
     let mut differing: u64 = 0;
@@ -73,15 +86,13 @@ fn replay_evaluations(fd: i32) {
             break;
         }
         cases += 1;
-        if !evaluation_agrees(&case) {
-            differing += 1;
-        }
+        differing += one_unless(evaluation_agrees(&case));
         left -= 1;
     }
-    print_count(b"evaluations: ", cases, differing);
+    Count { cases, differing }
 }
 
-fn replay_samples(fd: i32) {
+fn replay_samples(fd: i32) -> Count {
     let mut case = [0u8; 1332];
     let mut cases: u64 = 0;
     let mut differing: u64 = 0;
@@ -91,17 +102,15 @@ fn replay_samples(fd: i32) {
             break;
         }
         cases += 1;
-        if !sample_agrees(&case) {
-            differing += 1;
-        }
+        differing += one_unless(sample_agrees(&case));
         left -= 1;
     }
-    print_count(b"samples: ", cases, differing);
+    Count { cases, differing }
 }
 
 fn main() {
     let evaluations = os::open_read(b"evaluations.bin");
-    replay_evaluations(evaluations);
+    print_count(b"evaluations: ", replay_evaluations(evaluations));
     let samples = os::open_read(b"samples.bin");
-    replay_samples(samples);
+    print_count(b"samples: ", replay_samples(samples));
 }

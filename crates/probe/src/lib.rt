@@ -20,7 +20,7 @@ fn byte_at(bytes: &[u8], at: usize) -> u8 {
 }
 
 // The eight floats that stand 16 bytes apart.
-fn floats_at(bytes: &[u8], at: usize) -> [f64; 8]
+pub fn floats_at(bytes: &[u8], at: usize) -> [f64; 8]
     requires { ⌜ at ≤ 131072 ⌝ }
 {
     [
@@ -144,29 +144,42 @@ fn evaluate_unchecked(op: u8, fields: HazardFields, t: f64, w: f64) -> Evaluatio
     }
 }
 
+// The byte `found` in its place in a word.
+fn found_flag(found: bool) -> u64
+    ensures { λ r. ⌜ r ≤ 256 ⌝ }
+{
+    if found { 256 } else { 0 }
+}
+
 // number u8, found u8, six zero bytes, value f64.
 pub fn put_evaluation(out: &mut [u8], at: usize, e: Evaluation)
     requires { ⌜ at ≤ 0x7fff_ffff_ffff_ffff ⌝ }
     ensures { λ _. ⌜ length (now (out .exit)) ≡ length (now (out .entry)) ⌝ }
 {
-    let found: u64 = if e.found { 256 } else { 0 };
+    let found = found_flag(e.found);
     put_u64(out, at, (e.number as u64) + found);
     put_f64(out, at + 8, e.value);
+}
+
+fn lesser(a: usize, b: usize) -> usize
+    ensures { λ r. ⌜ (r ≤ a) × (r ≤ b) ⌝ }
+{
+    if a < b { a } else { b }
 }
 
 // One checked evaluation for each point of 16 bytes (t f64, w f64), while there are points and room; the number of them.
 #[no_mangle]
 pub extern "C" fn probe_evaluate(op: u8, hazard: &[u8], points: &[u8], out: &mut [u8]) -> u64 {
     let fields = hazard_fields(hazard, 0);
-    let mut done: u64 = 0;
-    let mut at: usize = 0;
-    while at < points.len() && at < out.len() {
+    let count = lesser(points.len() / 16, out.len() / 16);
+    let mut i: usize = 0;
+    while i < count {
+        let at = 16 * i;
         let e = evaluate(op, fields, f64_at(points, at), f64_at(points, at + 8));
         put_evaluation(out, at, e);
-        done += 1;
-        at += 16;
+        i += 1;
     }
-    done
+    count as u64
 }
 
 // The same without the checks.
@@ -178,15 +191,15 @@ pub extern "C" fn probe_evaluate_unchecked(
     out: &mut [u8],
 ) -> u64 {
     let fields = hazard_fields(hazard, 0);
-    let mut done: u64 = 0;
-    let mut at: usize = 0;
-    while at < points.len() && at < out.len() {
+    let count = lesser(points.len() / 16, out.len() / 16);
+    let mut i: usize = 0;
+    while i < count {
+        let at = 16 * i;
         let e = evaluate_unchecked(op, fields, f64_at(points, at), f64_at(points, at + 8));
         put_evaluation(out, at, e);
-        done += 1;
-        at += 16;
+        i += 1;
     }
-    done
+    count as u64
 }
 
 // An answer of 32 bytes, then the position after it.
@@ -209,19 +222,13 @@ pub extern "C" fn probe_sample(
     let n = byte_at(request, 0) as usize;
     let settings = settings_at(request, 1);
     let causes = causes_at(request, 19);
-    let mut done: u64 = 0;
-    let mut at: usize = 0;
-    let mut to: usize = 0;
-    while at < positions.len() && to < out.len() {
-        let position = u64_at(positions, at) as usize;
-        put_sampled(
-            out,
-            to,
-            hazards::sampler::sample_next(causes, n, settings, stream, position),
-        );
-        done += 1;
-        at += 8;
-        to += 40;
+    let count = lesser(positions.len() / 8, out.len() / 40);
+    let mut i: usize = 0;
+    while i < count {
+        let position = u64_at(positions, 8 * i) as usize;
+        let sampled = hazards::sampler::sample_next(causes, n, settings, stream, position);
+        put_sampled(out, 40 * i, sampled);
+        i += 1;
     }
-    done
+    count as u64
 }
