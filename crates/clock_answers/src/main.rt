@@ -3,24 +3,22 @@
 mod dump;
 mod steps;
 
+ghost use Prim.Native.Nat.{_≤_};
 use libc::STDOUT_FILENO;
-use steps::Played;
 
-// The recorded threshold stream of all steps.
-fn read_stream(stream: &mut [u8]) -> usize {
-    let fd = os::open_read(b"clock_stream.bin");
-    io::read_full(fd, stream)
+fn one_unless(agrees: bool) -> u64
+    ensures { λ r. ⌜ r ≤ 1 ⌝ }
+{
+    if agrees { 0 } else { 1 }
 }
 
-fn print_count(cases: u64, differing: u64) {
-    io::write_all(STDOUT_FILENO, b"clock steps: ");
-    io::print_decimal(STDOUT_FILENO, cases);
-    io::write_all(STDOUT_FILENO, b" steps, ");
-    io::print_decimal(STDOUT_FILENO, differing);
-    io::write_all(STDOUT_FILENO, b" differ\n");
+// How many steps there were, and how many differ.
+struct Count {
+    cases: u64,
+    differing: u64,
 }
 
-fn replay(fd: i32, stream: &[u8]) {
+fn replay(fd: i32, stream: &[u8]) -> Count {
     let mut case = [0u8; 1664];
     let mut played = steps::start();
     let mut cases: u64 = 0;
@@ -32,17 +30,21 @@ fn replay(fd: i32, stream: &[u8]) {
         }
         played = steps::play(played, &case, stream);
         cases += 1;
-        if !dump::agrees(played, &case) {
-            differing += 1;
-        }
+        differing += one_unless(dump::agrees(played, &case));
         left -= 1;
     }
-    print_count(cases, differing);
+    Count { cases, differing }
 }
 
 fn main() {
-    let mut stream = io::buffer();
-    let length = read_stream(&mut stream);
-    let fd = os::open_read(b"clock_steps.bin");
-    replay(fd, &stream[..4368]);
+    let mut stream = io::large_buffer();
+    let thresholds = os::open_read(b"clock_stream.bin");
+    let length = io::read_full(thresholds, &mut stream);
+    let steps = os::open_read(b"clock_steps.bin");
+    let count = replay(steps, &stream[..length]);
+    io::write_all(STDOUT_FILENO, b"clock steps: ");
+    io::print_decimal(STDOUT_FILENO, count.cases);
+    io::write_all(STDOUT_FILENO, b" steps, ");
+    io::print_decimal(STDOUT_FILENO, count.differing);
+    io::write_all(STDOUT_FILENO, b" differ\n");
 }

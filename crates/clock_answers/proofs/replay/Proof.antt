@@ -1,0 +1,85 @@
+-- `replay` is safe and ends: a case is 1664 bytes, and there are at most a million.
+use Prim.Native.Nat.{_≤_, _+_}
+use mathlib.Core.Path.{_≡_}
+use lib.ListN.{length}
+use borrow.Author.Needs.{needs}
+use native.Mathlib.Omega.{arith}
+use Rattle.clock_answers.proofs.replay.Statement.{statement}
+use Rattle.clock_answers.proofs.replay.Tie as tie
+
+abbrev Inv-loop : tie.InvT-loop
+Inv-loop fd stream case₀ played₀ cases₀ differing₀ left₀ case played cases differing left = (length case ≡ 1664) × (cases + left ≤ 1000000) × (differing ≤ cases)
+
+abbrev μ-loop : tie.MeasureT-loop
+μ-loop fd stream case₀ played₀ cases₀ differing₀ left₀ case played cases differing left = left
+
+start-requires : tie.Need-start-requires Inv-loop μ-loop
+start-requires c κs = search needs
+
+loop-holds : tie.Need-loop-holds Inv-loop μ-loop
+loop-holds c = (search needs, search needs, search needs)
+
+slice-aggregate-read-full : tie.Need-slice-aggregate-read-full Inv-loop μ-loop
+slice-aggregate-read-full c = search needs
+
+read-full-requires : tie.Need-read-full-requires Inv-loop μ-loop
+read-full-requires c κs = search needs
+
+slice-aggregate-play : tie.Need-slice-aggregate-play Inv-loop μ-loop
+slice-aggregate-play c = search needs
+
+play-requires : tie.Need-play-requires Inv-loop μ-loop
+play-requires c κs = search needs
+
+add-cases : tie.Need-add-cases Inv-loop μ-loop
+add-cases c = omega arith
+
+slice-aggregate-agrees : tie.Need-slice-aggregate-agrees Inv-loop μ-loop
+slice-aggregate-agrees c = search needs
+
+agrees-requires : tie.Need-agrees-requires Inv-loop μ-loop
+agrees-requires c κs = search needs
+
+one-unless-requires : tie.Need-one-unless-requires Inv-loop μ-loop
+one-unless-requires c κs = search needs
+
+add-differing : tie.Need-add-differing Inv-loop μ-loop
+add-differing c = omega arith
+
+sub-left : tie.Need-sub-left Inv-loop μ-loop
+sub-left c = omega arith
+
+loop-less : tie.Need-loop-less Inv-loop μ-loop
+loop-less c = omega arith
+
+loop-again : tie.Need-loop-again Inv-loop μ-loop
+loop-again c = (search needs, search needs, search needs)
+
+returns : tie.Need-returns Inv-loop μ-loop
+returns c = search needs
+
+returns-2 : tie.Need-returns-2 Inv-loop μ-loop
+returns-2 c = search needs
+
+pub replay-spec : {M : Type 1} → statement M
+replay-spec =
+    tie.close
+    (tie.spec
+    Inv-loop
+    μ-loop
+    start-requires
+    loop-holds
+    slice-aggregate-read-full
+    read-full-requires
+    slice-aggregate-play
+    play-requires
+    add-cases
+    slice-aggregate-agrees
+    agrees-requires
+    one-unless-requires
+    add-differing
+    sub-left
+    loop-less
+    loop-again
+    returns
+    returns-2)
