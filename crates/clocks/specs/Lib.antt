@@ -3,3 +3,5 @@ pub mod Channels
 pub mod Clocks
 pub mod Setting
 pub mod Scheduling
+pub mod Validation
+pub mod Sound

@@ -12,13 +12,11 @@ fn byte_at(bytes: &[u8], at: usize) -> u8 {
 
 // operation u8, hazard of 138 bytes, t f64, w f64; expected: number u8, found u8, value f64.
 fn evaluation_agrees(case: &[u8]) -> bool {
-    let fields = probe::hazard_fields(case, 1);
-    let evaluation = probe::evaluate(
-        byte_at(case, 0),
-        fields,
-        f64_at(case, 139),
-        f64_at(case, 147),
-    );
+    let f = probe::hazard_fields(case, 1);
+    let op = byte_at(case, 0);
+    let t = f64_at(case, 139);
+    let w = f64_at(case, 147);
+    let evaluation = probe::evaluate(op, f.kind, f.first, f.count, &f.ends, &f.rates, t, w);
     let mut out = [0u8; 16];
     probe::put_evaluation(&mut out, 0, evaluation);
     if byte_at(&out, 0) != byte_at(case, 155) {

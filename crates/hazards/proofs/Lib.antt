@@ -14,6 +14,7 @@ pub mod OrderLaws
 pub mod Overwrite
 pub mod Pairs
 pub mod Patterns
+pub mod RowSeven
 pub mod Rows
 pub mod SamplerLaws
 pub mod Signed

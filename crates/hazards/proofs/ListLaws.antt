@@ -1,12 +1,12 @@
 -- Laws of lists: a test of every element, the part from index i up to n, and folds.
 use mathlib.Core.Path.{_≡_, refl, sym, _∙_, ap}
-use mathlib.Core.Bool.{Bool, true, false, _&&_}
+use mathlib.Core.Bool.{Bool, true, false}
 use mathlib.Core.List.{List, [], _∷_, _++_, map}
 use Prim.Native.Nat.{ℕ, zero, suc, _+_, _<_, _≤_, min}
 use native.Mathlib.Numerals.{add-one}
 use native.Mathlib.Omega.{arith}
 use borrow.Author.Count.{below-more}
-use lib.ListN.{length, getD, take, drop, set, length-take, drop-of-length-le}
+use lib.ListN.{length, getD, take, set, length-take, drop-of-length-le}
 use lib.Seq.{slice, slice-cons, take-suc, take-nil, getD-set-same, getD-set-other}
 use Rattle.hazards.specs.Lists.{all, foldl}
 

@@ -1,9 +1,8 @@
 -- What the sampler's loops and branches come to: the faults of all records, the draws, the candidates in order, and the refusals.
 use mathlib.Core.Path.{_≡_, refl, sym, _∙_, ap}
-use mathlib.Core.Bool.{Bool, true, false, cond, _&&_}
-use mathlib.Core.List.{List, [], _∷_, _++_}
+use mathlib.Core.Bool.{Bool, true, false, cond}
+use mathlib.Core.List.{List, [], _∷_}
 use Prim.Native.Nat.{ℕ, zero, suc, _+_, _-_, _<_, _≤_}
-use native.Mathlib.Numerals.{add-one}
 use native.Mathlib.Omega.{arith}
 use borrow.Author.Tests.{eq-eqb, ne-eqb, lt-ltb, le-ltb, ltb-false}
 use lib.Dec.{eqb, ltb, eqb·suc-zero}
@@ -39,8 +38,8 @@ noRecord = record {
 
 -- ---- the faults of one record, from those of its parts
 
-pub cause-faults-are : (c : CompetingCause) {reserved : Bool} {a b r : Faults} → reserved ≡ isReserved (c .«cause_id») → a ≡ hazardFaults (c .hazard)
-    → b ≡ identifierFaultIf reserved → r ≡ joined a b → r ≡ causeFaults c
+pub cause-faults-are : (c : CompetingCause) {reserved : Bool} {a b r : Faults} → reserved ≡ isReserved (c .«cause_id»)
+    → a ≡ hazardFaults (c .hazard) → b ≡ identifierFaultIf reserved → r ≡ joined a b → r ≡ causeFaults c
 cause-faults-are c e₁ e₂ e₃ e₄ = e₄ ∙ rw (e₂, e₃, e₁)
 
 -- ---- the faults of all records from i up to n: of the one at i and of the rest, of none
@@ -168,7 +167,8 @@ module _ (causes : List CompetingCause) (n : ℕ) (s : SampleSettings) (stream :
     unfolding sampleRefusal
     refused-draws h m p = rw (← e, eq-eqb number 0 h, le-ltb 8 n m, le-ltb (streamLength stream) position p)
 
-  pub passed-all : sampleRefusal causes n s stream position ≡ 0 → (n ≤ 8) × ((position ≤ streamLength stream) × (drawsRefusal stream position n ≡ 0))
+  pub passed-all : sampleRefusal causes n s stream position ≡ 0
+      → (n ≤ 8) × ((position ≤ streamLength stream) × (drawsRefusal stream position n ≡ 0))
   unfolding sampleRefusal
   passed-all h =
       let p = chain-passes (faultNumber causes n s) (drawsRefusal stream position n) (ltb 8 n) (ltb (streamLength stream) position) h in

@@ -8,7 +8,7 @@ ghost use lib.Ieee.{Float, lt, le};
 ghost use Rattle.hazards.specs.Floats.{z, limit, zeroBits, inRange, isTime};
 ghost use Rattle.hazards.specs.Lists.{all};
 ghost use Rattle.hazards.specs.Rates.{intervalsNow, pairsFrom};
-ghost use Rattle.hazards.specs.Checks.{rateOfKind, ownRate, mostPairs, rangeFault, zeroPair, ascending, intervalsFault, hazardOf, intervalsOf, hazardFaults};
+ghost use Rattle.hazards.specs.Checks.{rateOfKind, ownRate, mostPairs, rangeFault, zeroPair, ascending, intervalsFault, hazardOf, intervalsOf, fieldsNow, hazardFaults};
 use crate::rates::HazardRate;
 use crate::rates::Intervals;
 use crate::refusals::Faults;
@@ -168,7 +168,7 @@ pub fn intervals_fault<'a>(
     !(unused & ascend)
 }
 
-fn rate_of_kind(kind: u8, first: f64) -> HazardRate
+pub fn rate_of_kind(kind: u8, first: f64) -> HazardRate
     ensures { λ r. ⌜ r ≡ rateOfKind kind first ⌝ }
 {
     if kind == 0 {
@@ -196,6 +196,26 @@ fn choice_fault(kind: u8, first: f64) -> bool
     !zero_bits(first)
 }
 
+// Refusals 4 to 6 of a hazard's fields.
+pub fn hazard_faults<'a>(
+    kind: u8,
+    first: f64,
+    count: u8,
+    ends: &'a [f64; 8],
+    rates: &'a [f64; 8],
+) -> Faults
+    ensures { λ r. ⌜ r ≡ hazardFaults (fieldsNow kind first count (now (ends .entry)) (now (rates .entry))) ⌝ }
+{
+    let hazard = rate_of_kind(kind, first);
+    let pairs = count as usize;
+    Faults {
+        choice: choice_fault(kind, first),
+        range: range_fault(hazard, rates, pairs),
+        intervals: intervals_fault(hazard, ends, rates, pairs),
+        identifier: false,
+    }
+}
+
 impl HazardFields {
     pub fn hazard(self) -> HazardRate
         ensures { λ r. ⌜ r ≡ hazardOf self ⌝ }
@@ -218,13 +238,6 @@ impl HazardFields {
     pub fn faults(self) -> Faults
         ensures { λ r. ⌜ r ≡ hazardFaults self ⌝ }
     {
-        let hazard = rate_of_kind(self.kind, self.first);
-        let count = self.count as usize;
-        Faults {
-            choice: choice_fault(self.kind, self.first),
-            range: range_fault(hazard, &self.rates, count),
-            intervals: intervals_fault(hazard, &self.ends, &self.rates, count),
-            identifier: false,
-        }
+        hazard_faults(self.kind, self.first, self.count, &self.ends, &self.rates)
     }
 }

@@ -1,7 +1,7 @@
 // The three evaluations as public calls on the fields of a hazard: refused by 4, 5 or 6, or the value.
 ghost use mathlib.Core.Path.{_≡_};
+ghost use Rattle.hazards.specs.Checks.{fieldsNow};
 ghost use Rattle.hazards.specs.Evaluations.{valued, withoutValue, waitValued, evaluationRefusal, evaluatedHazardAt, evaluatedCumulativeHazard, evaluatedInversion};
-use crate::checks::HazardFields;
 use crate::rates::Wait;
 
 // `found` is false on a refusal and where there is no wait.
@@ -41,55 +41,83 @@ fn wait_valued(wait: Wait) -> Evaluation
 }
 
 // 4 on the hazard, 5 on hazard, time and w, then 6; 0 where nothing is refused.
-fn evaluation_refusal(fields: HazardFields, in_limits: bool) -> u8
-    ensures { λ r. ⌜ r ≡ evaluationRefusal fields «in_limits» ⌝ }
+fn evaluation_refusal<'a>(
+    kind: u8,
+    first: f64,
+    count: u8,
+    ends: &'a [f64; 8],
+    rates: &'a [f64; 8],
+    in_limits: bool,
+) -> u8
+    ensures { λ r. ⌜ r ≡ evaluationRefusal (fieldsNow kind first count (now (ends .entry)) (now (rates .entry))) «in_limits» ⌝ }
 {
-    fields
-        .faults()
+    crate::checks::hazard_faults(kind, first, count, ends, rates)
         .joined(crate::refusals::range_fault_unless(in_limits))
         .number()
 }
 
-pub fn evaluate_hazard_at(fields: HazardFields, t: f64) -> Evaluation
-    ensures { λ r. ⌜ r ≡ evaluatedHazardAt fields t ⌝ }
+pub fn evaluate_hazard_at<'a>(
+    kind: u8,
+    first: f64,
+    count: u8,
+    ends: &'a [f64; 8],
+    rates: &'a [f64; 8],
+    t: f64,
+) -> Evaluation
+    ensures { λ r. ⌜ r ≡ evaluatedHazardAt (fieldsNow kind first count (now (ends .entry)) (now (rates .entry))) t ⌝ }
 {
-    let number = evaluation_refusal(fields, crate::checks::in_range(t));
+    let number = evaluation_refusal(kind, first, count, ends, rates, crate::checks::in_range(t));
     if number != 0 {
         return without_value(number);
     }
-    let hazard = fields.hazard();
-    let count = fields.count as usize;
-    valued(crate::rates::hazard_at(hazard, &fields.ends, &fields.rates, count, t))
+    let hazard = crate::checks::rate_of_kind(kind, first);
+    let pairs = count as usize;
+    valued(crate::rates::hazard_at(hazard, ends, rates, pairs, t))
 }
 
-pub fn evaluate_cumulative_hazard(fields: HazardFields, t: f64) -> Evaluation
-    ensures { λ r. ⌜ r ≡ evaluatedCumulativeHazard fields t ⌝ }
+pub fn evaluate_cumulative_hazard<'a>(
+    kind: u8,
+    first: f64,
+    count: u8,
+    ends: &'a [f64; 8],
+    rates: &'a [f64; 8],
+    t: f64,
+) -> Evaluation
+    ensures { λ r. ⌜ r ≡ evaluatedCumulativeHazard (fieldsNow kind first count (now (ends .entry)) (now (rates .entry))) t ⌝ }
 {
-    let number = evaluation_refusal(fields, crate::checks::in_range(t));
+    let number = evaluation_refusal(kind, first, count, ends, rates, crate::checks::in_range(t));
     if number != 0 {
         return without_value(number);
     }
-    let hazard = fields.hazard();
-    let count = fields.count as usize;
-    valued(crate::rates::cumulative_hazard(hazard, &fields.ends, &fields.rates, count, t))
+    let hazard = crate::checks::rate_of_kind(kind, first);
+    let pairs = count as usize;
+    valued(crate::rates::cumulative_hazard(hazard, ends, rates, pairs, t))
 }
 
-pub fn evaluate_inversion(fields: HazardFields, t_start: f64, target_w: f64) -> Evaluation
-    ensures { λ r. ⌜ r ≡ evaluatedInversion fields «t_start» «target_w» ⌝ }
+pub fn evaluate_inversion<'a>(
+    kind: u8,
+    first: f64,
+    count: u8,
+    ends: &'a [f64; 8],
+    rates: &'a [f64; 8],
+    t_start: f64,
+    target_w: f64,
+) -> Evaluation
+    ensures { λ r. ⌜ r ≡ evaluatedInversion (fieldsNow kind first count (now (ends .entry)) (now (rates .entry))) «t_start» «target_w» ⌝ }
 {
     let start = crate::checks::in_range(t_start);
     let w = crate::checks::in_range(target_w);
-    let number = evaluation_refusal(fields, start & w);
+    let number = evaluation_refusal(kind, first, count, ends, rates, start & w);
     if number != 0 {
         return without_value(number);
     }
-    let hazard = fields.hazard();
-    let count = fields.count as usize;
+    let hazard = crate::checks::rate_of_kind(kind, first);
+    let pairs = count as usize;
     wait_valued(crate::rates::invert_cumulative_hazard(
         hazard,
-        &fields.ends,
-        &fields.rates,
-        count,
+        ends,
+        rates,
+        pairs,
         t_start,
         target_w,
     ))

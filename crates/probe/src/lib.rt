@@ -10,6 +10,7 @@ use hazards::fields::put_f64;
 use hazards::fields::put_u64;
 use hazards::fields::u32_at;
 use hazards::fields::u64_at;
+use hazards::rates::HazardRate;
 use hazards::rates::Wait;
 use hazards::sampler::CompetingCause;
 use hazards::sampler::SampleSettings;
@@ -87,22 +88,37 @@ pub fn settings_at(bytes: &[u8], at: usize) -> SampleSettings
 }
 
 // 0 hazard_at, 1 cumulative_hazard, else invert_cumulative_hazard.
-pub fn evaluate(op: u8, fields: HazardFields, t: f64, w: f64) -> Evaluation {
+pub fn evaluate<'a>(
+    op: u8,
+    kind: u8,
+    first: f64,
+    count: u8,
+    ends: &'a [f64; 8],
+    rates: &'a [f64; 8],
+    t: f64,
+    w: f64,
+) -> Evaluation {
     if op == 0 {
-        return hazards::evaluations::evaluate_hazard_at(fields, t);
+        return hazards::evaluations::evaluate_hazard_at(kind, first, count, ends, rates, t);
     }
     if op == 1 {
-        return hazards::evaluations::evaluate_cumulative_hazard(fields, t);
+        return hazards::evaluations::evaluate_cumulative_hazard(kind, first, count, ends, rates, t);
     }
-    hazards::evaluations::evaluate_inversion(fields, t, w)
+    hazards::evaluations::evaluate_inversion(kind, first, count, ends, rates, t, w)
 }
 
 // The same evaluation on a hazard that was checked before.
-fn evaluate_unchecked(op: u8, fields: HazardFields, t: f64, w: f64) -> Evaluation {
-    let hazard = fields.hazard();
-    let count = fields.count as usize;
+fn evaluate_unchecked<'a>(
+    op: u8,
+    hazard: HazardRate,
+    ends: &'a [f64; 8],
+    rates: &'a [f64; 8],
+    count: usize,
+    t: f64,
+    w: f64,
+) -> Evaluation {
     if op == 0 {
-        let value = hazards::rates::hazard_at(hazard, &fields.ends, &fields.rates, count, t);
+        let value = hazards::rates::hazard_at(hazard, ends, rates, count, t);
         return Evaluation {
             number: 0,
             found: true,
@@ -110,27 +126,14 @@ fn evaluate_unchecked(op: u8, fields: HazardFields, t: f64, w: f64) -> Evaluatio
         };
     }
     if op == 1 {
-        let value = hazards::rates::cumulative_hazard(
-            hazard,
-            &fields.ends,
-            &fields.rates,
-            count,
-            t,
-        );
+        let value = hazards::rates::cumulative_hazard(hazard, ends, rates, count, t);
         return Evaluation {
             number: 0,
             found: true,
             value,
         };
     }
-    match hazards::rates::invert_cumulative_hazard(
-        hazard,
-        &fields.ends,
-        &fields.rates,
-        count,
-        t,
-        w,
-    ) {
+    match hazards::rates::invert_cumulative_hazard(hazard, ends, rates, count, t, w) {
         Wait::After(value) => Evaluation {
             number: 0,
             found: true,
@@ -175,7 +178,18 @@ pub extern "C" fn probe_evaluate(op: u8, hazard: &[u8], points: &[u8], out: &mut
     let mut i: usize = 0;
     while i < count {
         let at = 16 * i;
-        let e = evaluate(op, fields, f64_at(points, at), f64_at(points, at + 8));
+        let t = f64_at(points, at);
+        let w = f64_at(points, at + 8);
+        let e = evaluate(
+            op,
+            fields.kind,
+            fields.first,
+            fields.count,
+            &fields.ends,
+            &fields.rates,
+            t,
+            w,
+        );
         put_evaluation(out, at, e);
         i += 1;
     }
@@ -191,15 +205,19 @@ pub extern "C" fn probe_evaluate_unchecked(
     out: &mut [u8],
 ) -> u64 {
     let fields = hazard_fields(hazard, 0);
-    let count = lesser(points.len() / 16, out.len() / 16);
+    let hazard = fields.hazard();
+    let count = fields.count as usize;
+    let turns = lesser(points.len() / 16, out.len() / 16);
     let mut i: usize = 0;
-    while i < count {
+    while i < turns {
         let at = 16 * i;
-        let e = evaluate_unchecked(op, fields, f64_at(points, at), f64_at(points, at + 8));
+        let t = f64_at(points, at);
+        let w = f64_at(points, at + 8);
+        let e = evaluate_unchecked(op, hazard, &fields.ends, &fields.rates, count, t, w);
         put_evaluation(out, at, e);
         i += 1;
     }
-    count as u64
+    turns as u64
 }
 
 // An answer of 32 bytes, then the position after it.

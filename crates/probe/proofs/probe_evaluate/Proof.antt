@@ -1,5 +1,5 @@
 -- `probe_evaluate` is safe and ends: each turn writes one record within the buffer.
-use Prim.Native.Nat.{_≤_, _-_}
+use Prim.Native.Nat.{_≤_, _<_, _-_, _*_, _^_}
 use mathlib.Core.Path.{_≡_}
 use lib.ListN.{length}
 use borrow.Author.Needs.{needs}
@@ -8,7 +8,7 @@ use Rattle.probe.proofs.probe_evaluate.Statement.{statement}
 use Rattle.probe.proofs.probe_evaluate.Tie as tie
 
 abbrev Inv-loop : tie.InvT-loop
-Inv-loop op hazard points out₀ fields count i₀ out i = (i ≤ count) × (length out ≡ length out₀)
+Inv-loop op hazard points out₀ fields count i₀ out i = (i ≤ count) × (length out ≡ length out₀) × (16 * count < 2 ^ 63)
 
 abbrev μ-loop : tie.MeasureT-loop
 μ-loop op hazard points out₀ fields count i₀ out i = count - i
@@ -20,7 +20,7 @@ lesser-requires : tie.Need-lesser-requires Inv-loop μ-loop
 lesser-requires c κs = search needs
 
 loop-holds : tie.Need-loop-holds Inv-loop μ-loop
-loop-holds c = (search needs, search needs)
+loop-holds c = (search needs, search needs, omega arith)
 
 mul-at : tie.Need-mul-at Inv-loop μ-loop
 mul-at c = omega arith
@@ -47,7 +47,7 @@ loop-less : tie.Need-loop-less Inv-loop μ-loop
 loop-less c = omega arith
 
 loop-again : tie.Need-loop-again Inv-loop μ-loop
-loop-again c = (search needs, search needs)
+loop-again c = (search needs, search needs, omega arith)
 
 same-length : tie.Need-same-length Inv-loop μ-loop
 same-length c = search needs

@@ -1,5 +1,5 @@
 -- `probe_evaluate_unchecked` is safe and ends: each turn writes one record within the buffer.
-use Prim.Native.Nat.{_≤_, _-_}
+use Prim.Native.Nat.{_≤_, _<_, _-_, _*_, _^_}
 use mathlib.Core.Path.{_≡_}
 use lib.ListN.{length}
 use borrow.Author.Needs.{needs}
@@ -8,19 +8,25 @@ use Rattle.probe.proofs.probe_evaluate_unchecked.Statement.{statement}
 use Rattle.probe.proofs.probe_evaluate_unchecked.Tie as tie
 
 abbrev Inv-loop : tie.InvT-loop
-Inv-loop op hazard points out₀ fields count i₀ out i = (i ≤ count) × (length out ≡ length out₀)
+Inv-loop op hazard points out₀ fields hazard' count turns i₀ out i = (i ≤ turns) × (length out ≡ length out₀) × (16 * turns < 2 ^ 63)
 
 abbrev μ-loop : tie.MeasureT-loop
-μ-loop op hazard points out₀ fields count i₀ out i = count - i
+μ-loop op hazard points out₀ fields hazard' count turns i₀ out i = turns - i
 
 hazard-fields-requires : tie.Need-hazard-fields-requires Inv-loop μ-loop
 hazard-fields-requires c κs = search needs
+
+hazard-requires : tie.Need-hazard-requires Inv-loop μ-loop
+hazard-requires c κs = search needs
+
+cast-count : tie.Need-cast-count Inv-loop μ-loop
+cast-count c = omega arith
 
 lesser-requires : tie.Need-lesser-requires Inv-loop μ-loop
 lesser-requires c κs = search needs
 
 loop-holds : tie.Need-loop-holds Inv-loop μ-loop
-loop-holds c = (search needs, search needs)
+loop-holds c = (search needs, search needs, omega arith)
 
 mul-at : tie.Need-mul-at Inv-loop μ-loop
 mul-at c = omega arith
@@ -47,7 +53,7 @@ loop-less : tie.Need-loop-less Inv-loop μ-loop
 loop-less c = omega arith
 
 loop-again : tie.Need-loop-again Inv-loop μ-loop
-loop-again c = (search needs, search needs)
+loop-again c = (search needs, search needs, omega arith)
 
 same-length : tie.Need-same-length Inv-loop μ-loop
 same-length c = search needs
@@ -62,6 +68,8 @@ probe-evaluate-unchecked-spec =
     Inv-loop
     μ-loop
     hazard-fields-requires
+    hazard-requires
+    cast-count
     lesser-requires
     loop-holds
     mul-at

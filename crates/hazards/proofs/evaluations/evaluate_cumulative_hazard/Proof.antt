@@ -1,7 +1,7 @@
 -- `evaluations::evaluate_cumulative_hazard` meets its contract.
 use mathlib.Core.Path.{_∙_, ap}
 use borrow.Author.Needs.{needs}
-use Rattle.hazards.specs.Checks.{hazardOf, intervalsOf}
+use Rattle.hazards.specs.Checks.{fieldsNow, hazardOf, intervalsOf}
 use Rattle.hazards.specs.Evaluations.{evaluatedCumulativeHazard, valued}
 use Rattle.hazards.specs.Rates.{cumulativeHazard}
 use Rattle.hazards.specs.declared.rates.HazardRate.{HazardRate}
@@ -22,14 +22,12 @@ returns : tie.Need-returns
 unfolding evaluatedCumulativeHazard
 returns c =
     let s = c .before .before in
-    let f = s .before .before .args .t1 in
+    let a = s .before .before .args in
+    let f = fieldsNow (a .kind) (a .first) (a .count) (a .ends .now) (a .rates .now) in
     refused f (s .evaluation-refusal .ensures) (s .before .in-range .ensures) _ (c .before .if1 .taken) (c .without-value .ensures)
 
-hazard-requires : tie.Need-hazard-requires
-hazard-requires c κs = search needs
-
-cast-count : tie.Need-cast-count
-cast-count c = search needs
+rate-of-kind-requires : tie.Need-rate-of-kind-requires
+rate-of-kind-requires c κs = search needs
 
 cumulative-hazard-requires : tie.Need-cumulative-hazard-requires
 cumulative-hazard-requires c κs = search needs
@@ -40,13 +38,14 @@ valued-requires c κs = search needs
 returns-2 : tie.Need-returns-2
 unfolding evaluatedCumulativeHazard
 returns-2 c =
-    let h = c .before .before .before .before .before in
+    let h = c .before .before in
     let s = h .before .before in
-    let f = s .before .before .args .t1 in
+    let a = s .before .before .args in
+    let f = fieldsNow (a .kind) (a .first) (a .count) (a .ends .now) (a .rates .now) in
     let t = s .before .before .args .t in
     evaluated f (s .evaluation-refusal .ensures) (s .before .in-range .ensures) (valued (cumulativeHazard (hazardOf f) (intervalsOf f) t)) (h .before .if1 .left)
     (c .valued .ensures
-    ∙ ap valued (c .before .cumulative-hazard .ensures ∙ ap (λ (k : HazardRate). cumulativeHazard k (intervalsOf f) t) (h .hazard .ensures)))
+    ∙ ap valued (c .before .cumulative-hazard .ensures ∙ ap (λ (k : HazardRate). cumulativeHazard k (intervalsOf f) t) (h .rate-of-kind .ensures)))
 
 pub evaluate-cumulative-hazard-spec : {M : Type 1} → statement M
 evaluate-cumulative-hazard-spec =
@@ -56,8 +55,7 @@ evaluate-cumulative-hazard-spec =
     evaluation-refusal-requires
     without-value-requires
     returns
-    hazard-requires
-    cast-count
+    rate-of-kind-requires
     cumulative-hazard-requires
     valued-requires
     returns-2)

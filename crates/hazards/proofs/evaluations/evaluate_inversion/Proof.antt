@@ -2,7 +2,7 @@
 use mathlib.Core.Bool.{_&&_}
 use mathlib.Core.Path.{_≡_, _∙_, ap}
 use borrow.Author.Needs.{needs}
-use Rattle.hazards.specs.Checks.{hazardOf, intervalsOf}
+use Rattle.hazards.specs.Checks.{fieldsNow, hazardOf, intervalsOf}
 use Rattle.hazards.specs.Evaluations.{evaluatedInversion, waitValued}
 use Rattle.hazards.specs.Floats.{inRange}
 use Rattle.hazards.specs.Rates.{invertCumulativeHazard}
@@ -30,13 +30,10 @@ returns c =
     let a = s .before .before .before .args in
     let e : (s .before .before .in-range .result && s .before .in-range2 .result) ≡ (inRange (a .t-start) && inRange (a .target-w)) =
     rw (s .before .before .in-range .ensures, s .before .in-range2 .ensures) in
-    refused (a .t1) (s .evaluation-refusal .ensures) e _ (c .before .if1 .taken) (c .without-value .ensures)
+    refused (fieldsNow (a .kind) (a .first) (a .count) (a .ends .now) (a .rates .now)) (s .evaluation-refusal .ensures) e _ (c .before .if1 .taken) (c .without-value .ensures)
 
-hazard-requires : tie.Need-hazard-requires
-hazard-requires c κs = search needs
-
-cast-count : tie.Need-cast-count
-cast-count c = search needs
+rate-of-kind-requires : tie.Need-rate-of-kind-requires
+rate-of-kind-requires c κs = search needs
 
 invert-cumulative-hazard-requires : tie.Need-invert-cumulative-hazard-requires
 invert-cumulative-hazard-requires c κs = search needs
@@ -47,10 +44,10 @@ wait-valued-requires c κs = search needs
 returns-2 : tie.Need-returns-2
 unfolding evaluatedInversion
 returns-2 c =
-    let h = c .before .before .before .before .before in
+    let h = c .before .before in
     let s = h .before .before in
     let a = s .before .before .before .args in
-    let f = a .t1 in
+    let f = fieldsNow (a .kind) (a .first) (a .count) (a .ends .now) (a .rates .now) in
     let e : (s .before .before .in-range .result && s .before .in-range2 .result) ≡ (inRange (a .t-start) && inRange (a .target-w)) =
     rw (s .before .before .in-range .ensures, s .before .in-range2 .ensures) in
     evaluated f (s .evaluation-refusal .ensures) e (waitValued (invertCumulativeHazard (hazardOf f) (intervalsOf f) (a .t-start) (a .target-w)))
@@ -58,7 +55,7 @@ returns-2 c =
     (c .wait-valued .ensures
     ∙ ap waitValued
     (c .before .invert-cumulative-hazard .ensures
-    ∙ ap (λ (k : HazardRate). invertCumulativeHazard k (intervalsOf f) (a .t-start) (a .target-w)) (h .hazard .ensures)))
+    ∙ ap (λ (k : HazardRate). invertCumulativeHazard k (intervalsOf f) (a .t-start) (a .target-w)) (h .rate-of-kind .ensures)))
 
 pub evaluate-inversion-spec : {M : Type 1} → statement M
 evaluate-inversion-spec =
@@ -69,8 +66,7 @@ evaluate-inversion-spec =
     evaluation-refusal-requires
     without-value-requires
     returns
-    hazard-requires
-    cast-count
+    rate-of-kind-requires
     invert-cumulative-hazard-requires
     wait-valued-requires
     returns-2)

@@ -1,11 +1,12 @@
 -- `evaluations::evaluation_refusal` meets its contract.
 use borrow.Author.Needs.{needs}
+use Rattle.hazards.specs.Checks.{fieldsNow}
 use Rattle.hazards.proofs.EvaluationLaws.{refusal-of}
 use Rattle.hazards.proofs.evaluations.evaluation_refusal.Statement.{statement}
 use Rattle.hazards.proofs.evaluations.evaluation_refusal.Tie as tie
 
-faults-requires : tie.Need-faults-requires
-faults-requires c κs = search needs
+hazard-faults-requires : tie.Need-hazard-faults-requires
+hazard-faults-requires c κs = search needs
 
 range-fault-unless-requires : tie.Need-range-fault-unless-requires
 range-fault-unless-requires c κs = search needs
@@ -18,10 +19,11 @@ number-requires c κs = search needs
 
 returns : tie.Need-returns
 returns c =
-    refusal-of (c .before .before .before .before .args .fields) (c .before .before .before .before .args .in-limits) (c .number .ensures) (c .before .joined .ensures)
-    (c .before .before .before .faults .ensures) (c .before .before .range-fault-unless .ensures)
+    let a = c .before .before .before .before .args in
+    refusal-of (fieldsNow (a .kind) (a .first) (a .count) (a .ends .now) (a .rates .now)) (a .in-limits) (c .number .ensures) (c .before .joined .ensures)
+    (c .before .before .before .hazard-faults .ensures) (c .before .before .range-fault-unless .ensures)
 
 pub evaluation-refusal-spec : {M : Type 1} → statement M
 evaluation-refusal-spec =
     tie.close
-    (tie.spec faults-requires range-fault-unless-requires joined-requires number-requires returns)
+    (tie.spec hazard-faults-requires range-fault-unless-requires joined-requires number-requires returns)

@@ -1,16 +1,13 @@
--- `checks::HazardFields::faults` meets its contract.
+-- `checks::hazard_faults` meets its contract.
 use mathlib.Core.Path.{_∙_, ap}
 use borrow.Author.Needs.{needs}
-use Rattle.hazards.specs.Checks.{hazardFaults, choiceFault, rangeFault, intervalsFault, intervalsOf}
+use Rattle.hazards.specs.Checks.{fieldsNow, hazardFaults, choiceFault, rangeFault, intervalsFault, intervalsOf}
 use Rattle.hazards.specs.declared.rates.HazardRate.{HazardRate}
-use Rattle.hazards.proofs.checks.HazardFields.faults.Statement.{statement}
-use Rattle.hazards.proofs.checks.HazardFields.faults.Tie as tie
+use Rattle.hazards.proofs.checks.hazard_faults.Statement.{statement}
+use Rattle.hazards.proofs.checks.hazard_faults.Tie as tie
 
 rate-of-kind-requires : tie.Need-rate-of-kind-requires
 rate-of-kind-requires c κs = search needs
-
-cast-count : tie.Need-cast-count
-cast-count c = search needs
 
 choice-fault-requires : tie.Need-choice-fault-requires
 choice-fault-requires c κs = search needs
@@ -24,20 +21,20 @@ intervals-fault-requires c κs = search needs
 returns : tie.Need-returns
 unfolding hazardFaults choiceFault
 returns c =
-    let r = c .before .before .before .before .before .before .before .before in
-    let f = r .before .args .t1 in
+    let r = c .before .before .before in
+    let a = r .before .args in
+    let f = fieldsNow (a .kind) (a .first) (a .count) (a .ends .now) (a .rates .now) in
     rw (
-      c .before .before .before .before .before .before .before .choice-fault .ensures,
-      c .before .before .before .before .range-fault .ensures (f .ends) ∙ ap (λ (h : HazardRate). rangeFault h (intervalsOf f)) (r .rate-of-kind .ensures),
+      c .before .before .choice-fault .ensures,
+      c .before .range-fault .ensures (f .ends) ∙ ap (λ (h : HazardRate). rangeFault h (intervalsOf f)) (r .rate-of-kind .ensures),
       c .intervals-fault .ensures ∙ ap (λ (h : HazardRate). intervalsFault h (intervalsOf f)) (r .rate-of-kind .ensures),
     )
 
-pub faults-spec : {M : Type 1} → statement M
-faults-spec =
+pub hazard-faults-spec : {M : Type 1} → statement M
+hazard-faults-spec =
     tie.close
     (tie.spec
     rate-of-kind-requires
-    cast-count
     choice-fault-requires
     range-fault-requires
     intervals-fault-requires
