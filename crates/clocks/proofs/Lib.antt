@@ -20,4 +20,4 @@ pub mod SoundValid
 pub mod TickRounding
 pub mod TickValues
 pub mod UsedChannels
-pub mod ValidationRows
+pub mod ValidationNotKept

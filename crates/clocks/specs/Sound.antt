@@ -1,5 +1,5 @@
 -- The invariant of a clock: every method keeps it where times and hazards are within document 01's limits. It is stronger than refusal 1's
--- test, which is no invariant (proofs/ValidationRows.antt).
+-- test, which is no invariant (proofs/ValidationNotKept.antt).
 use mathlib.Core.Path.{_≡_}
 use mathlib.Core.Bool.{true, false}
 use mathlib.Core.List.{List, [], _∷_}

@@ -53,7 +53,7 @@ noCause = 0xffff_ffff
 abbrev pub isReserved : ℕ → Bool
 isReserved cause = eqb cause noCause
 
--- 7 alone, where a test fails
+-- 7 alone, where a test holds
 abbrev pub identifierFaultIf : Bool → Faults
 identifierFaultIf reserved = record { choice = false; range = false; intervals = false; identifier = reserved }
 

@@ -52,7 +52,7 @@ handedIn = record {
   «last_update_time» = z;
 }
 
-pub row-not-kept : (validClock handedIn ≡ true) × (validClock (pause handedIn z .clock) ≡ false)
+pub validation-not-kept : (validClock handedIn ≡ true) × (validClock (pause handedIn z .clock) ≡ false)
 unfolding validClock validChannel all ascendingFrom isFinite rangeFault intervalsFault ownRate mostPairs inRange zeroBits ascending pairsFrom
     usedPairs pause onUsed settledHazard cumulativeHazard cumulativeOfKind notBelowZero add sub mul lt le toBits
-row-not-kept = (refl, refl)
+validation-not-kept = (refl, refl)
