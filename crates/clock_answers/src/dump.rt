@@ -3,6 +3,7 @@ use clocks::channels::HazardChannelState;
 use clocks::clocks::HazardInterruptionPolicy;
 use clocks::clocks::SurvivalClock;
 use hazards::fields::put_f64;
+use hazards::fields::put_u8;
 use hazards::fields::put_u32;
 use hazards::fields::put_u64;
 use hazards::rates::HazardRate;
@@ -11,14 +12,8 @@ use hazards::ties::TieBreaker;
 ghost use Prim.Native.Nat.{_≤_};
 use crate::steps::Played;
 
-fn put_byte(out: &mut [u8], at: usize, value: u8) {
-    if at < out.len() {
-        out[at] = value;
-    }
-}
-
 fn put_flag(out: &mut [u8], at: usize, flag: bool) {
-    put_byte(out, at, if flag { 1 } else { 0 });
+    put_u8(out, at, if flag { 1 } else { 0 });
 }
 
 fn kind_of(hazard: HazardRate) -> u8 {
@@ -72,9 +67,9 @@ fn put_floats(out: &mut [u8], at: usize, values: [f64; 8])
 fn put_hazard(out: &mut [u8], at: usize, hazard: HazardRate, intervals: Intervals)
     requires { ⌜ at ≤ 32768 ⌝ }
 {
-    put_byte(out, at, kind_of(hazard));
+    put_u8(out, at, kind_of(hazard));
     put_f64(out, at + 1, first_of(hazard));
-    put_byte(out, at + 9, (intervals.count % 256) as u8);
+    put_u8(out, at + 9, (intervals.count % 256) as u8);
     let ends = intervals.ends;
     let rates = intervals.rates;
     put_floats(out, at + 10, ends);
@@ -111,14 +106,14 @@ fn put_identity(out: &mut [u8], clock: SurvivalClock) {
     put_flag(out, 8, clock.has_entity);
     put_u64(out, 9, entity.index);
     put_u32(out, 17, entity.generation);
-    put_byte(out, 21, policy_byte(policy));
-    put_byte(out, 22, tie_byte(tie));
+    put_u8(out, 21, policy_byte(policy));
+    put_u8(out, 22, tie_byte(tie));
     put_f64(out, 23, clock.tick_scale);
 }
 
 // The event that the clock has in the queue, its winner and its times.
 fn put_schedule(out: &mut [u8], clock: SurvivalClock) {
-    let scheduled = clock.scheduled_event;
+    let scheduled = clock.scheduled_event_id;
     let winner = clock.current_winner;
     put_flag(out, 1392, scheduled.present);
     put_u64(out, 1393, scheduled.index);
@@ -131,7 +126,7 @@ fn put_schedule(out: &mut [u8], clock: SurvivalClock) {
 
 fn put_clock(out: &mut [u8], clock: SurvivalClock) {
     put_identity(out, clock);
-    put_byte(out, 31, (clock.channel_count % 256) as u8);
+    put_u8(out, 31, (clock.channel_count % 256) as u8);
     put_channels(out, clock);
     put_schedule(out, clock);
 }

@@ -11,6 +11,7 @@ use clocks::ticks::Ticks;
 use hazards::answers::Answer;
 use hazards::checks::HazardFields;
 use hazards::fields::f64_at;
+use hazards::fields::u8_at;
 use hazards::fields::u32_at;
 use hazards::fields::u64_at;
 use hazards::rates::Intervals;
@@ -21,10 +22,6 @@ pub struct Played {
     pub ticks: Ticks,
     pub answer: Answer,
     pub position: usize,
-}
-
-pub fn byte_at(bytes: &[u8], at: usize) -> u8 {
-    if at < bytes.len() { bytes[at] } else { 0 }
 }
 
 fn policy_of(policy: u8) -> HazardInterruptionPolicy {
@@ -39,11 +36,11 @@ fn created(case: &[u8]) -> SurvivalClock {
         index: u64_at(case, 21),
         generation: u32_at(case, 29),
     };
-    let policy = policy_of(byte_at(case, 10));
-    let tie = hazards::ties::tie_breaker(byte_at(case, 11));
+    let policy = policy_of(u8_at(case, 10));
+    let tie = hazards::ties::tie_breaker(u8_at(case, 11));
     SurvivalClock::new(
         u64_at(case, 2),
-        byte_at(case, 20) == 1,
+        u8_at(case, 20) == 1,
         entity,
         policy,
         tie,
@@ -65,9 +62,9 @@ fn setting_of(case: &[u8]) -> CauseSetting {
     let ends = probe::floats_at(case, 28);
     let rates = probe::floats_at(case, 36);
     let fields = HazardFields {
-        kind: byte_at(case, 10),
+        kind: u8_at(case, 10),
         first: f64_at(case, 11),
-        count: byte_at(case, 27),
+        count: u8_at(case, 27),
         ends,
         rates,
     };
@@ -75,7 +72,7 @@ fn setting_of(case: &[u8]) -> CauseSetting {
     let intervals = Intervals {
         ends,
         rates,
-        count: byte_at(case, 27) as usize,
+        count: u8_at(case, 27) as usize,
     };
     CauseSetting {
         cause_id: u32_at(case, 2),
@@ -88,7 +85,7 @@ fn setting_of(case: &[u8]) -> CauseSetting {
 
 fn censor_of(case: &[u8]) -> Censor {
     Censor {
-        present: byte_at(case, 10) == 1,
+        present: u8_at(case, 10) == 1,
         time: f64_at(case, 11),
     }
 }
@@ -180,7 +177,7 @@ pub fn play(played: Played, case: &[u8], stream: &[u8]) -> Played {
     let index = u64_at(case, 156);
     let position = u64_at(case, 164) as usize;
     let now = f64_at(case, 2);
-    let code = byte_at(case, 0);
+    let code = u8_at(case, 0);
     match code {
         1 => idle(created(case), ticks, position),
         2 => after_set(clock, ticks, case, stream, position),

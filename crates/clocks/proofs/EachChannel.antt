@@ -76,14 +76,13 @@ module _ (f : HazardChannelState → HazardChannelState) (k clock : SurvivalCloc
       rw (e, each-at f (k .channels) i d lt, each-more f (k .channels) i d lt)
 
 -- a channel settled by two stores, of its accumulated hazard and of its interval's start
-module _ (now : Float) (cs : List HazardChannelState) (i : ℕ) (d : HazardChannelState) {elapsed added : Float} (lt : i < length cs)
-    (el : elapsed ≡ notBelowZero (sub binary64 now (getD cs i d .«interval_start_time»)))
-    (ad : added ≡ cumulativeHazard (getD cs i d .hazard) (getD cs i d .intervals) elapsed) where
+module _ (now : Float) (cs : List HazardChannelState) (i : ℕ) (d : HazardChannelState) {total : Float} (lt : i < length cs)
+    (sum : total ≡ add binary64 (getD cs i d .«accumulated_hazard») (cumulativeHazard (getD cs i d .hazard) (getD cs i d .intervals)
+    (notBelowZero (sub binary64 now (getD cs i d .«interval_start_time»))))) where
   abbrev stored : List HazardChannelState
-  stored =
-      set cs i (withProgress (getD cs i d) (add binary64 (getD cs i d .«accumulated_hazard») added) (getD cs i d .«interval_start_time»))
+  stored = set cs i (withProgress (getD cs i d) total (getD cs i d .«interval_start_time»))
 
   pub two-stores : set stored i (withProgress (getD stored i d) (getD stored i d .«accumulated_hazard») now)
       ≡ set cs i (settled now (getD cs i d))
   unfolding settledHazard
-  two-stores = rw (getD-set-same cs i _ d lt, set-set, ad, el)
+  two-stores = rw (getD-set-same cs i _ d lt, set-set, sum)

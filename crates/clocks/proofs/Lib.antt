@@ -6,11 +6,11 @@ pub mod EachLaws
 pub mod EarliestTurns
 pub mod EventTimes
 pub mod Places
+pub mod RequestLaws
 pub mod Rows
-pub mod ScheduleLaws
-pub mod SchedulingLaws
+pub mod SchedulingCases
 pub mod SettingCases
-pub mod SettingWays
+pub mod SettingOutcomes
 pub mod SoundChannels
 pub mod SoundClocks
 pub mod SoundKept

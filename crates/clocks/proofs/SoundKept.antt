@@ -23,7 +23,7 @@ use Rattle.clocks.specs.declared.scheduling.Censor.{Censor}
 use Rattle.clocks.specs.declared.scheduling.RealizedEvent.{RealizedEvent}
 use Rattle.clocks.proofs.Cases.{either-way}
 use Rattle.clocks.proofs.EventTimes.{delta-upto, winner-upto}
-use Rattle.clocks.proofs.SchedulingLaws.{pause-inactive, pause-active}
+use Rattle.clocks.proofs.SchedulingCases.{pause-inactive, pause-active}
 use Rattle.clocks.proofs.SoundChannels.{settled-sound, restarted-sound}
 use Rattle.clocks.proofs.SoundClocks.{schedule-sound, changed-sound}
 use Rattle.clocks.proofs.SoundPlaces.{removed-sound}

@@ -57,13 +57,13 @@ scheduledFor k now event index =
       clock =
           withSchedule k (record { present = true; index = index })
           (record { present = true; «cause_id» = event .«winning_cause»; time = at }) true now;
-      withdrawn = k .«scheduled_event»;
+      withdrawn = k .«scheduled_event_id»;
       event = event;
       ticks = ticksAt now (event .«delta_time») (k .«tick_scale»);
     })
     (record {
       clock = withSchedule k notScheduled (k .«current_winner») (k .«is_active») now;
-      withdrawn = k .«scheduled_event»;
+      withdrawn = k .«scheduled_event_id»;
       event = event;
       ticks = record { low = 0; high = 0 };
     })
@@ -80,7 +80,7 @@ pause k now =
       clock =
           withSchedule (withChannels k (onUsed (settled now) (k .«channel_count») (k .channels)) (k .«channel_count»))
           notScheduled (k .«current_winner») false now;
-      withdrawn = k .«scheduled_event»;
+      withdrawn = k .«scheduled_event_id»;
     })
     (record { clock = k; withdrawn = notScheduled })
 

@@ -1,5 +1,8 @@
-// The channels of a survival clock: one cause with its hazard, its threshold and what was gathered of it.
+// The channels of a survival clock: one cause with its hazard, its threshold and what was accumulated of it.
 ghost use mathlib.Core.Path.{_≡_};
+ghost use lib.Ieee.{binary64, add, sub};
+ghost use Rattle.hazards.specs.Floats.{notBelowZero};
+ghost use Rattle.hazards.specs.Rates.{intervalsFrom, cumulativeHazard};
 ghost use Rattle.clocks.specs.Channels.{emptyIntervals, emptyChannel, settledHazard};
 use hazards::rates::HazardRate;
 use hazards::rates::Intervals;
@@ -40,17 +43,34 @@ pub fn empty_channel() -> HazardChannelState
     }
 }
 
-// The hazard of the time since the interval's start, added to what was accumulated before.
+// The hazard of the time since an interval's start, added to what was accumulated before.
+pub(crate) fn accumulated_at<'a>(
+    accumulated: f64,
+    hazard: HazardRate,
+    ends: &'a [f64; 8],
+    rates: &'a [f64; 8],
+    count: usize,
+    start: f64,
+    time: f64,
+) -> f64
+    ensures { λ r. ⌜ r ≡ add binary64 accumulated (cumulativeHazard hazard (intervalsFrom (now (ends .entry)) (now (rates .entry)) count)
+        (notBelowZero (sub binary64 time start))) ⌝ }
+{
+    let elapsed = hazards::rates::not_below_zero(time - start);
+    let added = hazards::rates::cumulative_hazard(hazard, ends, rates, count, elapsed);
+    accumulated + added
+}
+
 pub fn settled_hazard(channel: HazardChannelState, now: f64) -> f64
     ensures { λ r. ⌜ r ≡ settledHazard channel now ⌝ }
 {
-    let elapsed = hazards::rates::not_below_zero(now - channel.interval_start_time);
-    let added = hazards::rates::cumulative_hazard(
+    accumulated_at(
+        channel.accumulated_hazard,
         channel.hazard,
         &channel.intervals.ends,
         &channel.intervals.rates,
         channel.intervals.count,
-        elapsed,
-    );
-    channel.accumulated_hazard + added
+        channel.interval_start_time,
+        now,
+    )
 }

@@ -106,12 +106,12 @@ fn final_event(earliest: Earliest, now: f64, censor: Censor) -> RealizedEvent
 fn scheduled_for(clock: SurvivalClock, now: f64, event: RealizedEvent, index: u64) -> Rescheduled
     ensures { λ r. ⌜ r ≡ scheduledFor clock now event index ⌝ }
 {
-    let withdrawn = clock.scheduled_event;
+    let withdrawn = clock.scheduled_event_id;
     let mut after = clock;
     after.last_update_time = now;
     if !event.present {
         let none = not_scheduled();
-        after.scheduled_event = none;
+        after.scheduled_event_id = none;
         return Rescheduled {
             clock: after,
             withdrawn,
@@ -128,7 +128,7 @@ fn scheduled_for(clock: SurvivalClock, now: f64, event: RealizedEvent, index: u6
         cause_id: event.winning_cause,
         time: now + event.delta_time,
     };
-    after.scheduled_event = scheduled;
+    after.scheduled_event_id = scheduled;
     after.current_winner = winner;
     after.is_active = true;
     let ticks = crate::ticks::ticks_at(now, event.delta_time, clock.tick_scale);
@@ -159,9 +159,9 @@ pub fn pause(clock: SurvivalClock, now: f64) -> Paused
             withdrawn: none,
         };
     }
-    let withdrawn = clock.scheduled_event;
+    let withdrawn = clock.scheduled_event_id;
     let mut paused = clock.settled(now);
-    paused.scheduled_event = none;
+    paused.scheduled_event_id = none;
     paused.is_active = false;
     paused.last_update_time = now;
     Paused {
@@ -189,7 +189,7 @@ pub fn on_event_dispatched(clock: SurvivalClock) -> Dispatched
         time: 0.0,
     };
     let mut idle = clock;
-    idle.scheduled_event = none;
+    idle.scheduled_event_id = none;
     idle.current_winner = no_winner;
     idle.is_active = false;
     if !winner.present {

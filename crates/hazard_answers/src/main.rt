@@ -3,26 +3,23 @@
 ghost use Prim.Native.Nat.{_≤_};
 use hazards::fields::f64_at;
 use hazards::fields::put_u64;
+use hazards::fields::u8_at;
 use hazards::fields::u64_at;
 use libc::STDOUT_FILENO;
-
-fn byte_at(bytes: &[u8], at: usize) -> u8 {
-    if at < bytes.len() { bytes[at] } else { 0 }
-}
 
 // operation u8, hazard of 138 bytes, t f64, w f64; expected: number u8, found u8, value f64.
 fn evaluation_agrees(case: &[u8]) -> bool {
     let f = probe::hazard_fields(case, 1);
-    let op = byte_at(case, 0);
+    let op = u8_at(case, 0);
     let t = f64_at(case, 139);
     let w = f64_at(case, 147);
     let evaluation = probe::evaluate(op, f.kind, f.first, f.count, &f.ends, &f.rates, t, w);
     let mut out = [0u8; 16];
     probe::put_evaluation(&mut out, 0, evaluation);
-    if byte_at(&out, 0) != byte_at(case, 155) {
+    if u8_at(&out, 0) != u8_at(case, 155) {
         return false;
     }
-    if byte_at(&out, 1) != byte_at(case, 156) {
+    if u8_at(&out, 1) != u8_at(case, 156) {
         return false;
     }
     u64_at(&out, 8) == u64_at(case, 157)
@@ -30,7 +27,7 @@ fn evaluation_agrees(case: &[u8]) -> bool {
 
 // The thresholds of a case: how many there are at 27, then twelve places for them.
 fn stream_of(case: &[u8]) -> &[u8] {
-    let entries = byte_at(case, 27) as usize;
+    let entries = u8_at(case, 27) as usize;
     let end = 28 + 8 * entries;
     if end <= case.len() {
         return &case[28..end];
@@ -42,7 +39,7 @@ fn stream_of(case: &[u8]) -> &[u8] {
 fn sample_agrees(case: &[u8]) -> bool {
     let settings = probe::settings_at(case, 1);
     let causes = probe::causes_at(case, 124);
-    let n = byte_at(case, 0) as usize;
+    let n = u8_at(case, 0) as usize;
     let position = u64_at(case, 19) as usize;
     let sampled = hazards::sampler::sample_next(causes, n, settings, stream_of(case), position);
     let mut out = [0u8; 40];

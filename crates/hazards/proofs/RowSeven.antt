@@ -44,11 +44,11 @@ four = fin false 1 (pos 2)
 abbrev sampled : ℕ → Sampled
 sampled cause = record { answer = eventOf cause four false; position = 2 }
 
-pub row-seven : (sampleNext causes 2 (settings 0) stream 0 ≡ sampled 3)
+pub row-7 : (sampleNext causes 2 (settings 0) stream 0 ≡ sampled 3)
     × (sampleNext causes 2 (settings 1) stream 0 ≡ sampled 7)
     × (sampleNext causes 2 (settings 2) stream 0 ≡ sampled 7)
 unfolding sampleNext sampleRefusal settingsFaults faultsOfAll hazardFaults choiceFault rangeFault intervalsFault ascending mostPairs
     ownRate zeroBits inRange isTime toBits size all pairsFrom drawsRefusal drawAt isThreshold f64At fieldAt littleEndian ofBits
     sampledEvent candidates candidateAfter isFiniteWait invertCumulativeHazard usedPairs waitOfKind constantWait notBelowZero earliest
     earlier precedes preferred foldl insertBy sortBy censoredAt add sub mul div lt le
-row-seven = (refl, refl, refl)
+row-7 = (refl, refl, refl)

@@ -14,6 +14,7 @@ use Rattle.hazards.specs.Lists.{foldl}
 use Rattle.hazards.specs.Refusals.{joined, isReserved, identifierFaultIf, numberOf, tooManyCauses, invalidState}
 use Rattle.hazards.specs.Answers.{noEvent}
 use Rattle.hazards.specs.Checks.{hazardFaults, hazardOf, intervalsOf}
+use Rattle.hazards.specs.declared.checks.HazardFields.{HazardFields}
 use Rattle.hazards.specs.Rates.{invertCumulativeHazard}
 use Rattle.hazards.specs.Draws.{streamLength, thresholdAt, drawAt}
 use Rattle.hazards.specs.Ties.{candidateAfter, tieBreakerOf, earlier, earliest}
@@ -38,9 +39,9 @@ noRecord = record {
 
 -- ---- the faults of one record, from those of its parts
 
-pub cause-faults-are : (c : CompetingCause) {reserved : Bool} {a b r : Faults} → reserved ≡ isReserved (c .«cause_id»)
-    → a ≡ hazardFaults (c .hazard) → b ≡ identifierFaultIf reserved → r ≡ joined a b → r ≡ causeFaults c
-cause-faults-are c e₁ e₂ e₃ e₄ = e₄ ∙ rw (e₂, e₃, e₁)
+pub cause-faults-are : (id : ℕ) (f : HazardFields) {reserved : Bool} {a b r : Faults} → reserved ≡ isReserved id
+    → a ≡ hazardFaults f → b ≡ identifierFaultIf reserved → r ≡ joined a b → r ≡ joined (hazardFaults f) (identifierFaultIf (isReserved id))
+cause-faults-are id f e₁ e₂ e₃ e₄ = e₄ ∙ rw (e₂, e₃, e₁)
 
 -- ---- the faults of all records from i up to n: of the one at i and of the rest, of none
 

@@ -68,8 +68,8 @@ intervalsFault h p =
 
 -- ---- the fields of a hazard as in SET
 
-abbrev pub fieldsNow : ℕ → Float → ℕ → List Float → List Float → HazardFields
-fieldsNow kind first count ends rates = record { kind = kind; first = first; count = count; ends = ends; rates = rates }
+abbrev pub fieldsFrom : ℕ → Float → ℕ → List Float → List Float → HazardFields
+fieldsFrom kind first count ends rates = record { kind = kind; first = first; count = count; ends = ends; rates = rates }
 
 abbrev pub hazardOf : HazardFields → HazardRate
 hazardOf f = rateOfKind (f .kind) (f .first)

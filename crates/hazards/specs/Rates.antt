@@ -18,8 +18,8 @@ pub record Pair : Type 0 where
   pub rate : Float
 
 -- the intervals of two arrays and a count
-abbrev pub intervalsNow : List Float → List Float → ℕ → Intervals
-intervalsNow ends rates count = record { ends = ends; rates = rates; count = count }
+abbrev pub intervalsFrom : List Float → List Float → ℕ → Intervals
+intervalsFrom ends rates count = record { ends = ends; rates = rates; count = count }
 
 -- the pair at a place of the two arrays
 abbrev pub pairAt : Intervals → ℕ → Pair

@@ -7,8 +7,8 @@ ghost use lib.Dec.{eqb, ltb};
 ghost use lib.Ieee.{Float, lt, le};
 ghost use Rattle.hazards.specs.Floats.{z, limit, zeroBits, inRange, isTime};
 ghost use Rattle.hazards.specs.Lists.{all};
-ghost use Rattle.hazards.specs.Rates.{intervalsNow, pairsFrom};
-ghost use Rattle.hazards.specs.Checks.{rateOfKind, ownRate, mostPairs, rangeFault, zeroPair, ascending, intervalsFault, hazardOf, intervalsOf, fieldsNow, hazardFaults};
+ghost use Rattle.hazards.specs.Rates.{intervalsFrom, pairsFrom};
+ghost use Rattle.hazards.specs.Checks.{rateOfKind, ownRate, mostPairs, rangeFault, zeroPair, ascending, intervalsFault, hazardOf, intervalsOf, fieldsFrom, hazardFaults};
 use crate::rates::HazardRate;
 use crate::rates::Intervals;
 use crate::refusals::Faults;
@@ -81,7 +81,7 @@ fn used_count(hazard: HazardRate, count: usize) -> usize
 // The rates of the first `used` pairs are in range.
 fn rates_in_range(rates: &[f64; 8], used: usize) -> bool
     requires { ⌜ used ≤ 8 ⌝ }
-    ensures { λ r. ⌜ ((ends : List Float) (n : ℕ) → r ≡ all (λ q. inRange (q .rate)) (pairsFrom (intervalsNow ends (now (rates .entry)) n) 0 used)) ⌝ }
+    ensures { λ r. ⌜ ((ends : List Float) (n : ℕ) → r ≡ all (λ q. inRange (q .rate)) (pairsFrom (intervalsFrom ends (now (rates .entry)) n) 0 used)) ⌝ }
 {
     let mut i: usize = 0;
     while i < used {
@@ -103,7 +103,7 @@ fn ascends(before: f64, end: f64) -> bool
 // The ends of the first `used` pairs ascend from above 0 to at most 2^40.
 fn ends_ascend(ends: &[f64; 8], used: usize) -> bool
     requires { ⌜ used ≤ 8 ⌝ }
-    ensures { λ r. ⌜ ((rates : List Float) (n : ℕ) → r ≡ ascending z (pairsFrom (intervalsNow (now (ends .entry)) rates n) 0 used)) ⌝ }
+    ensures { λ r. ⌜ ((rates : List Float) (n : ℕ) → r ≡ ascending z (pairsFrom (intervalsFrom (now (ends .entry)) rates n) 0 used)) ⌝ }
 {
     let mut before = 0.0;
     let mut i: usize = 0;
@@ -128,7 +128,7 @@ fn zero_pair(end: f64, rate: f64) -> bool
 
 // All bits of the pairs from `used` on are zero.
 fn unused_are_zero<'a>(ends: &'a [f64; 8], rates: &'a [f64; 8], used: usize) -> bool
-    ensures { λ r. ⌜ ((n : ℕ) → r ≡ all zeroPair (pairsFrom (intervalsNow (now (ends .entry)) (now (rates .entry)) n) used (8 - used))) ⌝ }
+    ensures { λ r. ⌜ ((n : ℕ) → r ≡ all zeroPair (pairsFrom (intervalsFrom (now (ends .entry)) (now (rates .entry)) n) used (8 - used))) ⌝ }
 {
     let mut i = used;
     while i < 8 {
@@ -142,7 +142,7 @@ fn unused_are_zero<'a>(ends: &'a [f64; 8], rates: &'a [f64; 8], used: usize) -> 
 
 // Refusal 5 of a hazard, whatever its ends.
 pub fn range_fault(hazard: HazardRate, rates: &[f64; 8], count: usize) -> bool
-    ensures { λ r. ⌜ ((ends : List Float) → r ≡ rangeFault hazard (intervalsNow ends (now (rates .entry)) count)) ⌝ }
+    ensures { λ r. ⌜ ((ends : List Float) → r ≡ rangeFault hazard (intervalsFrom ends (now (rates .entry)) count)) ⌝ }
 {
     let used = used_count(hazard, count);
     let own = in_range(own_rate(hazard));
@@ -157,7 +157,7 @@ pub fn intervals_fault<'a>(
     rates: &'a [f64; 8],
     count: usize,
 ) -> bool
-    ensures { λ r. ⌜ r ≡ intervalsFault hazard (intervalsNow (now (ends .entry)) (now (rates .entry)) count) ⌝ }
+    ensures { λ r. ⌜ r ≡ intervalsFault hazard (intervalsFrom (now (ends .entry)) (now (rates .entry)) count) ⌝ }
 {
     if count > most_pairs(hazard) {
         return true;
@@ -204,7 +204,7 @@ pub fn hazard_faults<'a>(
     ends: &'a [f64; 8],
     rates: &'a [f64; 8],
 ) -> Faults
-    ensures { λ r. ⌜ r ≡ hazardFaults (fieldsNow kind first count (now (ends .entry)) (now (rates .entry))) ⌝ }
+    ensures { λ r. ⌜ r ≡ hazardFaults (fieldsFrom kind first count (now (ends .entry)) (now (rates .entry))) ⌝ }
 {
     let hazard = rate_of_kind(kind, first);
     let pairs = count as usize;

@@ -1,6 +1,6 @@
 // The three evaluations as public calls on the fields of a hazard: refused by 4, 5 or 6, or the value.
 ghost use mathlib.Core.Path.{_≡_};
-ghost use Rattle.hazards.specs.Checks.{fieldsNow};
+ghost use Rattle.hazards.specs.Checks.{fieldsFrom};
 ghost use Rattle.hazards.specs.Evaluations.{valued, withoutValue, waitValued, evaluationRefusal, evaluatedHazardAt, evaluatedCumulativeHazard, evaluatedInversion};
 use crate::rates::Wait;
 
@@ -49,7 +49,7 @@ fn evaluation_refusal<'a>(
     rates: &'a [f64; 8],
     in_limits: bool,
 ) -> u8
-    ensures { λ r. ⌜ r ≡ evaluationRefusal (fieldsNow kind first count (now (ends .entry)) (now (rates .entry))) «in_limits» ⌝ }
+    ensures { λ r. ⌜ r ≡ evaluationRefusal (fieldsFrom kind first count (now (ends .entry)) (now (rates .entry))) «in_limits» ⌝ }
 {
     crate::checks::hazard_faults(kind, first, count, ends, rates)
         .joined(crate::refusals::range_fault_unless(in_limits))
@@ -64,7 +64,7 @@ pub fn evaluate_hazard_at<'a>(
     rates: &'a [f64; 8],
     t: f64,
 ) -> Evaluation
-    ensures { λ r. ⌜ r ≡ evaluatedHazardAt (fieldsNow kind first count (now (ends .entry)) (now (rates .entry))) t ⌝ }
+    ensures { λ r. ⌜ r ≡ evaluatedHazardAt (fieldsFrom kind first count (now (ends .entry)) (now (rates .entry))) t ⌝ }
 {
     let number = evaluation_refusal(kind, first, count, ends, rates, crate::checks::in_range(t));
     if number != 0 {
@@ -83,7 +83,7 @@ pub fn evaluate_cumulative_hazard<'a>(
     rates: &'a [f64; 8],
     t: f64,
 ) -> Evaluation
-    ensures { λ r. ⌜ r ≡ evaluatedCumulativeHazard (fieldsNow kind first count (now (ends .entry)) (now (rates .entry))) t ⌝ }
+    ensures { λ r. ⌜ r ≡ evaluatedCumulativeHazard (fieldsFrom kind first count (now (ends .entry)) (now (rates .entry))) t ⌝ }
 {
     let number = evaluation_refusal(kind, first, count, ends, rates, crate::checks::in_range(t));
     if number != 0 {
@@ -103,7 +103,7 @@ pub fn evaluate_inversion<'a>(
     t_start: f64,
     target_w: f64,
 ) -> Evaluation
-    ensures { λ r. ⌜ r ≡ evaluatedInversion (fieldsNow kind first count (now (ends .entry)) (now (rates .entry))) «t_start» «target_w» ⌝ }
+    ensures { λ r. ⌜ r ≡ evaluatedInversion (fieldsFrom kind first count (now (ends .entry)) (now (rates .entry))) «t_start» «target_w» ⌝ }
 {
     let start = crate::checks::in_range(t_start);
     let w = crate::checks::in_range(target_w);

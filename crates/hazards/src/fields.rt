@@ -1,10 +1,9 @@
 // Fields in byte buffers, little-endian. A field that does not lie whole in the buffer reads as 0, and writing it changes nothing.
 ghost use mathlib.Core.Path.{_≡_};
 ghost use Prim.Native.Nat.{_+_, _^_, _≤_, _<_};
-ghost use mathlib.Core.List.{_++_};
-ghost use lib.ListN.{length, take, drop};
+ghost use lib.ListN.{length};
 ghost use lib.Dec.{leb};
-ghost use Rattle.hazards.specs.Fields.{littleEndian, bytesOf, fieldAt, withField, f64At, withF64, i32At, withI32};
+ghost use Rattle.hazards.specs.Fields.{fieldAt, withField, f64At, withF64, i32At, withI32};
 
 fn wide(x: u8) -> u64
     ensures { λ r. ⌜ (r ≡ x) × (r < 256) ⌝ }
@@ -24,9 +23,13 @@ pub fn lies_whole(bytes: &[u8], at: usize, width: usize) -> bool
 }
 
 fn word_at(bytes: &[u8], at: usize, width: usize) -> u64
-    requires { ⌜ (width ≤ 8) × (at + width ≤ length (now bytes)) ⌝ }
-    ensures { λ r. ⌜ (r ≡ littleEndian (take width (drop at (now (bytes .entry))))) × (r < 256 ^ width) ⌝ }
+    requires { ⌜ width ≤ 8 ⌝ }
+    ensures { λ r. ⌜ (r ≡ fieldAt width (now (bytes .entry)) at) × (r < 256 ^ width) ⌝ }
 {
+    let whole = lies_whole(bytes, at, width);
+    if !whole {
+        return 0;
+    }
     let mut left = width;
     let mut word: u64 = 0;
     while 0 < left {
@@ -37,9 +40,12 @@ fn word_at(bytes: &[u8], at: usize, width: usize) -> u64
 }
 
 fn put_word(bytes: &mut [u8], at: usize, width: usize, word: u64)
-    requires { ⌜ at + width ≤ length (now bytes) ⌝ }
-    ensures { λ _. ⌜ now (bytes .exit) ≡ take at (now (bytes .entry)) ++ (bytesOf width word ++ drop (at + width) (now (bytes .entry))) ⌝ }
+    ensures { λ _. ⌜ now (bytes .exit) ≡ withField width (now (bytes .entry)) at word ⌝ }
 {
+    let whole = lies_whole(bytes, at, width);
+    if !whole {
+        return;
+    }
     let mut written: usize = 0;
     let mut rest = word;
     while written < width {
@@ -49,23 +55,21 @@ fn put_word(bytes: &mut [u8], at: usize, width: usize, word: u64)
     }
 }
 
+pub fn u8_at(bytes: &[u8], at: usize) -> u8
+    ensures { λ r. ⌜ r ≡ fieldAt 1 (now (bytes .entry)) at ⌝ }
+{
+    (word_at(bytes, at, 1) % 0x100) as u8
+}
+
 pub fn u32_at(bytes: &[u8], at: usize) -> u32
     ensures { λ r. ⌜ r ≡ fieldAt 4 (now (bytes .entry)) at ⌝ }
 {
-    let whole = lies_whole(bytes, at, 4);
-    if !whole {
-        return 0;
-    }
     (word_at(bytes, at, 4) % 0x1_0000_0000) as u32
 }
 
 pub fn u64_at(bytes: &[u8], at: usize) -> u64
     ensures { λ r. ⌜ r ≡ fieldAt 8 (now (bytes .entry)) at ⌝ }
 {
-    let whole = lies_whole(bytes, at, 8);
-    if !whole {
-        return 0;
-    }
     word_at(bytes, at, 8)
 }
 
@@ -91,22 +95,22 @@ pub fn f64_at(bytes: &[u8], at: usize) -> f64
     f64::from_bits(bits)
 }
 
+pub fn put_u8(bytes: &mut [u8], at: usize, x: u8)
+    ensures { λ _. ⌜ now (bytes .exit) ≡ withField 1 (now (bytes .entry)) at x ⌝ }
+{
+    put_word(bytes, at, 1, x as u64);
+}
+
 pub fn put_u32(bytes: &mut [u8], at: usize, x: u32)
     ensures { λ _. ⌜ now (bytes .exit) ≡ withField 4 (now (bytes .entry)) at x ⌝ }
 {
-    let whole = lies_whole(bytes, at, 4);
-    if whole {
-        put_word(bytes, at, 4, x as u64);
-    }
+    put_word(bytes, at, 4, x as u64);
 }
 
 pub fn put_u64(bytes: &mut [u8], at: usize, x: u64)
     ensures { λ _. ⌜ now (bytes .exit) ≡ withField 8 (now (bytes .entry)) at x ⌝ }
 {
-    let whole = lies_whole(bytes, at, 8);
-    if whole {
-        put_word(bytes, at, 8, x);
-    }
+    put_word(bytes, at, 8, x);
 }
 
 pub fn put_i32(bytes: &mut [u8], at: usize, x: i32)

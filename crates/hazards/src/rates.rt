@@ -5,7 +5,7 @@ ghost use Prim.Native.Nat.{_-_, min};
 ghost use mathlib.Core.List.{[]};
 ghost use lib.Ieee.{lt, le};
 ghost use Rattle.hazards.specs.Floats.{z, notBelowZero};
-ghost use Rattle.hazards.specs.Rates.{intervalsNow, pairsFrom, usedPairs, piecewiseHazard, piecewiseCumulative, pairsAfter, piecewiseWait, constantWait, hazardAt, cumulativeHazard, invertCumulativeHazard};
+ghost use Rattle.hazards.specs.Rates.{intervalsFrom, pairsFrom, usedPairs, piecewiseHazard, piecewiseCumulative, pairsAfter, piecewiseWait, constantWait, hazardAt, cumulativeHazard, invertCumulativeHazard};
 
 // A kind with its own rate: the rate of Constant, eta of Gompertz (with b = 0), the trailing rate of PiecewiseConstant.
 pub enum HazardRate {
@@ -35,8 +35,8 @@ pub fn not_below_zero(x: f64) -> f64
     if x > 0.0 { x } else { 0.0 }
 }
 
-// There are eight pairs at most.
-fn at_most_eight(count: usize) -> usize
+// There are eight pairs, records and channels at most.
+pub fn at_most_eight(count: usize) -> usize
     ensures { λ r. ⌜ r ≡ min count 8 ⌝ }
 {
     if count < 8 { count } else { 8 }
@@ -49,7 +49,7 @@ fn piecewise_hazard<'a>(
     trailing: f64,
     t: f64,
 ) -> f64
-    ensures { λ r. ⌜ r ≡ piecewiseHazard (usedPairs (intervalsNow (now (ends .entry)) (now (rates .entry)) count)) trailing t ⌝ }
+    ensures { λ r. ⌜ r ≡ piecewiseHazard (usedPairs (intervalsFrom (now (ends .entry)) (now (rates .entry)) count)) trailing t ⌝ }
 {
     let used = at_most_eight(count);
     let mut i: usize = 0;
@@ -69,7 +69,7 @@ pub fn hazard_at<'a>(
     count: usize,
     t: f64,
 ) -> f64
-    ensures { λ r. ⌜ r ≡ hazardAt hazard (intervalsNow (now (ends .entry)) (now (rates .entry)) count) t ⌝ }
+    ensures { λ r. ⌜ r ≡ hazardAt hazard (intervalsFrom (now (ends .entry)) (now (rates .entry)) count) t ⌝ }
 {
     if t < 0.0 {
         return 0.0;
@@ -89,7 +89,7 @@ fn piecewise_cumulative<'a>(
     trailing: f64,
     t: f64,
 ) -> f64
-    ensures { λ r. ⌜ r ≡ piecewiseCumulative (usedPairs (intervalsNow (now (ends .entry)) (now (rates .entry)) count)) trailing t z z ⌝ }
+    ensures { λ r. ⌜ r ≡ piecewiseCumulative (usedPairs (intervalsFrom (now (ends .entry)) (now (rates .entry)) count)) trailing t z z ⌝ }
 {
     let used = at_most_eight(count);
     let mut cum = 0.0;
@@ -115,7 +115,7 @@ pub fn cumulative_hazard<'a>(
     count: usize,
     t: f64,
 ) -> f64
-    ensures { λ r. ⌜ r ≡ cumulativeHazard hazard (intervalsNow (now (ends .entry)) (now (rates .entry)) count) t ⌝ }
+    ensures { λ r. ⌜ r ≡ cumulativeHazard hazard (intervalsFrom (now (ends .entry)) (now (rates .entry)) count) t ⌝ }
 {
     if t <= 0.0 {
         return 0.0;
@@ -130,7 +130,7 @@ pub fn cumulative_hazard<'a>(
 
 // The place of the first pair that does not end at or before t, or one past the used pairs.
 fn interval_after<'a>(ends: &'a [f64; 8], rates: &'a [f64; 8], count: usize, t: f64) -> usize
-    ensures { λ r. ⌜ pairsFrom (intervalsNow (now (ends .entry)) (now (rates .entry)) count) r (min count 8 - r) ≡ pairsAfter t (usedPairs (intervalsNow (now (ends .entry)) (now (rates .entry)) count)) ⌝ }
+    ensures { λ r. ⌜ pairsFrom (intervalsFrom (now (ends .entry)) (now (rates .entry)) count) r (min count 8 - r) ≡ pairsAfter t (usedPairs (intervalsFrom (now (ends .entry)) (now (rates .entry)) count)) ⌝ }
 {
     let used = at_most_eight(count);
     let mut i: usize = 0;
@@ -169,7 +169,7 @@ fn piecewise_wait<'a>(
     start: f64,
     w: f64,
 ) -> Wait
-    ensures { λ r. ⌜ r ≡ piecewiseWait (pairsAfter start (usedPairs (intervalsNow (now (ends .entry)) (now (rates .entry)) count))) trailing start start w ⌝ }
+    ensures { λ r. ⌜ r ≡ piecewiseWait (pairsAfter start (usedPairs (intervalsFrom (now (ends .entry)) (now (rates .entry)) count))) trailing start start w ⌝ }
 {
     let used = at_most_eight(count);
     let mut i = interval_after(ends, rates, count, start);
@@ -199,7 +199,7 @@ fn constant_wait(rate: f64, w: f64) -> Wait
     }
 }
 
-// The wait from an age on until the hazard gathered reaches w.
+// The wait from an age on until the hazard accumulated reaches w.
 pub fn invert_cumulative_hazard<'a>(
     hazard: HazardRate,
     ends: &'a [f64; 8],
@@ -208,7 +208,7 @@ pub fn invert_cumulative_hazard<'a>(
     t_start: f64,
     target_w: f64,
 ) -> Wait
-    ensures { λ r. ⌜ r ≡ invertCumulativeHazard hazard (intervalsNow (now (ends .entry)) (now (rates .entry)) count) «t_start» «target_w» ⌝ }
+    ensures { λ r. ⌜ r ≡ invertCumulativeHazard hazard (intervalsFrom (now (ends .entry)) (now (rates .entry)) count) «t_start» «target_w» ⌝ }
 {
     if target_w <= 0.0 {
         return Wait::After(0.0);

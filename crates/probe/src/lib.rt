@@ -8,6 +8,7 @@ use hazards::evaluations::Evaluation;
 use hazards::fields::f64_at;
 use hazards::fields::put_f64;
 use hazards::fields::put_u64;
+use hazards::fields::u8_at;
 use hazards::fields::u32_at;
 use hazards::fields::u64_at;
 use hazards::rates::HazardRate;
@@ -15,10 +16,6 @@ use hazards::rates::Wait;
 use hazards::sampler::CompetingCause;
 use hazards::sampler::SampleSettings;
 use hazards::sampler::Sampled;
-
-fn byte_at(bytes: &[u8], at: usize) -> u8 {
-    if at < bytes.len() { bytes[at] } else { 0 }
-}
 
 // The eight floats that stand 16 bytes apart.
 pub fn floats_at(bytes: &[u8], at: usize) -> [f64; 8]
@@ -42,9 +39,9 @@ pub fn hazard_fields(bytes: &[u8], at: usize) -> HazardFields
     let ends = floats_at(bytes, at + 10);
     let rates = floats_at(bytes, at + 18);
     HazardFields {
-        kind: byte_at(bytes, at),
+        kind: u8_at(bytes, at),
         first: f64_at(bytes, at + 1),
-        count: byte_at(bytes, at + 9),
+        count: u8_at(bytes, at + 9),
         ends,
         rates,
     }
@@ -80,9 +77,9 @@ pub fn settings_at(bytes: &[u8], at: usize) -> SampleSettings
     requires { ⌜ at ≤ 16384 ⌝ }
 {
     SampleSettings {
-        tie: byte_at(bytes, at),
+        tie: u8_at(bytes, at),
         current_age: f64_at(bytes, at + 1),
-        has_censor: byte_at(bytes, at + 9),
+        has_censor: u8_at(bytes, at + 9),
         censor_age: f64_at(bytes, at + 10),
     }
 }
@@ -237,7 +234,7 @@ pub extern "C" fn probe_sample(
     positions: &[u8],
     out: &mut [u8],
 ) -> u64 {
-    let n = byte_at(request, 0) as usize;
+    let n = u8_at(request, 0) as usize;
     let settings = settings_at(request, 1);
     let causes = causes_at(request, 19);
     let count = lesser(positions.len() / 8, out.len() / 40);

@@ -13,8 +13,8 @@ Inv-loop request stream positions out₀ n settings causes count i₀ out i = (i
 abbrev μ-loop : tie.MeasureT-loop
 μ-loop request stream positions out₀ n settings causes count i₀ out i = count - i
 
-byte-at-requires : tie.Need-byte-at-requires Inv-loop μ-loop
-byte-at-requires c κs = search needs
+u8-at-requires : tie.Need-u8-at-requires Inv-loop μ-loop
+u8-at-requires c κs = search needs
 
 cast-n : tie.Need-cast-n Inv-loop μ-loop
 cast-n c = omega arith
@@ -67,7 +67,7 @@ probe-sample-spec =
     (tie.spec
     Inv-loop
     μ-loop
-    byte-at-requires
+    u8-at-requires
     cast-n
     settings-at-requires
     causes-at-requires

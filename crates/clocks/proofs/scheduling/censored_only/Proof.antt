@@ -1,7 +1,7 @@
 -- `scheduling::censored_only` meets its contract: the three cases without a candidate.
 use mathlib.Core.Path.{sym, _∙_}
 use borrow.Author.Tests.{not-true, not-false}
-use Rattle.clocks.proofs.SchedulingLaws.{no-candidate-no-censor, no-candidate-late, no-candidate-censored}
+use Rattle.clocks.proofs.SchedulingCases.{no-candidate-no-censor, no-candidate-late, no-candidate-censored}
 use borrow.Author.Needs.{needs}
 use Rattle.clocks.proofs.scheduling.censored_only.Statement.{statement}
 use Rattle.clocks.proofs.scheduling.censored_only.Tie as tie

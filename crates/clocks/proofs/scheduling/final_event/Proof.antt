@@ -2,7 +2,7 @@
 use mathlib.Core.Path.{sym, _∙_}
 use mathlib.Core.Logic.{⊎-elim}
 use borrow.Author.Tests.{not-true, not-false}
-use Rattle.clocks.proofs.SchedulingLaws.{found-no-censor, found-in-time, found-censored}
+use Rattle.clocks.proofs.SchedulingCases.{found-no-censor, found-in-time, found-censored}
 use borrow.Author.Needs.{needs}
 use Rattle.clocks.proofs.scheduling.final_event.Statement.{statement}
 use Rattle.clocks.proofs.scheduling.final_event.Tie as tie

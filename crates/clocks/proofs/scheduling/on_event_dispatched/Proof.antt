@@ -2,7 +2,7 @@
 use mathlib.Core.Path.{sym}
 use lib.Ieee.{ofBits}
 use borrow.Author.Tests.{not-true, not-false}
-use Rattle.clocks.proofs.SchedulingLaws.{dispatched-none, dispatched-one}
+use Rattle.clocks.proofs.SchedulingCases.{dispatched-none, dispatched-one}
 use borrow.Author.Needs.{needs}
 use Rattle.clocks.proofs.scheduling.on_event_dispatched.Statement.{statement}
 use Rattle.clocks.proofs.scheduling.on_event_dispatched.Tie as tie

@@ -1,7 +1,7 @@
 -- `scheduling::pause` meets its contract: of a clock that is not active, and of one that is.
 use mathlib.Core.Path.{sym}
 use borrow.Author.Tests.{not-true, not-false}
-use Rattle.clocks.proofs.SchedulingLaws.{pause-inactive, pause-active}
+use Rattle.clocks.proofs.SchedulingCases.{pause-inactive, pause-active}
 use borrow.Author.Needs.{needs}
 use Rattle.clocks.proofs.scheduling.pause.Statement.{statement}
 use Rattle.clocks.proofs.scheduling.pause.Tie as tie

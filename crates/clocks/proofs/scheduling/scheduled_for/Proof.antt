@@ -1,7 +1,7 @@
 -- `scheduling::scheduled_for` meets its contract: without an event and with one.
 use mathlib.Core.Path.{sym, ap, _∙_}
 use borrow.Author.Tests.{not-true, not-false}
-use Rattle.clocks.proofs.SchedulingLaws.{unscheduled, scheduled-none, scheduled-one}
+use Rattle.clocks.proofs.SchedulingCases.{unscheduled, scheduled-none, scheduled-one}
 use borrow.Author.Needs.{needs}
 use Rattle.clocks.proofs.scheduling.scheduled_for.Statement.{statement}
 use Rattle.clocks.proofs.scheduling.scheduled_for.Tie as tie

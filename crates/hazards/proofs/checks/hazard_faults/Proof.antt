@@ -1,7 +1,7 @@
 -- `checks::hazard_faults` meets its contract.
 use mathlib.Core.Path.{_∙_, ap}
 use borrow.Author.Needs.{needs}
-use Rattle.hazards.specs.Checks.{fieldsNow, hazardFaults, choiceFault, rangeFault, intervalsFault, intervalsOf}
+use Rattle.hazards.specs.Checks.{fieldsFrom, hazardFaults, choiceFault, rangeFault, intervalsFault, intervalsOf}
 use Rattle.hazards.specs.declared.rates.HazardRate.{HazardRate}
 use Rattle.hazards.proofs.checks.hazard_faults.Statement.{statement}
 use Rattle.hazards.proofs.checks.hazard_faults.Tie as tie
@@ -23,7 +23,7 @@ unfolding hazardFaults choiceFault
 returns c =
     let r = c .before .before .before in
     let a = r .before .args in
-    let f = fieldsNow (a .kind) (a .first) (a .count) (a .ends .now) (a .rates .now) in
+    let f = fieldsFrom (a .kind) (a .first) (a .count) (a .ends .now) (a .rates .now) in
     rw (
       c .before .before .choice-fault .ensures,
       c .before .range-fault .ensures (f .ends) ∙ ap (λ (h : HazardRate). rangeFault h (intervalsOf f)) (r .rate-of-kind .ensures),

@@ -3,7 +3,7 @@ use mathlib.Core.Path.{_∙_, ap}
 use native.Mathlib.Omega.{arith}
 use borrow.Author.Needs.{needs}
 use Rattle.hazards.specs.Floats.{inRange}
-use Rattle.hazards.specs.Rates.{intervalsNow}
+use Rattle.hazards.specs.Rates.{intervalsFrom}
 use Rattle.hazards.proofs.CheckLaws.{most-eight, range-is}
 use Rattle.hazards.proofs.checks.range_fault.Statement.{statement}
 use Rattle.hazards.proofs.checks.range_fault.Tie as tie
@@ -24,7 +24,7 @@ returns : tie.Need-returns
 returns c =
     let s = c .before .before .before in
     let a = s .before .args in
-    λ ends. range-is (a .hazard) (intervalsNow ends (a .rates .now) (a .count)) (s .used-count .ensures)
+    λ ends. range-is (a .hazard) (intervalsFrom ends (a .rates .now) (a .count)) (s .used-count .ensures)
     (c .before .in-range .ensures ∙ ap inRange (c .before .before .own-rate .ensures)) (c .rates-in-range .ensures ends (a .count))
 
 pub range-fault-spec : {M : Type 1} → statement M

@@ -6,7 +6,7 @@ use borrow.Author.Needs.{needs}
 use borrow.Author.Tests.{not-true, not-false}
 use Rattle.hazards.specs.Checks.{zeroPair}
 use Rattle.hazards.specs.Lists.{all}
-use Rattle.hazards.specs.Rates.{intervalsNow, pairsFrom}
+use Rattle.hazards.specs.Rates.{intervalsFrom, pairsFrom}
 use Rattle.hazards.proofs.ListLaws.{all-next, all-fails, all-none}
 use Rattle.hazards.proofs.Pairs.{pairs-next, pairs-end}
 use Rattle.hazards.proofs.checks.unused_are_zero.Statement.{statement}
@@ -14,7 +14,7 @@ use Rattle.hazards.proofs.checks.unused_are_zero.Tie as tie
 
 abbrev Inv-loop : tie.InvT-loop
 Inv-loop ends rates used i₀ i =
-    (n : ℕ) → all zeroPair (pairsFrom (intervalsNow ends rates n) i (8 - i)) ≡ all zeroPair (pairsFrom (intervalsNow ends rates n) used (8 - used))
+    (n : ℕ) → all zeroPair (pairsFrom (intervalsFrom ends rates n) i (8 - i)) ≡ all zeroPair (pairsFrom (intervalsFrom ends rates n) used (8 - used))
 
 abbrev μ-loop : tie.MeasureT-loop
 μ-loop ends rates used i₀ i = 8 - i
@@ -41,7 +41,7 @@ returns : tie.Need-returns Inv-loop μ-loop
 returns c =
     let l = c .before .before .before .before .before in
     let a = l .before .args in
-    λ n. sym (all-fails zeroPair (pairs-next (intervalsNow (a .ends .now) (a .rates .now) n) 8 (l .loop .i) (omega arith)) (sym (c .before .zero-pair .ensures) ∙ not-true _ (c .if1 .taken))) ∙ l .loop .inv n
+    λ n. sym (all-fails zeroPair (pairs-next (intervalsFrom (a .ends .now) (a .rates .now) n) 8 (l .loop .i) (omega arith)) (sym (c .before .zero-pair .ensures) ∙ not-true _ (c .if1 .taken))) ∙ l .loop .inv n
 
 add-i : tie.Need-add-i Inv-loop μ-loop
 add-i c = omega arith
@@ -53,13 +53,13 @@ loop-again : tie.Need-loop-again Inv-loop μ-loop
 loop-again c =
     let l = c .before .before .before .before .before in
     let a = l .before .args in
-    λ n. sym (all-next zeroPair (pairs-next (intervalsNow (a .ends .now) (a .rates .now) n) 8 (l .loop .i) (omega arith)) (sym (c .before .zero-pair .ensures) ∙ not-false _ (c .if1 .left))) ∙ l .loop .inv n
+    λ n. sym (all-next zeroPair (pairs-next (intervalsFrom (a .ends .now) (a .rates .now) n) 8 (l .loop .i) (omega arith)) (sym (c .before .zero-pair .ensures) ∙ not-false _ (c .if1 .left))) ∙ l .loop .inv n
 
 returns-2 : tie.Need-returns-2 Inv-loop μ-loop
 returns-2 c =
     let l = c .before in
     let a = l .before .args in
-    λ n. sym (all-none zeroPair (pairs-end (intervalsNow (a .ends .now) (a .rates .now) n) 8 (l .loop .i) (omega arith))) ∙ l .loop .inv n
+    λ n. sym (all-none zeroPair (pairs-end (intervalsFrom (a .ends .now) (a .rates .now) n) 8 (l .loop .i) (omega arith))) ∙ l .loop .inv n
 
 pub unused-are-zero-spec : {M : Type 1} → statement M
 unused-are-zero-spec =

@@ -1,7 +1,7 @@
 -- `evaluations::evaluate_cumulative_hazard` meets its contract.
 use mathlib.Core.Path.{_∙_, ap}
 use borrow.Author.Needs.{needs}
-use Rattle.hazards.specs.Checks.{fieldsNow, hazardOf, intervalsOf}
+use Rattle.hazards.specs.Checks.{fieldsFrom, hazardOf, intervalsOf}
 use Rattle.hazards.specs.Evaluations.{evaluatedCumulativeHazard, valued}
 use Rattle.hazards.specs.Rates.{cumulativeHazard}
 use Rattle.hazards.specs.declared.rates.HazardRate.{HazardRate}
@@ -23,7 +23,7 @@ unfolding evaluatedCumulativeHazard
 returns c =
     let s = c .before .before in
     let a = s .before .before .args in
-    let f = fieldsNow (a .kind) (a .first) (a .count) (a .ends .now) (a .rates .now) in
+    let f = fieldsFrom (a .kind) (a .first) (a .count) (a .ends .now) (a .rates .now) in
     refused f (s .evaluation-refusal .ensures) (s .before .in-range .ensures) _ (c .before .if1 .taken) (c .without-value .ensures)
 
 rate-of-kind-requires : tie.Need-rate-of-kind-requires
@@ -41,7 +41,7 @@ returns-2 c =
     let h = c .before .before in
     let s = h .before .before in
     let a = s .before .before .args in
-    let f = fieldsNow (a .kind) (a .first) (a .count) (a .ends .now) (a .rates .now) in
+    let f = fieldsFrom (a .kind) (a .first) (a .count) (a .ends .now) (a .rates .now) in
     let t = s .before .before .args .t in
     evaluated f (s .evaluation-refusal .ensures) (s .before .in-range .ensures) (valued (cumulativeHazard (hazardOf f) (intervalsOf f) t)) (h .before .if1 .left)
     (c .valued .ensures

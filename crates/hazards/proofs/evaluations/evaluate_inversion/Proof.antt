@@ -2,7 +2,7 @@
 use mathlib.Core.Bool.{_&&_}
 use mathlib.Core.Path.{_≡_, _∙_, ap}
 use borrow.Author.Needs.{needs}
-use Rattle.hazards.specs.Checks.{fieldsNow, hazardOf, intervalsOf}
+use Rattle.hazards.specs.Checks.{fieldsFrom, hazardOf, intervalsOf}
 use Rattle.hazards.specs.Evaluations.{evaluatedInversion, waitValued}
 use Rattle.hazards.specs.Floats.{inRange}
 use Rattle.hazards.specs.Rates.{invertCumulativeHazard}
@@ -30,7 +30,7 @@ returns c =
     let a = s .before .before .before .args in
     let e : (s .before .before .in-range .result && s .before .in-range2 .result) ≡ (inRange (a .t-start) && inRange (a .target-w)) =
     rw (s .before .before .in-range .ensures, s .before .in-range2 .ensures) in
-    refused (fieldsNow (a .kind) (a .first) (a .count) (a .ends .now) (a .rates .now)) (s .evaluation-refusal .ensures) e _ (c .before .if1 .taken) (c .without-value .ensures)
+    refused (fieldsFrom (a .kind) (a .first) (a .count) (a .ends .now) (a .rates .now)) (s .evaluation-refusal .ensures) e _ (c .before .if1 .taken) (c .without-value .ensures)
 
 rate-of-kind-requires : tie.Need-rate-of-kind-requires
 rate-of-kind-requires c κs = search needs
@@ -47,7 +47,7 @@ returns-2 c =
     let h = c .before .before in
     let s = h .before .before in
     let a = s .before .before .before .args in
-    let f = fieldsNow (a .kind) (a .first) (a .count) (a .ends .now) (a .rates .now) in
+    let f = fieldsFrom (a .kind) (a .first) (a .count) (a .ends .now) (a .rates .now) in
     let e : (s .before .before .in-range .result && s .before .in-range2 .result) ≡ (inRange (a .t-start) && inRange (a .target-w)) =
     rw (s .before .before .in-range .ensures, s .before .in-range2 .ensures) in
     evaluated f (s .evaluation-refusal .ensures) e (waitValued (invertCumulativeHazard (hazardOf f) (intervalsOf f) (a .t-start) (a .target-w)))

@@ -1,6 +1,6 @@
 -- `evaluations::evaluation_refusal` meets its contract.
 use borrow.Author.Needs.{needs}
-use Rattle.hazards.specs.Checks.{fieldsNow}
+use Rattle.hazards.specs.Checks.{fieldsFrom}
 use Rattle.hazards.proofs.EvaluationLaws.{refusal-of}
 use Rattle.hazards.proofs.evaluations.evaluation_refusal.Statement.{statement}
 use Rattle.hazards.proofs.evaluations.evaluation_refusal.Tie as tie
@@ -20,7 +20,7 @@ number-requires c κs = search needs
 returns : tie.Need-returns
 returns c =
     let a = c .before .before .before .before .args in
-    refusal-of (fieldsNow (a .kind) (a .first) (a .count) (a .ends .now) (a .rates .now)) (a .in-limits) (c .number .ensures) (c .before .joined .ensures)
+    refusal-of (fieldsFrom (a .kind) (a .first) (a .count) (a .ends .now) (a .rates .now)) (a .in-limits) (c .number .ensures) (c .before .joined .ensures)
     (c .before .before .before .hazard-faults .ensures) (c .before .before .range-fault-unless .ensures)
 
 pub evaluation-refusal-spec : {M : Type 1} → statement M

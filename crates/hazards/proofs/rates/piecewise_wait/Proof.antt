@@ -3,7 +3,7 @@ use mathlib.Core.Path.{_≡_, sym, _∙_}
 use Prim.Native.Nat.{_-_}
 use native.Mathlib.Omega.{arith}
 use borrow.Author.Needs.{needs}
-use Rattle.hazards.specs.Rates.{intervalsNow, pairsFrom, usedPairs, pairsAfter, piecewiseWait}
+use Rattle.hazards.specs.Rates.{intervalsFrom, pairsFrom, usedPairs, pairsAfter, piecewiseWait}
 use Rattle.hazards.proofs.Pairs.{pairs-next, pairs-end}
 use Rattle.hazards.proofs.Turns.{wait-here, wait-later}
 use Rattle.hazards.proofs.rates.piecewise_wait.Statement.{statement}
@@ -11,8 +11,8 @@ use Rattle.hazards.proofs.rates.piecewise_wait.Tie as tie
 
 abbrev Inv-loop : tie.InvT-loop
 Inv-loop ends rates count trailing start w used i₀ cur-t₀ remaining-w₀ i cur-t remaining-w =
-    piecewiseWait (pairsFrom (intervalsNow ends rates count) i (used - i)) trailing start cur-t remaining-w
-    ≡ piecewiseWait (pairsAfter start (usedPairs (intervalsNow ends rates count))) trailing start start w
+    piecewiseWait (pairsFrom (intervalsFrom ends rates count) i (used - i)) trailing start cur-t remaining-w
+    ≡ piecewiseWait (pairsAfter start (usedPairs (intervalsFrom ends rates count))) trailing start start w
 
 abbrev μ-loop : tie.MeasureT-loop
 μ-loop ends rates count trailing start w used i₀ cur-t₀ remaining-w₀ i cur-t remaining-w = used - i
@@ -48,7 +48,7 @@ returns : tie.Need-returns Inv-loop μ-loop
 returns c =
     let l = c .before .before .before .before .before .before in
     let a = l .before .before .before .args in
-    let next = pairs-next (intervalsNow (a .ends .now) (a .rates .now) (a .count)) (l .before .before .at-most-eight .result) (l .loop .i) (omega arith) in
+    let next = pairs-next (intervalsFrom (a .ends .now) (a .rates .now) (a .count)) (l .before .before .at-most-eight .result) (l .loop .i) (omega arith) in
     sym (wait-here (a .trailing) (a .start) (l .loop .cur-t) (l .loop .remaining-w) next (c .before .before .not-below-zero .ensures)
     (sym (c .before .within-capacity .ensures) ∙ c .if1 .taken))
     ∙ l .loop .inv
@@ -63,7 +63,7 @@ loop-again : tie.Need-loop-again Inv-loop μ-loop
 loop-again c =
     let l = c .before .before .before .before .before .before in
     let a = l .before .before .before .args in
-    let next = pairs-next (intervalsNow (a .ends .now) (a .rates .now) (a .count)) (l .before .before .at-most-eight .result) (l .loop .i) (omega arith) in
+    let next = pairs-next (intervalsFrom (a .ends .now) (a .rates .now) (a .count)) (l .before .before .at-most-eight .result) (l .loop .i) (omega arith) in
     sym (wait-later (a .trailing) (a .start) (l .loop .cur-t) (l .loop .remaining-w) next (c .before .before .not-below-zero .ensures)
     (sym (c .before .within-capacity .ensures) ∙ c .if1 .left))
     ∙ l .loop .inv
@@ -76,7 +76,7 @@ returns-2 c =
     let l = c .before .before in
     let a = l .before .before .before .args in
     c .trailing-wait .ensures
-    ∙ rw (pairs-end (intervalsNow (a .ends .now) (a .rates .now) (a .count)) (l .before .before .at-most-eight .result) (l .loop .i) (omega arith)) at (l .loop .inv)
+    ∙ rw (pairs-end (intervalsFrom (a .ends .now) (a .rates .now) (a .count)) (l .before .before .at-most-eight .result) (l .loop .i) (omega arith)) at (l .loop .inv)
 
 pub piecewise-wait-spec : {M : Type 1} → statement M
 piecewise-wait-spec =

@@ -1,0 +1,157 @@
+-- What each method of a clock does to its scheduled event, winner and active flag. The engine's queue rests on these laws.
+use mathlib.Core.Path.{_≡_, refl, ap, sym}
+use mathlib.Core.Bool.{Bool, true, false, true≢false}
+use mathlib.Core.List.{List}
+use Prim.Native.Nat.{ℕ}
+use lib.Ieee.{Float}
+use Rattle.hazards.specs.declared.ties.TieBreaker.{TieBreaker}
+use Rattle.clocks.specs.Channels.{placeOf, holdsAt}
+use Rattle.clocks.specs.Clocks.{notScheduled, noWinner, newClock, usedChannels, withChannels, removeChannel}
+use Rattle.clocks.specs.Setting.{setChannel}
+use Rattle.clocks.specs.Scheduling.{scheduledFor, reschedule, pause, resume, onEventDispatched}
+use Rattle.clocks.specs.declared.clocks.EntityId.{EntityId}
+use Rattle.clocks.specs.declared.clocks.HazardInterruptionPolicy.{HazardInterruptionPolicy}
+use Rattle.clocks.specs.declared.clocks.SurvivalClock.{SurvivalClock}
+use Rattle.clocks.specs.declared.scheduling.Censor.{Censor}
+use Rattle.clocks.specs.declared.scheduling.RealizedEvent.{RealizedEvent}
+use Rattle.clocks.specs.declared.scheduling.Rescheduled.{Rescheduled}
+use Rattle.clocks.specs.declared.setting.CauseSetting.{CauseSetting}
+use Rattle.clocks.proofs.Cases.{either-way}
+use Rattle.clocks.proofs.SchedulingCases.{pause-inactive, pause-active}
+use Rattle.clocks.proofs.SettingOutcomes.{set-way}
+
+-- a clock that differs from k in its channels alone
+abbrev pub OnlyChannels : SurvivalClock → SurvivalClock → Type 0
+OnlyChannels k clock = clock ≡ withChannels k (clock .channels) (clock .«channel_count»)
+
+-- ---- new
+module _ (process : ℕ) (hasEntity : Bool) (entity : EntityId) (policy : HazardInterruptionPolicy) (tie : TieBreaker) (scale : Float) where
+  pub new-scheduled : newClock process hasEntity entity policy tie scale .«scheduled_event_id» ≡ notScheduled
+  unfolding newClock
+  new-scheduled = refl
+
+  pub new-winner : newClock process hasEntity entity policy tie scale .«current_winner» ≡ noWinner
+  unfolding newClock
+  new-winner = refl
+
+  pub new-active : newClock process hasEntity entity policy tie scale .«is_active» ≡ false
+  unfolding newClock
+  new-active = refl
+
+-- ---- set_channel
+module _ (k : SurvivalClock) (s : CauseSetting) (stream : List ℕ) (position : ℕ) where
+  pub set-rest : OnlyChannels k (setChannel k s stream position .clock)
+  set-rest = set-way k s stream position (λ r. OnlyChannels k (r .clock)) (λ cs n. refl) (λ cs n d. refl) (λ d. refl) refl
+
+  pub set-scheduled : setChannel k s stream position .clock .«scheduled_event_id» ≡ k .«scheduled_event_id»
+  set-scheduled = ap (λ (c : SurvivalClock). c .«scheduled_event_id») set-rest
+
+  pub set-winner : setChannel k s stream position .clock .«current_winner» ≡ k .«current_winner»
+  set-winner = ap (λ (c : SurvivalClock). c .«current_winner») set-rest
+
+  pub set-active : setChannel k s stream position .clock .«is_active» ≡ k .«is_active»
+  set-active = ap (λ (c : SurvivalClock). c .«is_active») set-rest
+
+-- ---- remove_channel
+module _ (k : SurvivalClock) (cause : ℕ) where
+  pub remove-rest : OnlyChannels k (removeChannel k cause)
+  unfolding removeChannel
+  remove-rest = either-way (holdsAt (placeOf cause (usedChannels k)) cause (usedChannels k)) (λ e. rw e) (λ e. rw e)
+
+  pub remove-scheduled : removeChannel k cause .«scheduled_event_id» ≡ k .«scheduled_event_id»
+  remove-scheduled = ap (λ (c : SurvivalClock). c .«scheduled_event_id») remove-rest
+
+  pub remove-winner : removeChannel k cause .«current_winner» ≡ k .«current_winner»
+  remove-winner = ap (λ (c : SurvivalClock). c .«current_winner») remove-rest
+
+  pub remove-active : removeChannel k cause .«is_active» ≡ k .«is_active»
+  remove-active = ap (λ (c : SurvivalClock). c .«is_active») remove-rest
+
+-- ---- reschedule and resume
+
+-- k rescheduled: its old event is withdrawn. With a new event it names the given index, holds a winner and is active; without one it names
+-- nothing, and winner and active flag stay
+pub record Requests (k : SurvivalClock) (index : ℕ) (r : Rescheduled) : Type 0 where
+  pub withdraws : r .withdrawn ≡ k .«scheduled_event_id»
+  pub names : r .event .present ≡ true → r .clock .«scheduled_event_id» ≡ record { present = true; index = index }
+  pub wins : r .event .present ≡ true → r .clock .«current_winner» .present ≡ true
+  pub active : r .event .present ≡ true → r .clock .«is_active» ≡ true
+  pub names-nothing : r .event .present ≡ false → r .clock .«scheduled_event_id» ≡ notScheduled
+  pub winner-stays : r .event .present ≡ false → r .clock .«current_winner» ≡ k .«current_winner»
+  pub active-stays : r .event .present ≡ false → r .clock .«is_active» ≡ k .«is_active»
+
+for-requests : (k : SurvivalClock) (now : Float) (event : RealizedEvent) (index : ℕ) → Requests k index (scheduledFor k now event index)
+unfolding scheduledFor
+for-requests k now event index =
+    either-way (event .present)
+    (λ e. rw e (record {
+      withdraws = refl;
+      names = λ p. refl;
+      wins = λ p. refl;
+      active = λ p. refl;
+      names-nothing = λ p. absurd (true≢false p);
+      winner-stays = λ p. absurd (true≢false p);
+      active-stays = λ p. absurd (true≢false p);
+    }))
+    (λ e. rw e (record {
+      withdraws = refl;
+      names = λ p. absurd (true≢false (sym p));
+      wins = λ p. absurd (true≢false (sym p));
+      active = λ p. absurd (true≢false (sym p));
+      names-nothing = λ p. refl;
+      winner-stays = λ p. refl;
+      active-stays = λ p. refl;
+    }))
+
+module _ (k : SurvivalClock) (now : Float) (censor : Censor) (index : ℕ) where
+  pub reschedule-requests : Requests k index (reschedule k now censor index)
+  unfolding reschedule
+  reschedule-requests = for-requests k now _ index
+
+  pub resume-requests : Requests k index (resume k now censor index)
+  unfolding resume reschedule
+  resume-requests =
+      let r = for-requests (withChannels k _ _) now _ index in
+      record {
+        withdraws = r .withdraws;
+        names = r .names;
+        wins = r .wins;
+        active = r .active;
+        names-nothing = r .names-nothing;
+        winner-stays = r .winner-stays;
+        active-stays = r .active-stays;
+      }
+
+-- ---- pause
+module _ (k : SurvivalClock) (now : Float) where
+  pub pause-withdraws : k .«is_active» ≡ true → pause k now .withdrawn ≡ k .«scheduled_event_id»
+  pause-withdraws p = rw (pause-active k now p)
+
+  pub pause-names-nothing : k .«is_active» ≡ true → pause k now .clock .«scheduled_event_id» ≡ notScheduled
+  pause-names-nothing p = rw (pause-active k now p)
+
+  pub pause-deactivates : k .«is_active» ≡ true → pause k now .clock .«is_active» ≡ false
+  pause-deactivates p = rw (pause-active k now p)
+
+  pub pause-winner : k .«is_active» ≡ true → pause k now .clock .«current_winner» ≡ k .«current_winner»
+  pause-winner p = rw (pause-active k now p)
+
+  pub pause-leaves : k .«is_active» ≡ false → pause k now .clock ≡ k
+  pause-leaves p = rw (pause-inactive k now p)
+
+  pub pause-withdraws-nothing : k .«is_active» ≡ false → pause k now .withdrawn ≡ notScheduled
+  pause-withdraws-nothing p = rw (pause-inactive k now p)
+
+-- ---- on_event_dispatched
+module _ (k : SurvivalClock) where
+  pub dispatched-scheduled : onEventDispatched k .clock .«scheduled_event_id» ≡ notScheduled
+  unfolding onEventDispatched
+  dispatched-scheduled = refl
+
+  pub dispatched-winner : onEventDispatched k .clock .«current_winner» ≡ noWinner
+  unfolding onEventDispatched
+  dispatched-winner = refl
+
+  pub dispatched-active : onEventDispatched k .clock .«is_active» ≡ false
+  unfolding onEventDispatched
+  dispatched-active = refl

@@ -1,0 +1,114 @@
+-- Indices of requests that stand once: one request more, and one whose index is there before it.
+use mathlib.Core.Path.{_≡_, refl, sym}
+use mathlib.Core.Bool.{Bool, true, false, not, cond, _&&_, true≢false}
+use mathlib.Core.List.{List, [], _∷_, _++_, map, map-append}
+use Prim.Native.Nat.{ℕ, suc, _+_, _<_, _≤_}
+use native.Mathlib.Nat.{le-of-lt}
+use native.Mathlib.Numerals.{add-one}
+use native.Mathlib.Omega.{arith}
+use borrow.Author.Tests.{eqb-true, eqb-false, eq-eqb, ne-eqb, not-true}
+use lib.Dec.{eqb}
+use lib.ListN.{length, getD, take, drop, set, length-take}
+use lib.Seq.{split-at, take-take, take-suc-set, getD-take}
+use Rattle.hazards.proofs.ListLaws.{take-next}
+use Rattle.clocks.proofs.Cases.{either-way}
+use Rattle.engine.specs.Queue.{isThere}
+use Rattle.engine.specs.Validation.{distinct}
+use Rattle.engine.specs.declared.state.Request.{Request}
+use Rattle.engine.proofs.ValidationLaws.{and-false}
+
+-- ---- indices
+
+abbrev pub indexOf : Request → ℕ
+indexOf r = r .index
+
+unfoldable pub isAmong : ℕ → List ℕ → Bool
+isAmong x [] = false
+isAmong x (y ∷ ys) = cond (eqb y x) true (isAmong x ys)
+
+pub there-among : (x : ℕ) (rs : List Request) → isThere x rs ≡ isAmong x (map indexOf rs)
+unfolding isThere isAmong
+there-among x [] = refl
+there-among x (r ∷ rs) = rw (there-among x rs)
+
+module _ (x : ℕ) {ys zs : List ℕ} {y : ℕ} (first : ys ≡ y ∷ zs) where
+  pub among-here : y ≡ x → isAmong x ys ≡ true
+  unfolding isAmong
+  among-here h = rw (first, eq-eqb y x h)
+
+  pub among-later : (y ≡ x → ⊥) → isAmong x ys ≡ isAmong x zs
+  unfolding isAmong
+  among-later h = rw (first, ne-eqb y x h)
+
+pub among-none : (x : ℕ) {ys : List ℕ} → ys ≡ [] → isAmong x ys ≡ false
+unfolding isAmong
+among-none x none = rw none
+
+-- ---- one request more
+
+and-left : (a b : Bool) → (a && b) ≡ true → a ≡ true
+and-left true b e = refl
+and-left false b e = e
+
+and-right : (a b : Bool) → (a && b) ≡ true → b ≡ true
+and-right true b e = e
+and-right false b e = absurd (true≢false (sym e))
+
+neither : (a b : Bool) → cond a true b ≡ false → (a ≡ false) × (b ≡ false)
+neither true b e = absurd (true≢false e)
+neither false b e = (refl, e)
+
+there-more : (x : ℕ) (rs : List Request) (r : Request) → isThere x rs ≡ false → (r .index ≡ x → ⊥) → isThere x (rs ++ (r ∷ [])) ≡ false
+unfolding isThere
+there-more x [] r h n = rw (ne-eqb (r .index) x n)
+there-more x (q ∷ rs) r h n =
+    let f = neither (eqb (q .index) x) (isThere x rs) h in rw (f .0) (there-more x rs r (f .1) n)
+
+there-first : (x : ℕ) (rs : List Request) (r : Request) (qs : List Request) → r .index ≡ x → isThere x (rs ++ (r ∷ qs)) ≡ true
+unfolding isThere
+there-first x [] r qs h = rw (eq-eqb (r .index) x h)
+there-first x (q ∷ rs) r qs h =
+    either-way (eqb (q .index) x) (λ (e : eqb (q .index) x ≡ true). rw e)
+    (λ (e : eqb (q .index) x ≡ false). rw e (there-first x rs r qs h))
+
+pub distinct-none : distinct [] ≡ true
+unfolding distinct
+distinct-none = refl
+
+pub distinct-more : (rs : List Request) (r : Request) → distinct rs ≡ true → isThere (r .index) rs ≡ false → distinct (rs ++ (r ∷ [])) ≡ true
+unfolding distinct isThere
+distinct-more [] r h n = refl
+distinct-more (q ∷ rs) r h n =
+    let f = neither (eqb (q .index) (r .index)) (isThere (r .index) rs) n in
+    let unlike : r .index ≡ q .index → ⊥ = λ e. eqb-false (q .index) (r .index) (f .0) (sym e) in
+    let alone = not-true (isThere (q .index) rs) (and-left (not (isThere (q .index) rs)) (distinct rs) h) in
+    rw (there-more (q .index) rs r alone unlike)
+    (distinct-more rs r (and-right (not (isThere (q .index) rs)) (distinct rs) h) (f .1))
+
+pub distinct-fails : (rs : List Request) (r : Request) (qs : List Request) → isThere (r .index) rs ≡ true → distinct (rs ++ (r ∷ qs)) ≡ false
+unfolding distinct isThere
+distinct-fails [] r qs h = absurd (true≢false (sym h))
+distinct-fails (q ∷ rs) r qs h =
+    let test = eqb (q .index) (r .index) in
+    either-way test
+    (λ (e : test ≡ true). rw (there-first (q .index) rs r qs (sym (eqb-true (q .index) (r .index) e))))
+    (λ (e : test ≡ false). rw (distinct-fails rs r qs (rw e at h)) (and-false (not (isThere (q .index) (rs ++ (r ∷ qs))))))
+
+-- the request at a place of a list, with those before it
+module _ (rs : List Request) (i : ℕ) (d : Request) where
+  pub distinct-next : i < length rs → distinct (take i rs) ≡ true → isThere (getD rs i d .index) (take i rs) ≡ false
+      → distinct (take (i + 1) rs) ≡ true
+  distinct-next h t n = rw (take-next rs i d h) (distinct-more (take i rs) (getD rs i d) t n)
+
+  pub repeated : (n : ℕ) → i < n → n ≤ length rs → isThere (getD rs i d .index) (take i rs) ≡ true → distinct (take n rs) ≡ false
+  repeated n h k t =
+      let within : i < length (take n rs) = omega (arith, length-take n rs) in
+      let split = split-at (take n rs) i d within in
+      rw (split, take-take i n rs (le-of-lt h), getD-take n rs i d h)
+      (distinct-fails (take i rs) (getD rs i d) (drop (suc i) (take n rs)) t)
+
+  pub indices-next : (xs : List ℕ) → i < length xs → i < length rs → take i xs ≡ map indexOf (take i rs)
+      → take (i + 1) (set xs i (getD rs i d .index)) ≡ map indexOf (take (i + 1) rs)
+  indices-next xs h k e =
+      let x = getD rs i d in
+      rw (take-next rs i d k, add-one, take-suc-set xs i (x .index) h, e) (sym (map-append indexOf (take i rs) (x ∷ [])))

@@ -1,0 +1,110 @@
+-- Laws of lists that the journal needs: zeros after the applied bytes, the concatenation of commands, and parts of the journal.
+use Prim.Native.Nat.{ℕ, zero, suc, _+_, _-_, _≤_, _<_}
+use native.Mathlib.Nat.{sub-zero, zero-sub, suc-sub-suc}
+use native.Mathlib.Omega.{arith}
+use mathlib.Core.Path.{_≡_, refl, sym, ap, _∙_}
+use mathlib.Core.List.{List, [], _∷_, _++_, append-assoc, append-nil}
+use lib.ListN.{length-drop, drop-of-length-le, length, getD, take, drop, set, replicate, length-append, length-replicate}
+use lib.ListN.{replicate-append-replicate}
+use native.Mathlib.Numerals.{add-one}
+use lib.Seq.{take-all, paste, take-at, drop-at, take-length, drop-append-add, drop-cons, set-at, append-snoc, take-suc, length-take-le}
+use lib.Seq.{drop-drop}
+use Rattle.engine.specs.Journal.{Bytes, concat, init}
+
+pub drop-replicate : (k m : ℕ) (a : ℕ) → drop k (replicate m a) ≡ replicate (m - k) a
+drop-replicate zero m a = ap (λ (i : ℕ). replicate i a) (sym (sub-zero m))
+drop-replicate (suc k) zero a = ap (λ (i : ℕ). replicate i a) (sym (zero-sub (suc k)))
+drop-replicate (suc k) (suc m) a = drop-replicate k m a ∙ ap (λ (i : ℕ). replicate i a) (sym (suc-sub-suc m k))
+
+pub concat-append : (cs ds : List Bytes) → concat (cs ++ ds) ≡ concat cs ++ concat ds
+concat-append [] ds = refl
+concat-append (c ∷ cs) ds = ap (λ (l : Bytes). c ++ l) (concat-append cs ds) ∙ sym (append-assoc c (concat cs) (concat ds))
+
+pub concat-snoc : (cs : List Bytes) (c : Bytes) → concat (cs ++ (c ∷ [])) ≡ concat cs ++ c
+concat-snoc cs c = concat-append cs (c ∷ []) ∙ ap (λ (l : Bytes). concat cs ++ l) (append-nil c)
+
+-- a list with something in it is all but its last, and its last
+pub split-last : (c : Bytes) (cs : List Bytes) → (d : Bytes) × (c ∷ cs ≡ init (c ∷ cs) ++ (d ∷ []))
+split-last c [] = (c, refl)
+split-last c (e ∷ cs) = (split-last e cs .0, ap (λ (l : List Bytes). c ∷ l) (split-last e cs .1))
+
+-- a command written behind the bytes p, over zeros
+pub write-zeros : (p c : Bytes) (k m : ℕ) → length p ≡ k → length c ≤ m
+    → paste (p ++ replicate m 0) k c (length c) ≡ (p ++ c) ++ replicate (m - length c) 0
+write-zeros p c k m e h =
+    ap (λ (l : Bytes). l ++ take (length c) c ++ drop (k + length c) (p ++ replicate m 0)) (take-at p (replicate m 0) k e)
+    ∙ ap (λ (l : Bytes). p ++ l ++ drop (k + length c) (p ++ replicate m 0)) (take-length c)
+    ∙ ap (λ (i : ℕ). p ++ c ++ drop (i + length c) (p ++ replicate m 0)) (sym e)
+    ∙ ap (λ (l : Bytes). p ++ c ++ l) (drop-append-add p (replicate m 0) (length c) ∙ drop-replicate (length c) m 0)
+
+-- the bytes d behind p zeroed again, before zeros
+pub blank-zeros : (p d : Bytes) (e m : ℕ) → e ≡ length p + length d
+    → take (length p) ((p ++ d) ++ replicate m 0) ++ replicate (e - length p) 0 ++ drop e ((p ++ d) ++ replicate m 0)
+    ≡ p ++ replicate (length d + m) 0
+blank-zeros p d e m h =
+    let j : Bytes = (p ++ d) ++ replicate m 0 in
+    let h₁ : take (length p) j ≡ p =
+    ap (λ (l : Bytes). take (length p) l) (append-assoc p d (replicate m 0)) ∙ take-at p (d ++ replicate m 0) (length p) refl in
+    let h₂ : drop e j ≡ replicate m 0 = drop-at (p ++ d) (replicate m 0) e (length-append p d ∙ sym h) in
+    let h₃ : e - length p ≡ length d = omega arith in
+    ap (λ (l : Bytes). l ++ replicate (e - length p) 0 ++ drop e j) h₁
+    ∙ ap (λ (l : Bytes). p ++ replicate (e - length p) 0 ++ l) h₂
+    ∙ ap (λ (i : ℕ). p ++ replicate i 0 ++ replicate m 0) h₃
+    ∙ append-assoc p (replicate (length d) 0) (replicate m 0)
+    ∙ ap (λ (l : Bytes). p ++ l) (replicate-append-replicate (length d) m 0)
+
+-- a store behind the bytes p that replaced the front of d
+pub front-set : (p d : Bytes) (i v : ℕ) → length p ≡ i → i < length d → set (p ++ drop i d) i v ≡ p ++ (v ∷ []) ++ drop (i + 1) d
+front-set p d i v e h =
+    ap (λ (l : Bytes). set (p ++ l) i v) (drop-cons d i 0 h)
+    ∙ set-at p (getD d i 0) (drop (suc i) d) v i e
+    ∙ sym (append-snoc p v (drop (suc i) d))
+    ∙ ap (λ (k : ℕ). p ++ (v ∷ []) ++ drop k d) (sym (add-one i))
+
+pub copy-suc : (s d : Bytes) (i : ℕ) → i < length s → i < length d
+    → set (take i s ++ drop i d) i (getD s i 0) ≡ take (i + 1) s ++ drop (i + 1) d
+copy-suc s d i hs hd =
+    front-set (take i s) d i (getD s i 0) (length-take-le i s (omega arith)) hd
+    ∙ ap (λ (l : Bytes). l ++ drop (i + 1) d) (sym (take-suc s i 0 hs) ∙ ap (λ (k : ℕ). take k s) (sym (add-one i)))
+
+pub zero-suc : (d : Bytes) (i : ℕ) → i < length d → set (replicate i 0 ++ drop i d) i 0 ≡ replicate (i + 1) 0 ++ drop (i + 1) d
+zero-suc d i hd =
+    front-set (replicate i 0) d i 0 (length-replicate i 0) hd
+    ∙ ap (λ (l : Bytes). l ++ drop (i + 1) d) (replicate-append-replicate i 1 0)
+
+-- a part of the journal from k, with its front replaced by s
+pub paste-part : (j s : Bytes) (k : ℕ) → take k j ++ (s ++ drop (length s) (drop k j)) ≡ paste j k s (length s)
+paste-part j s k =
+    sym (append-assoc (take k j) s (drop (length s) (drop k j)))
+    ∙ ap (λ (l : Bytes). take k j ++ s ++ l) (drop-drop (length s) k j)
+    ∙ ap (λ (l : Bytes). take k j ++ l ++ drop (k + length s) j) (sym (take-length s))
+
+-- a part from k to the end is all that is behind k
+pub part-all : (j : Bytes) (k : ℕ) → take (length j - k) (drop k j) ≡ drop k j
+part-all j k = take-all (length j - k) (drop k j) (omega (arith, length-drop k j))
+
+-- nothing is behind the end of such a part
+pub past-part : (j : Bytes) (k : ℕ) → k ≤ length j → drop (length j - k) (drop k j) ≡ []
+past-part j k h = let l : length (drop k j) ≤ length j - k = omega (arith, length-drop k j) in drop-of-length-le (drop k j) l
+
+-- zero over the front of the part of the journal from k
+pub zeroed-part : (j z : Bytes) (k e : ℕ) → k ≤ e → e ≤ length j → z ≡ replicate (e - k) 0 ++ drop (e - k) (take (length j - k) (drop k j))
+    → take k j ++ (z ++ drop (length j - k) (drop k j)) ≡ take k j ++ replicate (e - k) 0 ++ drop e j
+zeroed-part j z k e h₁ h₂ q =
+    let n : k + (e - k) ≡ e = omega arith in
+    ap (λ (l : Bytes). take k j ++ (z ++ l)) (past-part j k (omega arith))
+    ∙ ap (λ (l : Bytes). take k j ++ l) (append-nil z)
+    ∙ ap (λ (l : Bytes). take k j ++ l) q
+    ∙ ap (λ (l : Bytes). take k j ++ (replicate (e - k) 0 ++ drop (e - k) l)) (part-all j k)
+    ∙ ap (λ (l : Bytes). take k j ++ (replicate (e - k) 0 ++ l)) (drop-drop (e - k) k j ∙ ap (λ (x : ℕ). drop x j) n)
+    ∙ sym (append-assoc (take k j) (replicate (e - k) 0) (drop e j))
+
+-- a command over the front of the part of the journal from k
+pub pasted-part : (j z c : Bytes) (k : ℕ) → k ≤ length j → z ≡ c ++ drop (length c) (take (length j - k) (drop k j))
+    → take k j ++ (z ++ drop (length j - k) (drop k j)) ≡ paste j k c (length c)
+pasted-part j z c k h q =
+    ap (λ (l : Bytes). take k j ++ (z ++ l)) (past-part j k h)
+    ∙ ap (λ (l : Bytes). take k j ++ l) (append-nil z)
+    ∙ ap (λ (l : Bytes). take k j ++ l) q
+    ∙ ap (λ (l : Bytes). take k j ++ (c ++ drop (length c) l)) (part-all j k)
+    ∙ paste-part j c k

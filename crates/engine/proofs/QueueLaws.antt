@@ -1,0 +1,212 @@
+-- Laws of the queue: the order of two requests case by case, the queued ones one after another, and what is left without one.
+use mathlib.Core.Path.{_≡_, refl, sym, _∙_, ap, ap₂}
+use mathlib.Core.Bool.{Bool, true, false, not, cond}
+use mathlib.Core.List.{List, [], _∷_, _++_, append-nil}
+use mathlib.Core.Option.{none, some}
+use Prim.Native.Nat.{ℕ, suc, _+_, _*_, _-_, _^_, _<_, _≤_, min}
+use native.Mathlib.Numerals.{add-one}
+use native.Mathlib.Omega.{arith}
+use lib.Dec.{eqb, ltb, lit≤}
+use lib.IntN.{ℤ}
+use lib.ListN.{length, getD, take, drop, set, replicate, length-append, length-take, drop-of-length-le}
+use lib.Seq.{drop-cons, take-suc, take-all, getD-take, set-append-seam, append-snoc}
+use lib.Signed.{ltZ, mag}
+use mir.Facts.{toZ-ofZ}
+use mir.Syntax.{w32}
+use mir.Val.{toZ, ofZ, hbits}
+use borrow.Author.Tests.{ltb-true, ltb-false, lt-ltb, le-ltb, eq-eqb, ne-eqb}
+use Rattle.engine.specs.Queue.{ticksOf, comesFirst, earlierOf, nextRequest, keepIf, without, isThere}
+use Rattle.engine.specs.State.{emptyRequest, queuedRequests, withQueue}
+use Rattle.engine.specs.QueueCode.{pickOf}
+use Rattle.engine.specs.declared.queue.Pick.{Pick}
+use Rattle.engine.specs.declared.state.Progress.{Progress}
+use Rattle.engine.specs.declared.state.Request.{Request}
+
+-- ---- ticks in two words
+module _ (low high low′ high′ : ℕ) (small : low < 2 ^ 64) (small′ : low′ < 2 ^ 64) where
+  pub high-below : high < high′ → ltb (low + 2 ^ 64 * high) (low′ + 2 ^ 64 * high′) ≡ true
+  high-below h = lt-ltb (low + 2 ^ 64 * high) (low′ + 2 ^ 64 * high′) (omega arith)
+
+  pub high-above : high′ < high → ltb (low + 2 ^ 64 * high) (low′ + 2 ^ 64 * high′) ≡ false
+  high-above h = le-ltb (low + 2 ^ 64 * high) (low′ + 2 ^ 64 * high′) (omega arith)
+
+  pub high-same : high ≡ high′ → ltb (low + 2 ^ 64 * high) (low′ + 2 ^ 64 * high′) ≡ ltb low low′
+  high-same h = go (ltb low low′) refl
+    where
+      go : (t : Bool) → ltb low low′ ≡ t → ltb (low + 2 ^ 64 * high) (low′ + 2 ^ 64 * high′) ≡ ltb low low′
+      go true e = lt-ltb (low + 2 ^ 64 * high) (low′ + 2 ^ 64 * high′) (omega (arith, ltb-true low low′ e)) ∙ sym e
+      go false e = le-ltb (low + 2 ^ 64 * high) (low′ + 2 ^ 64 * high′) (omega (arith, ltb-false low low′ e)) ∙ sym e
+
+-- ---- two priorities, as the code compares them
+reads-back : (z : ℤ) → mag z < 2 ^ hbits w32 → z ≡ toZ w32 (ofZ w32 z)
+reads-back z f = sym (toZ-ofZ (record { sfits = f }))
+
+pub compared : (y z : ℤ) → mag y < 2 ^ hbits w32 → mag z < 2 ^ hbits w32 → {t : Bool}
+    → ltZ (toZ w32 (ofZ w32 y)) (toZ w32 (ofZ w32 z)) ≡ t → ltZ y z ≡ t
+compared y z f g h = ap₂ ltZ (reads-back y f) (reads-back z g) ∙ h
+
+-- ---- which of two comes first
+module _ (a b : Request) where
+  pub fewer-first : ltb (ticksOf a) (ticksOf b) ≡ true → comesFirst a b ≡ true
+  unfolding comesFirst
+  fewer-first t = rw t
+
+  module _ (t : ltb (ticksOf a) (ticksOf b) ≡ false) where
+    pub more-later : ltb (ticksOf b) (ticksOf a) ≡ true → comesFirst a b ≡ false
+    unfolding comesFirst
+    more-later u = rw (t, u)
+
+    module _ (u : ltb (ticksOf b) (ticksOf a) ≡ false) where
+      pub lower-first : ltZ (a .priority) (b .priority) ≡ true → comesFirst a b ≡ true
+      unfolding comesFirst
+      lower-first p = rw (t, u, p)
+
+      module _ (p : ltZ (a .priority) (b .priority) ≡ false) where
+        pub higher-later : ltZ (b .priority) (a .priority) ≡ true → comesFirst a b ≡ false
+        unfolding comesFirst
+        higher-later q = rw (t, u, p, q)
+
+        pub by-index : ltZ (b .priority) (a .priority) ≡ false → comesFirst a b ≡ ltb (a .index) (b .index)
+        unfolding comesFirst
+        by-index q = rw (t, u, p, q)
+
+-- ---- the earlier of a request and the best so far
+module _ (a : Request) (best : Pick) where
+  pub best-stays : best .found ≡ true → comesFirst (best .request) a ≡ true → pickOf best ≡ earlierOf (some a) (pickOf best)
+  best-stays f t = rw (f, t)
+
+  pub best-loses : best .found ≡ true → comesFirst (best .request) a ≡ false → some a ≡ earlierOf (some a) (pickOf best)
+  best-loses f t = rw (f, t)
+
+  pub no-best : best .found ≡ false → some a ≡ earlierOf (some a) (pickOf best)
+  no-best f = rw f
+
+-- ---- the queued requests, of sixteen places
+module _ (rs : List Request) (n : ℕ) (sixteen : length rs ≡ 16) where
+  pub queued-length : length (take n rs) ≡ min n 16
+  queued-length = rw (length-take, sixteen)
+
+  pub queued-next : (i : ℕ) → i < min n 16 → drop i (take n rs) ≡ getD rs i emptyRequest ∷ drop (i + 1) (take n rs)
+  queued-next i h =
+      rw (add-one, ← getD-take n rs i emptyRequest (omega arith)) (drop-cons (take n rs) i emptyRequest (rw queued-length h))
+
+  -- from the last to the first
+  pub queued-back : (i : ℕ) → 0 < i → i ≤ min n 16 → drop (i - 1) (take n rs) ≡ getD rs (i - 1) emptyRequest ∷ drop i (take n rs)
+  queued-back i p h =
+      let e : i - 1 + 1 ≡ i = omega arith in
+      rw e at (queued-next (i - 1) (omega arith))
+
+  pub queued-end : (i : ℕ) → min n 16 ≤ i → drop i (take n rs) ≡ []
+  queued-end i h = drop-of-length-le (take n rs) {i = i} (rw queued-length h)
+
+  pub queued-first : (i : ℕ) → i < min n 16 → take (i + 1) (take n rs) ≡ take i (take n rs) ++ (getD rs i emptyRequest ∷ [])
+  queued-first i h =
+      rw (add-one, ← getD-take n rs i emptyRequest (omega arith)) (take-suc (take n rs) i emptyRequest (rw queued-length h))
+
+  pub queued-all : (i : ℕ) → min n 16 ≤ i → take i (take n rs) ≡ take n rs
+  queued-all i h = take-all i (take n rs) (rw queued-length h)
+
+-- ---- the earliest, and whether one is there: the first of these, or there is none
+module _ {us vs : List Request} {r : Request} (first : us ≡ r ∷ vs) where
+  pub next-more : nextRequest us ≡ earlierOf (some r) (nextRequest vs)
+  unfolding nextRequest
+  next-more = rw first
+
+  pub there-here : (index : ℕ) → r .index ≡ index → isThere index us ≡ true
+  unfolding isThere
+  there-here index h = rw (first, eq-eqb _ _ h)
+
+  pub there-later : (index : ℕ) → (r .index ≡ index → ⊥) → isThere index us ≡ isThere index vs
+  unfolding isThere
+  there-later index h = rw (first, ne-eqb _ _ h)
+
+pub next-none : {us : List Request} → us ≡ [] → nextRequest us ≡ none
+unfolding nextRequest
+next-none e = rw e
+
+pub there-none : {us : List Request} (index : ℕ) → us ≡ [] → isThere index us ≡ false
+unfolding isThere
+there-none index e = rw e
+
+-- ---- the requests without one: one request more, which is kept or not
+module _ (keep : Request → Bool) where
+  keep-append : (us vs : List Request) → keepIf keep (us ++ vs) ≡ keepIf keep us ++ keepIf keep vs
+  keep-append [] vs = refl
+  keep-append (u ∷ us) vs = go (keep u) (keep-append us vs)
+    where
+      go : (t : Bool) → keepIf keep (us ++ vs) ≡ keepIf keep us ++ keepIf keep vs
+          → cond t (u ∷ keepIf keep (us ++ vs)) (keepIf keep (us ++ vs)) ≡ cond t (u ∷ keepIf keep us) (keepIf keep us) ++ keepIf keep vs
+      go true e = ap (λ (l : List Request). u ∷ l) e
+      go false e = e
+
+  keep-length : (us : List Request) → length (keepIf keep us) ≤ length us
+  keep-length [] = lit≤ tt
+  keep-length (u ∷ us) = go (keep u) (keep-length us)
+    where
+      go : (t : Bool) → length (keepIf keep us) ≤ length us → length (cond t (u ∷ keepIf keep us) (keepIf keep us)) ≤ suc (length us)
+      go true h = omega arith
+      go false h = omega arith
+
+pub without-length : (index : ℕ) (us : List Request) → length (without index us) ≤ length us
+unfolding without
+without-length index us = keep-length (λ r. not (eqb (r .index) index)) us
+
+pub without-none : (index : ℕ) → without index [] ≡ []
+unfolding without
+without-none index = refl
+
+module _ (index : ℕ) (us : List Request) (r : Request) {vs : List Request} (last : vs ≡ us ++ (r ∷ [])) where
+  without-kept : (r .index ≡ index → ⊥) → without index vs ≡ without index us ++ (r ∷ [])
+  unfolding without
+  without-kept h = rw (last, keep-append (λ x. not (eqb (x .index) index)) us (r ∷ []), ne-eqb _ _ h)
+
+  without-left : r .index ≡ index → without index vs ≡ without index us
+  unfolding without
+  without-left h = rw (last, keep-append (λ x. not (eqb (x .index) index)) us (r ∷ []), eq-eqb _ _ h) (append-nil _)
+
+-- ---- sixteen places, the first of them used
+abbrev places : List Request → List Request
+places us = us ++ replicate (16 - length us) emptyRequest
+
+places-more : (us : List Request) (r : Request) → length us < 16 → set (places us) (length us) r ≡ places (us ++ (r ∷ []))
+places-more us r h =
+    let e : 16 - length us ≡ suc (16 - (length us + 1)) = omega arith in
+    rw (length-append, e) (set-append-seam us emptyRequest _ r ∙ sym (append-snoc us r _))
+
+-- the places, and how many are used, once the requests without an index are kept
+pub record Kept (index : ℕ) (us queue : List Request) (kept : ℕ) : Type 0 where
+  pub count : kept ≡ length (without index us)
+  pub filled : queue ≡ places (without index us)
+
+pub kept-none : (index : ℕ) {empty : Request} → empty ≡ emptyRequest → Kept index [] (replicate 16 empty) 0
+unfolding without
+kept-none index e = record { count = refl; filled = ap (replicate 16) e }
+
+module _ (index : ℕ) (us : List Request) (r : Request) {vs queue : List Request} {kept : ℕ} (last : vs ≡ us ++ (r ∷ []))
+    (k : Kept index us queue kept) where
+  pub kept-more : kept < 16 → (r .index ≡ index → ⊥) → Kept index vs (set queue kept r) (kept + 1)
+  kept-more l h =
+      let e = without-kept index us r last h in
+      record {
+        count = rw (e, length-append) (omega (arith, k .count));
+        filled = rw (e, k .filled, k .count) (places-more (without index us) r (omega (arith, k .count)));
+      }
+
+  pub kept-left : r .index ≡ index → Kept index vs queue kept
+  kept-left h =
+      let e = without-left index us r last h in
+      record { count = rw e (k .count); filled = rw e (k .filled) }
+
+-- the progress with all of them
+module _ (index : ℕ) (p : Progress) {us queue : List Request} {kept : ℕ} (all : us ≡ queuedRequests p) (k : Kept index us queue kept) where
+  abbrev placed : List Request → ℕ → Progress
+  placed rs n = record {
+    queue = rs;
+    queued = n;
+    «request_count» = p .«request_count»;
+    position = p .position;
+    «applied_length» = p .«applied_length»;
+  }
+
+  pub kept-all : placed queue kept ≡ withQueue p (without index (queuedRequests p))
+  kept-all = ap₂ placed (k .filled) (k .count) ∙ ap (λ (l : List Request). withQueue p (without index l)) all

@@ -1,0 +1,144 @@
+-- Document 01, refusal 13 ("end in another state"): two states are the same where every field is, used or not; floats by their bits, with
+-- all NaNs alike.
+use mathlib.Core.Bool.{Bool, true, false, not, cond, _&&_}
+use mathlib.Core.List.{List}
+use Prim.Native.Nat.{ℕ, zero, suc}
+use lib.Dec.{eqb}
+use lib.IntN.{ℤ}
+use lib.Signed.{leZ}
+use lib.ListN.{getD}
+use lib.Ieee.{Float, binary64, isNan, toBits}
+use Rattle.hazards.specs.Floats.{z}
+use Rattle.hazards.specs.Checks.{ownRate}
+use Rattle.hazards.specs.declared.rates.HazardRate.{HazardRate}
+use Rattle.hazards.specs.declared.rates.HazardRate.the-variants.{Zero, Constant, Gompertz, Piecewise}
+use Rattle.hazards.specs.declared.rates.Intervals.{Intervals}
+use Rattle.hazards.specs.declared.ties.TieBreaker.{TieBreaker}
+use Rattle.hazards.specs.declared.ties.TieBreaker.the-variants.{LowestCauseId, HighestCauseId, ExplicitPriority}
+use Rattle.clocks.specs.Channels.{emptyChannel}
+use Rattle.clocks.specs.declared.channels.HazardChannelState.{HazardChannelState}
+use Rattle.clocks.specs.declared.clocks.EntityId.{EntityId}
+use Rattle.clocks.specs.declared.clocks.HazardInterruptionPolicy.{HazardInterruptionPolicy}
+use Rattle.clocks.specs.declared.clocks.HazardInterruptionPolicy.the-variants.{Restart, RetainResidual}
+use Rattle.clocks.specs.declared.clocks.ScheduledEvent.{ScheduledEvent}
+use Rattle.clocks.specs.declared.clocks.Winner.{Winner}
+use Rattle.clocks.specs.declared.clocks.SurvivalClock.{SurvivalClock}
+use Rattle.engine.specs.State.{emptySlot, emptyRequest}
+use Rattle.engine.specs.declared.state.ClockSlot.{ClockSlot}
+use Rattle.engine.specs.declared.state.Request.{Request}
+use Rattle.engine.specs.declared.state.Progress.{Progress}
+use Rattle.engine.specs.declared.state.EngineState.{EngineState}
+
+-- ---- single values
+
+abbrev pub sameFlag : Bool → Bool → Bool
+sameFlag a b = cond a b (not b)
+
+-- each at most the other
+abbrev pub sameInteger : ℤ → ℤ → Bool
+sameInteger a b = leZ a b && leZ b a
+
+unfoldable pub sameFloat : Float → Float → Bool
+sameFloat x y = cond (isNan x) (isNan y) (cond (isNan y) false (eqb (toBits binary64 x) (toBits binary64 y)))
+
+-- the choices by their numbers in document 01
+abbrev pub policyNumber : HazardInterruptionPolicy → ℕ
+policyNumber Restart = 0
+policyNumber RetainResidual = 1
+
+abbrev pub tieNumber : TieBreaker → ℕ
+tieNumber LowestCauseId = 0
+tieNumber HighestCauseId = 1
+tieNumber ExplicitPriority = 2
+
+abbrev pub kindNumber : HazardRate → ℕ
+kindNumber Zero = 0
+kindNumber (Constant rate) = 1
+kindNumber (Gompertz eta) = 2
+kindNumber (Piecewise trailing) = 3
+
+-- ---- arrays: a test of every place below n
+
+unfoldable pub everyBelow : ℕ → (ℕ → Bool) → Bool
+everyBelow zero test = true
+everyBelow (suc n) test = everyBelow n test && test n
+
+-- ---- channels
+
+abbrev pub sameFloats : List Float → List Float → Bool
+sameFloats xs ys = everyBelow 8 (λ i. sameFloat (getD xs i z) (getD ys i z))
+
+unfoldable pub sameHazard : HazardRate → HazardRate → Bool
+sameHazard a b = eqb (kindNumber a) (kindNumber b) && sameFloat (ownRate a) (ownRate b)
+
+unfoldable pub sameIntervals : Intervals → Intervals → Bool
+sameIntervals a b = eqb (a .count) (b .count) && (sameFloats (a .ends) (b .ends) && sameFloats (a .rates) (b .rates))
+
+unfoldable pub sameChannel : HazardChannelState → HazardChannelState → Bool
+sameChannel a b =
+    eqb (a .«cause_id») (b .«cause_id»)
+    && (eqb (a .priority) (b .priority)
+    && (sameHazard (a .hazard) (b .hazard)
+    && (sameIntervals (a .intervals) (b .intervals)
+    && (sameFloat (a .«accumulated_hazard») (b .«accumulated_hazard»)
+    && (sameFloat (a .«target_threshold») (b .«target_threshold»)
+    && sameFloat (a .«interval_start_time») (b .«interval_start_time»))))))
+
+-- ---- clocks
+
+abbrev pub sameEntity : EntityId → EntityId → Bool
+sameEntity a b = eqb (a .index) (b .index) && eqb (a .generation) (b .generation)
+
+abbrev pub sameEvent : ScheduledEvent → ScheduledEvent → Bool
+sameEvent a b = sameFlag (a .present) (b .present) && eqb (a .index) (b .index)
+
+abbrev pub sameWinner : Winner → Winner → Bool
+sameWinner a b =
+    sameFlag (a .present) (b .present) && (eqb (a .«cause_id») (b .«cause_id») && sameFloat (a .time) (b .time))
+
+-- what CREATE sets
+unfoldable pub sameSettings : SurvivalClock → SurvivalClock → Bool
+sameSettings a b =
+    eqb (a .«process_id») (b .«process_id»)
+    && (sameFlag (a .«has_entity») (b .«has_entity»)
+    && (sameEntity (a .entity) (b .entity)
+    && (eqb (policyNumber (a .policy)) (policyNumber (b .policy))
+    && (eqb (tieNumber (a .«tie_breaker»)) (tieNumber (b .«tie_breaker»)) && sameFloat (a .«tick_scale») (b .«tick_scale»)))))
+
+unfoldable pub sameChannels : SurvivalClock → SurvivalClock → Bool
+sameChannels a b =
+    eqb (a .«channel_count») (b .«channel_count»)
+    && everyBelow 8 (λ i. sameChannel (getD (a .channels) i emptyChannel) (getD (b .channels) i emptyChannel))
+
+unfoldable pub sameSchedule : SurvivalClock → SurvivalClock → Bool
+sameSchedule a b =
+    sameEvent (a .«scheduled_event_id») (b .«scheduled_event_id»)
+    && (sameWinner (a .«current_winner») (b .«current_winner»)
+    && (sameFlag (a .«is_active») (b .«is_active») && sameFloat (a .«last_update_time») (b .«last_update_time»)))
+
+unfoldable pub sameClock : SurvivalClock → SurvivalClock → Bool
+sameClock a b = sameSettings a b && (sameChannels a b && sameSchedule a b)
+
+-- ---- the state
+
+unfoldable pub sameSlot : ClockSlot → ClockSlot → Bool
+sameSlot a b = sameFlag (a .present) (b .present) && sameClock (a .clock) (b .clock)
+
+unfoldable pub sameRequest : Request → Request → Bool
+sameRequest a b =
+    eqb (a .clock) (b .clock)
+    && (eqb (a .ticks .low) (b .ticks .low)
+    && (eqb (a .ticks .high) (b .ticks .high)
+    && (sameInteger (a .priority) (b .priority) && eqb (a .index) (b .index))))
+
+unfoldable pub sameProgress : Progress → Progress → Bool
+sameProgress a b =
+    everyBelow 16 (λ i. sameRequest (getD (a .queue) i emptyRequest) (getD (b .queue) i emptyRequest))
+    && (eqb (a .queued) (b .queued)
+    && (eqb (a .«request_count») (b .«request_count»)
+    && (eqb (a .position) (b .position) && eqb (a .«applied_length») (b .«applied_length»))))
+
+unfoldable pub sameState : EngineState → EngineState → Bool
+sameState a b =
+    everyBelow 16 (λ i. sameSlot (getD (a .slots) i emptySlot) (getD (b .slots) i emptySlot))
+    && sameProgress (a .progress) (b .progress)

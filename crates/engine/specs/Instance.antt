@@ -1,0 +1,35 @@
+-- Document 01's engine over a threshold stream (document 01: tape) and a journal of n bytes, and what the request ledger reads of it.
+use mathlib.Core.List.{List}
+use Prim.Native.Nat.{ℕ}
+use Rattle.hazards.specs.declared.answers.Answer.{Answer}
+use Rattle.engine.specs.Commands.{widthOf}
+use Rattle.engine.specs.State.{openedState, queuedRequests}
+use Rattle.engine.specs.Validation.{validState}
+use Rattle.engine.specs.Comparison.{sameState}
+use Rattle.engine.specs.Journal.{Engine}
+use Rattle.engine.specs.Execution.{clockOf, priorityOf, perform}
+use Rattle.engine.specs.Ledger.{Requests}
+use Rattle.engine.specs.declared.state.EngineState.{EngineState}
+
+abbrev pub engineOf : List ℕ → ℕ → Engine
+engineOf stream n = record {
+  State = EngineState;
+  Answer = Answer;
+  opened = openedState;
+  appliedLength = λ s. s .progress .«applied_length»;
+  valid = validState stream n;
+  same = sameState;
+  width = widthOf;
+  perform = perform stream n;
+}
+
+abbrev pub requestsOf : (stream : List ℕ) (n : ℕ) → Requests (engineOf stream n)
+requestsOf stream n = record {
+  clockOf = clockOf;
+  priorityOf = priorityOf;
+  event = λ a. a .event;
+  withdrawn = λ a. a .withdrawn;
+  ticksOf = λ a. record { low = a .«ticks_low»; high = a .«ticks_high» };
+  queue = λ s. queuedRequests (s .progress);
+  counter = λ s. s .progress .«request_count»;
+}

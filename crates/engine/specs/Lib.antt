@@ -1,0 +1,16 @@
+pub mod Commands
+pub mod Comparison
+pub mod Demand3
+pub mod Execution
+pub mod ExecutionCode
+pub mod Good
+pub mod Instance
+pub mod Journal
+pub mod Ledger
+pub mod Parts
+pub mod Queue
+pub mod QueueCode
+pub mod Refusals
+pub mod Sessions
+pub mod State
+pub mod Validation

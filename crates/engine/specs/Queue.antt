@@ -1,0 +1,49 @@
+-- Document 01, "Queue and ticks": the order of requests, the one that is delivered next, and taking one out.
+use mathlib.Core.Bool.{Bool, true, false, not, cond}
+use mathlib.Core.List.{List, [], _∷_, _++_}
+use mathlib.Core.Option.{Option, none, some}
+use Prim.Native.Nat.{ℕ, _+_, _*_, _^_}
+use lib.Dec.{eqb, ltb}
+use lib.Signed.{ltZ}
+use lib.ListN.{length}
+use Rattle.clocks.specs.declared.ticks.Ticks.{Ticks}
+use Rattle.engine.specs.declared.state.Request.{Request}
+
+abbrev pub ticksOf : Request → ℕ
+ticksOf r = r .ticks .low + 2 ^ 64 * r .ticks .high
+
+-- fewest ticks, then lower priority number, then lower index
+unfoldable pub comesFirst : Request → Request → Bool
+comesFirst a b =
+    cond (ltb (ticksOf a) (ticksOf b)) true
+    (cond (ltb (ticksOf b) (ticksOf a)) false
+    (cond (ltZ (a .priority) (b .priority)) true
+    (cond (ltZ (b .priority) (a .priority)) false (ltb (a .index) (b .index)))))
+
+-- the earlier of two, the first where neither is
+abbrev pub earlierOf : Option Request → Option Request → Option Request
+earlierOf none o = o
+earlierOf (some a) none = some a
+earlierOf (some a) (some b) = cond (comesFirst b a) (some b) (some a)
+
+-- the request that DELIVER takes
+unfoldable pub nextRequest : List Request → Option Request
+nextRequest [] = none
+nextRequest (r ∷ rs) = earlierOf (some r) (nextRequest rs)
+
+abbrev pub keepIf : (Request → Bool) → List Request → List Request
+keepIf keep [] = []
+keepIf keep (r ∷ rs) = cond (keep r) (r ∷ keepIf keep rs) (keepIf keep rs)
+
+-- the requests but the one with an index: what cancel and DELIVER leave
+unfoldable pub without : ℕ → List Request → List Request
+without index rs = keepIf (λ r. not (eqb (r .index) index)) rs
+
+-- whether a request with an index is there
+unfoldable pub isThere : ℕ → List Request → Bool
+isThere index [] = false
+isThere index (r ∷ rs) = cond (eqb (r .index) index) true (isThere index rs)
+
+-- how many are for a clock
+abbrev pub countFor : ℕ → List Request → ℕ
+countFor clock rs = length (keepIf (λ r. eqb (r .clock) clock) rs)

@@ -1,0 +1,89 @@
+-- The state at opening, and states with a part replaced.
+use mathlib.Core.Bool.{Bool, false, true}
+use mathlib.Core.List.{List, _++_}
+use Prim.Native.Nat.{ℕ, _+_, _-_}
+use lib.IntN.{pos}
+use lib.ListN.{length, getD, set, take, replicate}
+use Rattle.hazards.specs.Floats.{z}
+use Rattle.hazards.specs.declared.ties.TieBreaker.the-variants.{LowestCauseId}
+use Rattle.clocks.specs.Clocks.{newClock}
+use Rattle.clocks.specs.declared.clocks.HazardInterruptionPolicy.the-variants.{Restart}
+use Rattle.clocks.specs.declared.clocks.SurvivalClock.{SurvivalClock}
+use Rattle.engine.specs.declared.state.ClockSlot.{ClockSlot}
+use Rattle.engine.specs.declared.state.Request.{Request}
+use Rattle.engine.specs.declared.state.Progress.{Progress}
+use Rattle.engine.specs.declared.state.EngineState.{EngineState}
+
+-- what an unused place holds
+abbrev pub emptyClock : SurvivalClock
+emptyClock = newClock 0 false (record { index = 0; generation = 0 }) Restart LowestCauseId z
+
+abbrev pub emptySlot : ClockSlot
+emptySlot = record { present = false; clock = emptyClock }
+
+abbrev pub emptyRequest : Request
+emptyRequest = record { clock = 0; ticks = record { low = 0; high = 0 }; priority = pos 0; index = 0 }
+
+abbrev pub openedProgress : Progress
+openedProgress = record {
+  queue = replicate 16 emptyRequest;
+  queued = 0;
+  «request_count» = 0;
+  position = 0;
+  «applied_length» = 0;
+}
+
+-- at opening nothing exists
+unfoldable pub openedState : EngineState
+openedState = record { slots = replicate 16 emptySlot; progress = openedProgress }
+
+abbrev pub slotAt : EngineState → ℕ → ClockSlot
+slotAt s i = getD (s .slots) i emptySlot
+
+-- with another slot at a place, and another progress
+abbrev pub withSlot : EngineState → ℕ → ClockSlot → Progress → EngineState
+withSlot s i slot p = record { slots = set (s .slots) i slot; progress = p }
+
+-- the requests that are queued, in their order
+abbrev pub queuedRequests : Progress → List Request
+queuedRequests p = take (p .queued) (p .queue)
+
+-- with these requests queued and none else
+abbrev pub withQueue : Progress → List Request → Progress
+withQueue p rs = record {
+  queue = rs ++ replicate (16 - length rs) emptyRequest;
+  queued = length rs;
+  «request_count» = p .«request_count»;
+  position = p .position;
+  «applied_length» = p .«applied_length»;
+}
+
+-- with one request more, which is counted
+abbrev pub withRequest : Progress → Request → Progress
+withRequest p r = record {
+  queue = set (p .queue) (p .queued) r;
+  queued = p .queued + 1;
+  «request_count» = p .«request_count» + 1;
+  position = p .position;
+  «applied_length» = p .«applied_length»;
+}
+
+-- with another draw position
+abbrev pub withPosition : Progress → ℕ → Progress
+withPosition p position = record {
+  queue = p .queue;
+  queued = p .queued;
+  «request_count» = p .«request_count»;
+  position = position;
+  «applied_length» = p .«applied_length»;
+}
+
+-- with n bytes more applied
+abbrev pub applied : ℕ → Progress → Progress
+applied n p = record {
+  queue = p .queue;
+  queued = p .queued;
+  «request_count» = p .«request_count»;
+  position = p .position;
+  «applied_length» = p .«applied_length» + n;
+}

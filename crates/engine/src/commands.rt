@@ -1,0 +1,224 @@
+// The commands' codes and widths, their fields, and what refusals 4 to 7 say of them. A command is its own bytes, cut to its width.
+ghost use mathlib.Core.Path.{_≡_};
+ghost use mathlib.Core.Bool.{not, _&&_, _||_};
+ghost use Prim.Native.Nat.{_≤_};
+ghost use lib.Dec.{eqb, ltb};
+ghost use Rattle.hazards.specs.Fields.{fieldAt};
+ghost use Rattle.engine.specs.Commands.{widthOf};
+ghost use Rattle.engine.specs.Execution.{byteAt, floatsAt, policyOf, hazardFields, settingOf, createdClock, censorOf};
+ghost use Rattle.engine.specs.Execution.{clockFaults, createFaults, causeFaults, setFaults, rescheduleFaults, pauseFaults};
+use clocks::clocks::EntityId;
+use clocks::clocks::HazardInterruptionPolicy;
+use clocks::clocks::SurvivalClock;
+use clocks::scheduling::Censor;
+use clocks::setting::CauseSetting;
+use hazards::checks::HazardFields;
+use hazards::fields::f64_at;
+use hazards::fields::u32_at;
+use hazards::fields::u64_at;
+use hazards::refusals::Faults;
+
+pub const CREATE: u8 = 0x01;
+
+pub const SET: u8 = 0x02;
+
+pub const REMOVE: u8 = 0x03;
+
+pub const RESCHEDULE: u8 = 0x04;
+
+pub const PAUSE: u8 = 0x05;
+
+pub const RESUME: u8 = 0x06;
+
+pub const DELIVER: u8 = 0x07;
+
+pub const UNDO: u8 = 0x08;
+
+// The bytes of a command by its code; 0 where it is no code.
+pub fn width(code: u8) -> usize
+    ensures { λ r. ⌜ r ≡ widthOf code ⌝ }
+{
+    match code {
+        1 => 33,
+        2 => 156,
+        3 => 6,
+        4 => 23,
+        5 => 10,
+        6 => 23,
+        7 => 1,
+        8 => 1,
+        _ => 0,
+    }
+}
+
+// A byte past the end is 0.
+pub fn byte_at(bytes: &[u8], at: usize) -> u8
+    ensures { λ r. ⌜ r ≡ byteAt (now (bytes .entry)) at ⌝ }
+{
+    if at < bytes.len() { bytes[at] } else { 0 }
+}
+
+fn floats_at(command: &[u8], at: usize) -> [f64; 8]
+    requires { ⌜ at ≤ 1024 ⌝ }
+    ensures { λ r. ⌜ r ≡ floatsAt (now (command .entry)) at ⌝ }
+{
+    [
+        f64_at(command, at),
+        f64_at(command, at + 16),
+        f64_at(command, at + 32),
+        f64_at(command, at + 48),
+        f64_at(command, at + 64),
+        f64_at(command, at + 80),
+        f64_at(command, at + 96),
+        f64_at(command, at + 112),
+    ]
+}
+
+fn hazard_fields(command: &[u8]) -> HazardFields
+    ensures { λ r. ⌜ r ≡ hazardFields (now (command .entry)) ⌝ }
+{
+    let ends = floats_at(command, 28);
+    let rates = floats_at(command, 36);
+    HazardFields {
+        kind: byte_at(command, 10),
+        first: f64_at(command, 11),
+        count: byte_at(command, 27),
+        ends,
+        rates,
+    }
+}
+
+pub fn setting_of(command: &[u8]) -> CauseSetting
+    ensures { λ r. ⌜ r ≡ settingOf (now (command .entry)) ⌝ }
+{
+    let fields = hazard_fields(command);
+    let hazard = fields.hazard();
+    let intervals = fields.intervals();
+    CauseSetting {
+        cause_id: u32_at(command, 2),
+        priority: u32_at(command, 6),
+        hazard,
+        intervals,
+        now: f64_at(command, 19),
+    }
+}
+
+fn policy_of(policy: u8) -> HazardInterruptionPolicy
+    ensures { λ r. ⌜ r ≡ policyOf policy ⌝ }
+{
+    if policy == 0 {
+        return HazardInterruptionPolicy::Restart;
+    }
+    HazardInterruptionPolicy::RetainResidual
+}
+
+pub fn created_clock(command: &[u8]) -> SurvivalClock
+    ensures { λ r. ⌜ r ≡ createdClock (now (command .entry)) ⌝ }
+{
+    let entity = EntityId {
+        index: u64_at(command, 21),
+        generation: u32_at(command, 29),
+    };
+    let policy = policy_of(byte_at(command, 10));
+    let tie = hazards::ties::tie_breaker(byte_at(command, 11));
+    let has = byte_at(command, 20) == 1;
+    SurvivalClock::new(
+        u64_at(command, 2),
+        has,
+        entity,
+        policy,
+        tie,
+        f64_at(command, 12),
+    )
+}
+
+pub fn censor_of(command: &[u8]) -> Censor
+    ensures { λ r. ⌜ r ≡ censorOf (now (command .entry)) ⌝ }
+{
+    Censor {
+        present: byte_at(command, 10) == 1,
+        time: f64_at(command, 11),
+    }
+}
+
+fn clock_faults(command: &[u8]) -> Faults
+    ensures { λ r. ⌜ r ≡ clockFaults (now (command .entry)) ⌝ }
+{
+    hazards::refusals::identifier_fault_if(byte_at(command, 1) > 15)
+}
+
+// An entity whose bits are all zero.
+fn unused_entity(command: &[u8]) -> bool
+    ensures { λ r. ⌜ r ≡ (eqb (fieldAt 8 (now (command .entry)) 21) 0 && eqb (fieldAt 4 (now (command .entry)) 29) 0) ⌝ }
+{
+    let index = u64_at(command, 21) == 0;
+    let generation = u32_at(command, 29) == 0;
+    index & generation
+}
+
+// A has-byte off its list, or one of 0 before a field whose bits are not all zero.
+fn has_fault(has: u8, empty: bool) -> bool
+    ensures { λ r. ⌜ r ≡ (ltb 1 has || (eqb has 0 && not empty)) ⌝ }
+{
+    if has > 1 {
+        return true;
+    }
+    if has == 1 {
+        return false;
+    }
+    !empty
+}
+
+pub fn create_faults(command: &[u8]) -> Faults
+    ensures { λ r. ⌜ r ≡ createFaults (now (command .entry)) ⌝ }
+{
+    let policy = byte_at(command, 10) > 1;
+    let tie = byte_at(command, 11) > 2;
+    let entity = has_fault(byte_at(command, 20), unused_entity(command));
+    let scale = hazards::checks::in_range(f64_at(command, 12));
+    let own = Faults {
+        choice: policy | (tie | entity),
+        range: !scale,
+        intervals: false,
+        identifier: false,
+    };
+    own.joined(clock_faults(command))
+}
+
+pub fn cause_faults(command: &[u8]) -> Faults
+    ensures { λ r. ⌜ r ≡ causeFaults (now (command .entry)) ⌝ }
+{
+    let reserved = hazards::refusals::is_reserved(u32_at(command, 2));
+    hazards::refusals::identifier_fault_if(reserved).joined(clock_faults(command))
+}
+
+pub fn set_faults(command: &[u8]) -> Faults
+    ensures { λ r. ⌜ r ≡ setFaults (now (command .entry)) ⌝ }
+{
+    let fields = hazard_fields(command);
+    let now = hazards::checks::is_time(f64_at(command, 19));
+    let rest = hazards::refusals::range_fault_unless(now).joined(cause_faults(command));
+    fields.faults().joined(rest)
+}
+
+pub fn reschedule_faults(command: &[u8]) -> Faults
+    ensures { λ r. ⌜ r ≡ rescheduleFaults (now (command .entry)) ⌝ }
+{
+    let now = hazards::checks::is_time(f64_at(command, 2));
+    let censor = f64_at(command, 11);
+    let time = hazards::checks::is_time(censor);
+    let own = Faults {
+        choice: has_fault(byte_at(command, 10), hazards::checks::zero_bits(censor)),
+        range: !(now & time),
+        intervals: false,
+        identifier: false,
+    };
+    own.joined(clock_faults(command))
+}
+
+pub fn pause_faults(command: &[u8]) -> Faults
+    ensures { λ r. ⌜ r ≡ pauseFaults (now (command .entry)) ⌝ }
+{
+    let now = hazards::checks::is_time(f64_at(command, 2));
+    hazards::refusals::range_fault_unless(now).joined(clock_faults(command))
+}

@@ -1,0 +1,402 @@
+// What each command but UNDO does to its clock and to the progress, and the refusals that it meets, in the table's order.
+ghost use mathlib.Core.Path.{_≡_};
+ghost use mathlib.Core.Bool.{cond};
+ghost use Prim.Native.Nat.{_+_, _<_, _^_};
+ghost use lib.Dec.{eqb, leb};
+ghost use Rattle.hazards.specs.Refusals.{numberOf};
+ghost use Rattle.engine.specs.Refusals.{clockAbsent};
+ghost use Rattle.engine.specs.State.{withRequest, applied};
+ghost use Rattle.engine.specs.Execution.{refused, done, holding, isWithdrawn, withdraw, requestOf, eventAnswer};
+ghost use Rattle.engine.specs.Execution.{afterSet, afterReschedule, afterPause, performCreate, performSet, performRemove};
+ghost use Rattle.engine.specs.Execution.{performReschedule, performResume, performPause, performDeliver, performOn, target};
+ghost use Rattle.engine.specs.ExecutionCode.{onSlotOf, Countable};
+use crate::state::ClockSlot;
+use crate::state::Progress;
+use crate::state::Request;
+use clocks::clocks::ScheduledEvent;
+use clocks::clocks::SurvivalClock;
+use clocks::scheduling::Paused;
+use clocks::scheduling::RealizedEvent;
+use clocks::scheduling::Rescheduled;
+use clocks::setting::ChannelSet;
+use clocks::ticks::Ticks;
+use hazards::answers::Answer;
+use hazards::refusals::Faults;
+
+pub const CLOCK_PRESENT: u8 = 8;
+
+pub const CLOCK_ABSENT: u8 = 9;
+
+pub const QUEUE_EMPTY: u8 = 11;
+
+pub const JOURNAL_FULL: u8 = 14;
+
+// A refusal's number, or 0 with slot, progress and answer after the command.
+pub struct SlotOutcome {
+    pub number: u8,
+    pub slot: ClockSlot,
+    pub progress: Progress,
+    pub answer: Answer,
+}
+
+fn refuse(slot: ClockSlot, progress: Progress, number: u8) -> SlotOutcome
+    requires { ⌜ 0 < number ⌝ }
+    ensures { λ r. ⌜ onSlotOf r ≡ refused number ⌝ }
+{
+    SlotOutcome {
+        number,
+        slot,
+        progress,
+        answer: hazards::answers::no_event(number),
+    }
+}
+
+// Whether the journal's free part takes a command of `length` bytes.
+fn has_room(progress: Progress, length: usize, journal_length: usize) -> bool
+    ensures { λ r. ⌜ r ≡ leb (progress .«applied_length» + length) «journal_length» ⌝ }
+{
+    if progress.applied_length > journal_length {
+        return false;
+    }
+    length <= journal_length - progress.applied_length
+}
+
+// The clock, the progress with the command applied, and the answer.
+fn apply(clock: SurvivalClock, progress: Progress, length: usize, answer: Answer) -> SlotOutcome
+    requires { ⌜ progress .«applied_length» + length < 2 ^ 64 ⌝ }
+    ensures { λ r. ⌜ onSlotOf r ≡ done (holding clock) (applied length progress) answer ⌝ }
+{
+    let mut after = progress;
+    after.applied_length = progress.applied_length + length;
+    SlotOutcome {
+        number: 0,
+        slot: ClockSlot {
+            present: true,
+            clock,
+        },
+        progress: after,
+        answer,
+    }
+}
+
+fn perform_create(
+    slot: ClockSlot,
+    progress: Progress,
+    journal_length: usize,
+    command: &[u8],
+) -> SlotOutcome
+    ensures { λ r. ⌜ onSlotOf r ≡ performCreate «journal_length» slot progress (now (command .entry)) ⌝ }
+{
+    let number = crate::commands::create_faults(command).number();
+    if number != 0 {
+        return refuse(slot, progress, number);
+    }
+    if slot.present {
+        return refuse(slot, progress, CLOCK_PRESENT);
+    }
+    if !has_room(progress, command.len(), journal_length) {
+        return refuse(slot, progress, JOURNAL_FULL);
+    }
+    apply(
+        crate::commands::created_clock(command),
+        progress,
+        command.len(),
+        hazards::answers::no_event(0),
+    )
+}
+
+// 4 to 7, then 9; 0 where none is met.
+fn refusal_of(faults: Faults, present: bool) -> u8
+    ensures { λ r. ⌜ r ≡ cond (eqb (numberOf faults) 0) (cond present 0 clockAbsent) (numberOf faults) ⌝ }
+{
+    let number = faults.number();
+    if number != 0 {
+        return number;
+    }
+    if present { 0 } else { CLOCK_ABSENT }
+}
+
+// 10, then 14, then 15 or 16.
+fn after_set(
+    slot: ClockSlot,
+    progress: Progress,
+    journal_length: usize,
+    command: &[u8],
+    set: ChannelSet,
+) -> SlotOutcome
+    ensures { λ r. ⌜ onSlotOf r ≡ afterSet «journal_length» progress (now (command .entry)) set ⌝ }
+{
+    if set.number == hazards::refusals::TOO_MANY_CAUSES {
+        return refuse(slot, progress, set.number);
+    }
+    if !has_room(progress, command.len(), journal_length) {
+        return refuse(slot, progress, JOURNAL_FULL);
+    }
+    if set.number != 0 {
+        return refuse(slot, progress, set.number);
+    }
+    let mut after = progress;
+    after.position = set.position;
+    apply(
+        set.clock,
+        after,
+        command.len(),
+        hazards::answers::no_event(0),
+    )
+}
+
+fn perform_set(
+    slot: ClockSlot,
+    progress: Progress,
+    stream: &[u8],
+    journal_length: usize,
+    command: &[u8],
+) -> SlotOutcome
+    ensures { λ r. ⌜ onSlotOf r ≡ performSet (now (stream .entry)) «journal_length» slot progress (now (command .entry)) ⌝ }
+{
+    let number = refusal_of(crate::commands::set_faults(command), slot.present);
+    if number != 0 {
+        return refuse(slot, progress, number);
+    }
+    let setting = crate::commands::setting_of(command);
+    let set = clocks::setting::set_channel(slot.clock, setting, stream, progress.position);
+    after_set(slot, progress, journal_length, command, set)
+}
+
+fn perform_remove(
+    slot: ClockSlot,
+    progress: Progress,
+    journal_length: usize,
+    command: &[u8],
+) -> SlotOutcome
+    ensures { λ r. ⌜ onSlotOf r ≡ performRemove «journal_length» slot progress (now (command .entry)) ⌝ }
+{
+    let number = refusal_of(crate::commands::cause_faults(command), slot.present);
+    if number != 0 {
+        return refuse(slot, progress, number);
+    }
+    if !has_room(progress, command.len(), journal_length) {
+        return refuse(slot, progress, JOURNAL_FULL);
+    }
+    let clock = slot.clock;
+    let after = clock.remove_channel(hazards::fields::u32_at(command, 2));
+    apply(
+        after,
+        progress,
+        command.len(),
+        hazards::answers::no_event(0),
+    )
+}
+
+// A scheduled event that is queued is withdrawn.
+fn is_withdrawn(progress: Progress, event: ScheduledEvent) -> bool
+    ensures { λ r. ⌜ r ≡ isWithdrawn progress event ⌝ }
+{
+    if !event.present {
+        return false;
+    }
+    crate::queue::is_there(progress, event.index)
+}
+
+fn withdraw(progress: Progress, event: ScheduledEvent) -> Progress
+    ensures { λ r. ⌜ r ≡ withdraw progress event ⌝ }
+{
+    if is_withdrawn(progress, event) {
+        return crate::queue::taken_out(progress, event.index);
+    }
+    progress
+}
+
+fn event_answer(event: RealizedEvent, withdrawn: bool, ticks: Ticks) -> Answer
+    ensures { λ r. ⌜ r ≡ eventAnswer event withdrawn ticks ⌝ }
+{
+    Answer {
+        number: 0,
+        event: event.present,
+        censored: event.is_censored,
+        withdrawn,
+        cause: event.winning_cause,
+        delta: event.delta_time,
+        ticks_low: ticks.low,
+        ticks_high: ticks.high,
+    }
+}
+
+// An event is queued, where there is one.
+fn enqueue(progress: Progress, command: &[u8], present: bool, ticks: Ticks) -> Progress
+    requires { ⌜ Countable progress ⌝ }
+    ensures { λ r. ⌜ r ≡ cond present (withRequest progress (requestOf progress (now (command .entry)) ticks)) progress ⌝ }
+{
+    if !present {
+        return progress;
+    }
+    let request = Request {
+        clock: crate::commands::byte_at(command, 1) as usize,
+        ticks,
+        priority: hazards::fields::i32_at(command, 19),
+        index: progress.request_count,
+    };
+    crate::queue::put_in(progress, request)
+}
+
+fn after_reschedule(
+    slot: ClockSlot,
+    progress: Progress,
+    journal_length: usize,
+    command: &[u8],
+    r: Rescheduled,
+) -> SlotOutcome
+    requires { ⌜ Countable progress ⌝ }
+    ensures { λ o. ⌜ onSlotOf o ≡ afterReschedule «journal_length» progress (now (command .entry)) r ⌝ }
+{
+    if !has_room(progress, command.len(), journal_length) {
+        return refuse(slot, progress, JOURNAL_FULL);
+    }
+    let withdrawn = r.withdrawn;
+    let event = r.event;
+    let answer = event_answer(event, is_withdrawn(progress, withdrawn), r.ticks);
+    let left = withdraw(progress, withdrawn);
+    apply(
+        r.clock,
+        enqueue(left, command, event.present, r.ticks),
+        command.len(),
+        answer,
+    )
+}
+
+fn perform_reschedule(
+    slot: ClockSlot,
+    progress: Progress,
+    journal_length: usize,
+    command: &[u8],
+) -> SlotOutcome
+    requires { ⌜ Countable progress ⌝ }
+    ensures { λ r. ⌜ onSlotOf r ≡ performReschedule «journal_length» slot progress (now (command .entry)) ⌝ }
+{
+    let number = refusal_of(crate::commands::reschedule_faults(command), slot.present);
+    if number != 0 {
+        return refuse(slot, progress, number);
+    }
+    let now = hazards::fields::f64_at(command, 2);
+    let censor = crate::commands::censor_of(command);
+    let r = clocks::scheduling::reschedule(slot.clock, now, censor, progress.request_count);
+    after_reschedule(slot, progress, journal_length, command, r)
+}
+
+fn perform_resume(
+    slot: ClockSlot,
+    progress: Progress,
+    journal_length: usize,
+    command: &[u8],
+) -> SlotOutcome
+    requires { ⌜ Countable progress ⌝ }
+    ensures { λ r. ⌜ onSlotOf r ≡ performResume «journal_length» slot progress (now (command .entry)) ⌝ }
+{
+    let number = refusal_of(crate::commands::reschedule_faults(command), slot.present);
+    if number != 0 {
+        return refuse(slot, progress, number);
+    }
+    let now = hazards::fields::f64_at(command, 2);
+    let censor = crate::commands::censor_of(command);
+    let r = clocks::scheduling::resume(slot.clock, now, censor, progress.request_count);
+    after_reschedule(slot, progress, journal_length, command, r)
+}
+
+fn after_pause(
+    slot: ClockSlot,
+    progress: Progress,
+    journal_length: usize,
+    command: &[u8],
+    r: Paused,
+) -> SlotOutcome
+    ensures { λ o. ⌜ onSlotOf o ≡ afterPause «journal_length» progress (now (command .entry)) r ⌝ }
+{
+    if !has_room(progress, command.len(), journal_length) {
+        return refuse(slot, progress, JOURNAL_FULL);
+    }
+    let withdrawn = r.withdrawn;
+    let mut answer = hazards::answers::no_event(0);
+    answer.withdrawn = is_withdrawn(progress, withdrawn);
+    apply(
+        r.clock,
+        withdraw(progress, withdrawn),
+        command.len(),
+        answer,
+    )
+}
+
+fn perform_pause(
+    slot: ClockSlot,
+    progress: Progress,
+    journal_length: usize,
+    command: &[u8],
+) -> SlotOutcome
+    ensures { λ r. ⌜ onSlotOf r ≡ performPause «journal_length» slot progress (now (command .entry)) ⌝ }
+{
+    let number = refusal_of(crate::commands::pause_faults(command), slot.present);
+    if number != 0 {
+        return refuse(slot, progress, number);
+    }
+    let r = clocks::scheduling::pause(slot.clock, hazards::fields::f64_at(command, 2));
+    after_pause(slot, progress, journal_length, command, r)
+}
+
+// The earliest request is taken out, and its clock dispatches its event; only the ticks are the request's.
+fn perform_deliver(
+    slot: ClockSlot,
+    progress: Progress,
+    journal_length: usize,
+    command: &[u8],
+) -> SlotOutcome
+    ensures { λ r. ⌜ onSlotOf r ≡ performDeliver «journal_length» slot progress (now (command .entry)) ⌝ }
+{
+    let next = crate::queue::next_request(progress);
+    if !next.found {
+        return refuse(slot, progress, QUEUE_EMPTY);
+    }
+    if !has_room(progress, command.len(), journal_length) {
+        return refuse(slot, progress, JOURNAL_FULL);
+    }
+    let dispatched = clocks::scheduling::on_event_dispatched(slot.clock);
+    let request = next.request;
+    let answer = event_answer(dispatched.event, false, request.ticks);
+    let left = crate::queue::taken_out(progress, request.index);
+    apply(dispatched.clock, left, command.len(), answer)
+}
+
+// The clock that a command is about.
+pub fn target(progress: Progress, command: &[u8]) -> usize
+    ensures { λ r. ⌜ r ≡ target progress (now (command .entry)) ⌝ }
+{
+    if crate::commands::byte_at(command, 0) == crate::commands::DELIVER {
+        let next = crate::queue::next_request(progress);
+        if next.found {
+            return next.request.clock;
+        }
+        return 0;
+    }
+    crate::commands::byte_at(command, 1) as usize
+}
+
+// A command but UNDO, on the slot of its clock.
+pub(crate) fn perform_on(
+    slot: ClockSlot,
+    progress: Progress,
+    stream: &[u8],
+    journal_length: usize,
+    command: &[u8],
+) -> SlotOutcome
+    requires { ⌜ Countable progress ⌝ }
+    ensures { λ r. ⌜ onSlotOf r ≡ performOn (now (stream .entry)) «journal_length» slot progress (now (command .entry)) ⌝ }
+{
+    let code = crate::commands::byte_at(command, 0);
+    match code {
+        1 => perform_create(slot, progress, journal_length, command),
+        2 => perform_set(slot, progress, stream, journal_length, command),
+        3 => perform_remove(slot, progress, journal_length, command),
+        4 => perform_reschedule(slot, progress, journal_length, command),
+        5 => perform_pause(slot, progress, journal_length, command),
+        6 => perform_resume(slot, progress, journal_length, command),
+        _ => perform_deliver(slot, progress, journal_length, command),
+    }
+}

@@ -1,0 +1,47 @@
+// The journal's bytes: a command copied into the free part, bytes cleared, and the part that the applied commands fill.
+ghost use mathlib.Core.Path.{_≡_};
+ghost use Prim.Native.Nat.{min};
+ghost use Rattle.engine.specs.Parts.{copiedInto, clearedFront, appliedPart};
+
+// The command over the first bytes of the free part; one that is longer changes nothing.
+pub fn copy_into(free: &mut [u8], command: &[u8])
+    ensures { λ _. ⌜ now (free .exit) ≡ copiedInto (now (free .entry)) (now (command .entry)) ⌝ }
+{
+    if command.len() > free.len() {
+        return;
+    }
+    let mut i: usize = 0;
+    while i < command.len() {
+        free[i] = command[i];
+        i += 1;
+    }
+}
+
+fn at_most(count: usize, most: usize) -> usize
+    ensures { λ r. ⌜ r ≡ min count most ⌝ }
+{
+    if count < most { count } else { most }
+}
+
+// Zero over the first `count` bytes, over all where there are fewer.
+pub fn clear(bytes: &mut [u8], count: usize)
+    ensures { λ _. ⌜ now (bytes .exit) ≡ clearedFront (now (bytes .entry)) count ⌝ }
+{
+    let end = at_most(count, bytes.len());
+    let mut i: usize = 0;
+    while i < end {
+        bytes[i] = 0;
+        i += 1;
+    }
+}
+
+// The applied commands (document 01: standing commands), as that part of the caller's journal; empty where their length is past its end.
+pub fn applied_commands<'a>(applied_length: usize, journal: &'a [u8]) -> &'a [u8]
+    ensures { λ r. ⌜ now r ≡ appliedPart (now (journal .entry)) «applied_length» ⌝ }
+{
+    if applied_length <= journal.len() {
+        &journal[..applied_length]
+    } else {
+        &journal[..0]
+    }
+}

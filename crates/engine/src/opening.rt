@@ -1,0 +1,57 @@
+// The state of a newly opened engine.
+ghost use mathlib.Core.Path.{_≡_};
+ghost use Rattle.engine.specs.State.{emptySlot, openedState};
+use crate::state::ClockSlot;
+use crate::state::EngineState;
+use crate::state::Progress;
+use crate::state::Request;
+use clocks::clocks::EntityId;
+use clocks::clocks::HazardInterruptionPolicy;
+use clocks::clocks::SurvivalClock;
+use clocks::ticks::Ticks;
+use hazards::ties::TieBreaker;
+
+// What an unused place holds.
+pub fn empty_slot() -> ClockSlot
+    ensures { λ r. ⌜ r ≡ emptySlot ⌝ }
+{
+    let entity = EntityId {
+        index: 0,
+        generation: 0,
+    };
+    let clock = SurvivalClock::new(
+        0,
+        false,
+        entity,
+        HazardInterruptionPolicy::Restart,
+        TieBreaker::LowestCauseId,
+        0.0,
+    );
+    ClockSlot {
+        present: false,
+        clock,
+    }
+}
+
+// At opening nothing exists.
+pub fn opened_state() -> EngineState
+    ensures { λ r. ⌜ r ≡ openedState ⌝ }
+{
+    let slot = empty_slot();
+    let request = Request {
+        clock: 0,
+        ticks: Ticks { low: 0, high: 0 },
+        priority: 0,
+        index: 0,
+    };
+    EngineState {
+        slots: [slot; 16],
+        progress: Progress {
+            queue: [request; 16],
+            queued: 0,
+            request_count: 0,
+            position: 0,
+            applied_length: 0,
+        },
+    }
+}

@@ -1,0 +1,150 @@
+// The queue of requests: the order of two, the earliest, whether one is there, and the rest without one.
+ghost use mathlib.Core.Path.{_≡_};
+ghost use mathlib.Core.Option.{some};
+ghost use Prim.Native.Nat.{_≤_, min};
+ghost use lib.Dec.{ltb};
+ghost use Rattle.engine.specs.Queue.{ticksOf, comesFirst, earlierOf, nextRequest, isThere, without};
+ghost use Rattle.engine.specs.State.{emptyRequest, queuedRequests, withQueue, withRequest};
+ghost use Rattle.engine.specs.QueueCode.{pickOf};
+use crate::state::Progress;
+use crate::state::Request;
+use clocks::ticks::Ticks;
+
+// The earliest request, where there is one.
+pub struct Pick {
+    pub found: bool,
+    pub request: Request,
+}
+
+pub fn empty_request() -> Request
+    ensures { λ r. ⌜ r ≡ emptyRequest ⌝ }
+{
+    Request {
+        clock: 0,
+        ticks: Ticks { low: 0, high: 0 },
+        priority: 0,
+        index: 0,
+    }
+}
+
+fn fewer_ticks(a: Request, b: Request) -> bool
+    ensures { λ r. ⌜ r ≡ ltb (ticksOf a) (ticksOf b) ⌝ }
+{
+    if a.ticks.high < b.ticks.high {
+        return true;
+    }
+    if b.ticks.high < a.ticks.high {
+        return false;
+    }
+    a.ticks.low < b.ticks.low
+}
+
+// Fewest ticks, then lower priority number, then lower index.
+pub fn comes_first(a: Request, b: Request) -> bool
+    ensures { λ r. ⌜ r ≡ comesFirst a b ⌝ }
+{
+    if fewer_ticks(a, b) {
+        return true;
+    }
+    if fewer_ticks(b, a) {
+        return false;
+    }
+    let p = a.priority;
+    let q = b.priority;
+    if p < q {
+        return true;
+    }
+    if q < p {
+        return false;
+    }
+    a.index < b.index
+}
+
+fn earlier_of(a: Request, best: Pick) -> Pick
+    ensures { λ r. ⌜ pickOf r ≡ earlierOf (some a) (pickOf best) ⌝ }
+{
+    if best.found {
+        if comes_first(best.request, a) {
+            return best;
+        }
+    }
+    Pick {
+        found: true,
+        request: a,
+    }
+}
+
+// There are sixteen places.
+fn used_places(queued: usize) -> usize
+    ensures { λ r. ⌜ r ≡ min queued 16 ⌝ }
+{
+    if queued < 16 { queued } else { 16 }
+}
+
+// The request that DELIVER takes: from the last to the first, the earlier one kept.
+pub fn next_request(progress: Progress) -> Pick
+    ensures { λ r. ⌜ pickOf r ≡ nextRequest (queuedRequests progress) ⌝ }
+{
+    let mut best = Pick {
+        found: false,
+        request: empty_request(),
+    };
+    let mut i = used_places(progress.queued);
+    while i > 0 {
+        i -= 1;
+        best = earlier_of(progress.queue[i], best);
+    }
+    best
+}
+
+pub fn is_there(progress: Progress, index: u64) -> bool
+    ensures { λ r. ⌜ r ≡ isThere index (queuedRequests progress) ⌝ }
+{
+    let used = used_places(progress.queued);
+    let mut i: usize = 0;
+    while i < used {
+        if progress.queue[i].index == index {
+            return true;
+        }
+        i += 1;
+    }
+    false
+}
+
+// The requests but the one with an index, and the rest of the places empty.
+pub fn taken_out(progress: Progress, index: u64) -> Progress
+    ensures { λ r. ⌜ r ≡ withQueue progress (without index (queuedRequests progress)) ⌝ }
+{
+    let used = used_places(progress.queued);
+    let empty = empty_request();
+    let mut queue = [empty; 16];
+    let mut kept: usize = 0;
+    let mut i: usize = 0;
+    while i < used {
+        let r = progress.queue[i];
+        if r.index != index {
+            queue[kept] = r;
+            kept += 1;
+        }
+        i += 1;
+    }
+    let mut after = progress;
+    after.queue = queue;
+    after.queued = kept;
+    after
+}
+
+// One request more, which is counted.
+pub(crate) fn put_in(progress: Progress, request: Request) -> Progress
+    requires { ⌜ (progress .queued ≤ 16) × (progress .«request_count» ≤ 0x7fff_ffff_ffff_ffff) ⌝ }
+    ensures { λ r. ⌜ r ≡ withRequest progress request ⌝ }
+{
+    let mut after = progress;
+    let at = progress.queued;
+    if at < 16 {
+        after.queue[at] = request;
+    }
+    after.queued = at + 1;
+    after.request_count = progress.request_count + 1;
+    after
+}
