@@ -6,4 +6,5 @@ pub mod journal;
 pub mod opening;
 pub mod queue;
 pub mod state;
+pub mod theorem;
 pub mod validation;
