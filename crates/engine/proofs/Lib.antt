@@ -7,6 +7,7 @@ pub mod ComparisonLaws
 pub mod Demand3
 pub mod DistinctIndices
 pub mod EngineLaws
+pub mod EveryPlace
 pub mod ExecutionCases
 pub mod GoodDeliveries
 pub mod GoodKept
@@ -16,6 +17,7 @@ pub mod GoodValid
 pub mod IndexLaws
 pub mod JournalBytes
 pub mod LedgerLinks
+pub mod NotItself
 pub mod PartLaws
 pub mod PerformedWays
 pub mod Picks

@@ -38,7 +38,7 @@ module _ (low high low′ high′ : ℕ) (small : low < 2 ^ 64) (small′ : low�
       go false e = le-ltb (low + 2 ^ 64 * high) (low′ + 2 ^ 64 * high′) (omega (arith, ltb-false low low′ e)) ∙ sym e
 
 -- ---- two priorities, as the code compares them
-reads-back : (z : ℤ) → mag z < 2 ^ hbits w32 → z ≡ toZ w32 (ofZ w32 z)
+pub reads-back : (z : ℤ) → mag z < 2 ^ hbits w32 → z ≡ toZ w32 (ofZ w32 z)
 reads-back z f = sym (toZ-ofZ (record { sfits = f }))
 
 pub compared : (y z : ℤ) → mag y < 2 ^ hbits w32 → mag z < 2 ^ hbits w32 → {t : Bool}

@@ -1,6 +1,7 @@
 // The engine: sixteen survival clocks, the queue of their events, commands, the journal and undo.
 // Definitions: specs/, under the modules' names, and what they share.
 pub mod commands;
+pub mod comparison;
 pub mod execution;
 pub mod journal;
 pub mod opening;

@@ -5,5 +5,4 @@ ghost use Rattle.engine.specs.Demand3.{Demand3};
 
 pub fn demand_3()
     ensures { λ _. ⌜ ((stream : List ℕ) (n : ℕ) (inputs : List (List ℕ)) → Demand3 stream n inputs) ⌝ }
-{
-}
+{}
