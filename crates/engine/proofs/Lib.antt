@@ -8,6 +8,7 @@ pub mod Demand3
 pub mod DistinctIndices
 pub mod EngineLaws
 pub mod EveryPlace
+pub mod ExecuteLaws
 pub mod ExecutionCases
 pub mod GoodDeliveries
 pub mod GoodKept
@@ -19,12 +20,14 @@ pub mod JournalBytes
 pub mod LedgerLinks
 pub mod NotItself
 pub mod PartLaws
+pub mod PerformedTargets
 pub mod PerformedWays
 pub mod Picks
 pub mod ProgressLaws
 pub mod QueueLaws
 pub mod QueuePlaces
 pub mod Reached
+pub mod ReplayLaws
 pub mod Replays
 pub mod RequestCounts
 pub mod RequestLists

@@ -1,6 +1,7 @@
 pub mod Commands
 pub mod Comparison
 pub mod Demand3
+pub mod ExecuteCode
 pub mod Execution
 pub mod ExecutionCode
 pub mod Good
@@ -11,6 +12,7 @@ pub mod Parts
 pub mod Queue
 pub mod QueueCode
 pub mod Refusals
+pub mod ReplayCode
 pub mod Sessions
 pub mod State
 pub mod Validation

@@ -2,10 +2,12 @@
 // Definitions: specs/, under the modules' names, and what they share.
 pub mod commands;
 pub mod comparison;
+pub mod execute;
 pub mod execution;
 pub mod journal;
 pub mod opening;
 pub mod queue;
+pub mod replay;
 pub mod state;
 pub mod theorem;
 pub mod validation;

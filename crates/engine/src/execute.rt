@@ -1,0 +1,82 @@
+// Executing one input: a command, UNDO, or bytes that are no command (document 01: the command door).
+ghost use mathlib.Core.Path.{_≡_};
+ghost use mathlib.Core.Bool.{true};
+ghost use lib.ListN.{length};
+ghost use Rattle.hazards.specs.Answers.{noEvent};
+ghost use Rattle.engine.specs.Journal.{Whole, act, apply, execute};
+ghost use Rattle.engine.specs.Validation.{validState};
+ghost use Rattle.engine.specs.Instance.{engineOf};
+ghost use Rattle.engine.specs.ExecuteCode.{after, left};
+use crate::state::EngineState;
+use hazards::answers::Answer;
+
+pub const NO_COMMAND: u8 = 2;
+
+pub const CUT_SHORT: u8 = 3;
+
+// The answer and the state after an input.
+pub struct Executed {
+    pub answer: Answer,
+    pub state: EngineState,
+}
+
+// A refusal changes nothing.
+pub(crate) fn refuse(state: EngineState, number: u8) -> Executed
+    ensures { λ r. ⌜ (r .answer ≡ noEvent number) × (r .state ≡ state) ⌝ }
+{
+    Executed {
+        answer: hazards::answers::no_event(number),
+        state,
+    }
+}
+
+// A command but UNDO, cut to its width; where it is accepted it is copied into the journal's free part.
+fn apply(state: EngineState, stream: &[u8], journal: &mut [u8], command: &[u8]) -> Executed
+    requires { ⌜ validState (now stream) (length (now journal)) state ≡ true ⌝ }
+    ensures { λ r. ⌜ left r (now (journal .exit)) ≡ after (now (stream .entry)) (length (now (journal .entry))) (act (engineOf (now (stream .entry)) (length (now (journal .entry)))) state (now (journal .entry)) (apply (now (command .entry)))) ⌝ }
+{
+    let target = crate::execution::target(state.progress, command);
+    let slot = crate::replay::slot_at(state, target);
+    let outcome = crate::execution::perform_on(
+        slot,
+        state.progress,
+        stream,
+        journal.len(),
+        command,
+    );
+    if outcome.number != 0 {
+        return refuse(state, outcome.number);
+    }
+    let free = state.progress.applied_length;
+    crate::journal::copy_into(&mut journal[free..], command);
+    let moved = outcome.slot;
+    let progress = outcome.progress;
+    let answer = outcome.answer;
+    Executed {
+        answer,
+        state: crate::replay::with_slot(state, target, moved, progress),
+    }
+}
+
+pub fn execute(state: EngineState, stream: &[u8], journal: &mut [u8], input: &[u8]) -> Executed
+    ensures { λ r. ⌜ left r (now (journal .exit)) ≡ after (now (stream .entry)) (length (now (journal .entry))) (execute (engineOf (now (stream .entry)) (length (now (journal .entry)))) state (now (journal .entry)) (now (input .entry))) ⌝ }
+{
+    if !crate::validation::valid_state(state, stream, journal.len()) {
+        return refuse(state, hazards::refusals::INVALID_STATE);
+    }
+    if input.len() == 0 {
+        return refuse(state, CUT_SHORT);
+    }
+    let code = input[0];
+    let width = crate::commands::width(code);
+    if width == 0 {
+        return refuse(state, NO_COMMAND);
+    }
+    if input.len() < width {
+        return refuse(state, CUT_SHORT);
+    }
+    if code == crate::commands::UNDO {
+        return crate::replay::undo(state, stream, journal);
+    }
+    apply(state, stream, journal, &input[..width])
+}

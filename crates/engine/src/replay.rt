@@ -1,0 +1,161 @@
+// The replay of applied commands from opening, and UNDO. The state stays in one local; what the last command changed is kept beside it.
+ghost use mathlib.Core.Path.{_≡_};
+ghost use mathlib.Core.Bool.{false};
+ghost use Prim.Native.Nat.{_≤_, _<_, _^_};
+ghost use lib.ListN.{length};
+ghost use Rattle.engine.specs.State.{slotAt, withSlot};
+ghost use Rattle.engine.specs.Journal.{fails, replayAll, undo};
+ghost use Rattle.engine.specs.Instance.{engineOf};
+ghost use Rattle.engine.specs.ReplayCode.{wholeWidth, replayedOf};
+ghost use Rattle.engine.specs.ExecuteCode.{after, left};
+use crate::execute::Executed;
+use crate::state::ClockSlot;
+use crate::state::EngineState;
+use crate::state::Progress;
+
+pub const NOTHING_APPLIED: u8 = 12;
+
+pub const REPLAY_FAILS: u8 = 13;
+
+// Where a replay ends: the state after all commands, and the last command's place with its clock's number, slot and progress before it.
+pub struct Replay {
+    pub ok: bool,
+    pub state: EngineState,
+    pub last: usize,
+    pub clock: usize,
+    pub slot: ClockSlot,
+    pub progress: Progress,
+}
+
+// There are sixteen places; past them is the empty slot.
+pub(crate) fn slot_at(state: EngineState, at: usize) -> ClockSlot
+    ensures { λ r. ⌜ r ≡ slotAt state at ⌝ }
+{
+    if at < 16 {
+        return state.slots[at];
+    }
+    crate::opening::empty_slot()
+}
+
+// With another slot at a place and another progress.
+pub(crate) fn with_slot(
+    state: EngineState,
+    at: usize,
+    slot: ClockSlot,
+    progress: Progress,
+) -> EngineState
+    ensures { λ r. ⌜ r ≡ withSlot state at slot progress ⌝ }
+{
+    let mut after = state;
+    if at < 16 {
+        after.slots[at] = slot;
+    }
+    after.progress = progress;
+    after
+}
+
+// The width of the whole command at the front of the bytes; 0 where there is none, or it is an UNDO.
+fn command_width(bytes: &[u8]) -> usize
+    ensures { λ r. ⌜ r ≡ wholeWidth (now (bytes .entry)) ⌝ }
+{
+    if bytes.len() == 0 {
+        return 0;
+    }
+    let code = bytes[0];
+    if code == crate::commands::UNDO {
+        return 0;
+    }
+    let width = crate::commands::width(code);
+    if width <= bytes.len() { width } else { 0 }
+}
+
+fn failed(state: EngineState, slot: ClockSlot, progress: Progress) -> Replay
+    ensures { λ r. ⌜ (r .ok ≡ false) × (r .last ≡ 0) ⌝ }
+{
+    Replay {
+        ok: false,
+        state,
+        last: 0,
+        clock: 0,
+        slot,
+        progress,
+    }
+}
+
+// Replays commands from opening. A refused command or an UNDO among them ends it.
+fn replay_all(stream: &[u8], journal_length: usize, bytes: &[u8]) -> Replay
+    requires { ⌜ «journal_length» < 2 ^ 63 ⌝ }
+    ensures { λ r. ⌜ (replayedOf (now (stream .entry)) «journal_length» r ≡ replayAll (engineOf (now (stream .entry)) «journal_length») (now (bytes .entry))) × (r .last ≤ length (now (bytes .entry))) ⌝ }
+{
+    let mut state = crate::opening::opened_state();
+    let mut slot = crate::opening::empty_slot();
+    let mut progress = state.progress;
+    let mut clock: usize = 0;
+    let mut last: usize = 0;
+    let mut at: usize = 0;
+    while at < bytes.len() {
+        let width = command_width(&bytes[at..]);
+        if width == 0 {
+            return failed(state, slot, progress);
+        }
+        let end = at + width;
+        let target = crate::execution::target(state.progress, &bytes[at..end]);
+        if target > 15 {
+            return failed(state, slot, progress);
+        }
+        let old = state.slots[target];
+        let outcome = crate::execution::perform_on(
+            old,
+            state.progress,
+            stream,
+            journal_length,
+            &bytes[at..end],
+        );
+        if outcome.number != 0 {
+            return failed(state, slot, progress);
+        }
+        clock = target;
+        slot = old;
+        progress = state.progress;
+        last = at;
+        let moved = outcome.slot;
+        state.slots[target] = moved;
+        let next = outcome.progress;
+        state.progress = next;
+        at = end;
+    }
+    Replay {
+        ok: true,
+        state,
+        last,
+        clock,
+        slot,
+        progress,
+    }
+}
+
+pub(crate) fn undo(state: EngineState, stream: &[u8], journal: &mut [u8]) -> Executed
+    requires { ⌜ state .progress .«applied_length» ≤ length (now journal) ⌝ }
+    ensures { λ r. ⌜ left r (now (journal .exit)) ≡ after (now (stream .entry)) (length (now (journal .entry))) (undo (engineOf (now (stream .entry)) (length (now (journal .entry)))) state (now (journal .entry))) ⌝ }
+{
+    let applied = state.progress.applied_length;
+    if applied == 0 {
+        return crate::execute::refuse(state, NOTHING_APPLIED);
+    }
+    let end = replay_all(stream, journal.len(), &journal[..applied]);
+    if !end.ok {
+        return crate::execute::refuse(state, REPLAY_FAILS);
+    }
+    let all = end.state;
+    if !crate::comparison::same_state(all, state) {
+        return crate::execute::refuse(state, REPLAY_FAILS);
+    }
+    let last = end.last;
+    crate::journal::clear(&mut journal[last..], applied - last);
+    let slot = end.slot;
+    let progress = end.progress;
+    Executed {
+        answer: hazards::answers::no_event(0),
+        state: with_slot(all, end.clock, slot, progress),
+    }
+}
