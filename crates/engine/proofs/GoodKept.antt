@@ -39,7 +39,7 @@ use Rattle.engine.proofs.GoodDeliveries.{Delivery, deliver-step}
 use Rattle.engine.proofs.GoodValid.{opened-good, good-valid}
 
 -- a code that is no command's has no width
-no-width : (k : ℕ) → (k ≡ commands.create → ⊥) → (k ≡ commands.set → ⊥) → (k ≡ commands.remove → ⊥) → (k ≡ commands.reschedule → ⊥)
+pub no-width : (k : ℕ) → (k ≡ commands.create → ⊥) → (k ≡ commands.set → ⊥) → (k ≡ commands.remove → ⊥) → (k ≡ commands.reschedule → ⊥)
     → (k ≡ commands.pause → ⊥) → (k ≡ commands.resume → ⊥) → (k ≡ commands.deliver → ⊥) → (k ≡ commands.undo → ⊥) → widthOf k ≡ 0
 unfolding widthOf
 no-width k h₁ h₂ h₃ h₄ h₅ h₆ h₇ h₈ =
@@ -64,7 +64,7 @@ module _ (stream : List ℕ) (n : ℕ) (s : EngineState) (c : List ℕ) where
   unfolding target
   target-named h = rw (ne-eqb (code c) commands.deliver h)
 
-  target-delivered : (r : Request) → code c ≡ commands.deliver → nextRequest (queuedRequests p) ≡ some r → target p c ≡ r .clock
+  pub target-delivered : (r : Request) → code c ≡ commands.deliver → nextRequest (queuedRequests p) ≡ some r → target p c ≡ r .clock
   unfolding target
   target-delivered r h e = rw (eq-eqb (code c) commands.deliver h, e)
 

@@ -32,5 +32,7 @@ pub mod Replays
 pub mod RequestCounts
 pub mod RequestLists
 pub mod RequestOrder
+pub mod RunNumbers
+pub mod RunTurns
 pub mod ValidationLaws
 pub mod Worked

@@ -10,7 +10,7 @@ use Rattle.engine.proofs.Replays.{AllWhole, First, first}
 use Rattle.engine.proofs.Applied.{Inv, inv-open, inv-all}
 
 module _ (E : Engine) (Good : E .State → Type 0) (S : Sound E Good) where
-  good-replay : (s : E .State) (cs : List Bytes) (v : E .State) → AllWhole E cs → replay E (some s) cs ≡ some v → Good s → Good v
+  pub good-replay : (s : E .State) (cs : List Bytes) (v : E .State) → AllWhole E cs → replay E (some s) cs ≡ some v → Good s → Good v
   good-replay s [] v w e g = let p : s ≡ v = unfold replay in cc in subst Good p g
   good-replay s (c ∷ cs) v w e g =
       let f : First E s c cs v = first E s c cs v (w .0) e in

@@ -8,6 +8,7 @@ pub mod journal;
 pub mod opening;
 pub mod queue;
 pub mod replay;
+pub mod run;
 pub mod state;
 pub mod theorem;
 pub mod validation;

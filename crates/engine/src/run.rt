@@ -1,0 +1,142 @@
+// The batch run (document 01: run call): it opens an engine and answers command after command. The state stays in one local.
+ghost use mathlib.Core.Path.{_≡_};
+ghost use mathlib.Core.Bool.{_&&_};
+ghost use mathlib.Core.List.{_++_};
+ghost use Prim.Native.Nat.{_%_};
+ghost use lib.Dec.{eqb};
+ghost use lib.ListN.{length, replicate};
+ghost use Rattle.hazards.specs.Fields.{bytesOf};
+ghost use Rattle.engine.specs.State.{openedState};
+ghost use Rattle.engine.specs.Run.{ran, endNumber, runFrom, runOf};
+
+pub const ANSWERS_FULL: u8 = 17;
+
+pub const BAD_BUFFERS: u8 = 18;
+
+// Whether the stream is whole thresholds and the result has its bytes.
+fn are_usable(stream: &[u8], result: &[u8]) -> bool
+    ensures { λ r. ⌜ r ≡ (eqb (length (now (stream .entry)) % 8) 0 && eqb (length (now (result .entry))) 16) ⌝ }
+{
+    if stream.len() % 8 != 0 {
+        return false;
+    }
+    result.len() == 16
+}
+
+// Commands answered and bytes read.
+fn finish(result: &mut [u8], answered: usize, read: usize)
+    requires { ⌜ length (now result) ≡ 16 ⌝ }
+    ensures { λ _. ⌜ now (result .exit) ≡ bytesOf 8 answered ++ bytesOf 8 read ⌝ }
+{
+    hazards::fields::put_u64(result, 0, answered as u64);
+    hazards::fields::put_u64(result, 8, read as u64);
+}
+
+// The refusal that ends a run at an input: 2 where it is no command, 3 where it is cut short; 0 where it is a whole command.
+fn end_number(input: &[u8]) -> u8
+    ensures { λ r. ⌜ r ≡ endNumber (now (input .entry)) ⌝ }
+{
+    if input.len() == 0 {
+        return crate::execute::CUT_SHORT;
+    }
+    let width = crate::commands::width(input[0]);
+    if width == 0 {
+        return crate::execute::NO_COMMAND;
+    }
+    if input.len() < width {
+        return crate::execute::CUT_SHORT;
+    }
+    0
+}
+
+// The commands, one after another, from opening. A state that is reached from opening needs no validation.
+fn run_commands(
+    commands: &[u8],
+    stream: &[u8],
+    journal: &mut [u8],
+    answers: &mut [u8],
+    result: &mut [u8],
+) -> u8
+    requires { ⌜ (now journal ≡ replicate (length (now journal)) 0) × (length (now result) ≡ 16) ⌝ }
+    ensures { λ r. ⌜ ran r (now (journal .exit)) (now (answers .exit)) (now (result .exit)) ≡ runFrom (length (now (commands .entry))) (now (stream .entry)) openedState (replicate (length (now (journal .entry))) 0) (now (answers .entry)) 0 0 (now (commands .entry)) ⌝ }
+{
+    let mut state = crate::opening::opened_state();
+    let mut answered: usize = 0;
+    let mut at: usize = 0;
+    while at < commands.len() {
+        let place = 32 * answered;
+        if answers.len() - place < 32 {
+            finish(result, answered, at);
+            return ANSWERS_FULL;
+        }
+        let number = end_number(&commands[at..]);
+        if number != 0 {
+            hazards::answers::put_answer(answers, place, hazards::answers::no_event(number));
+            finish(result, answered + 1, at);
+            return number;
+        }
+        let code = commands[at];
+        let start = at;
+        at = start + crate::commands::width(code);
+        answered = answered + 1;
+        if code == crate::commands::UNDO {
+            let undone = crate::replay::undo(state, stream, journal);
+            state = undone.state;
+            hazards::answers::put_answer(answers, place, undone.answer);
+            continue;
+        }
+        let command = &commands[start..at];
+        let target = crate::execution::target(state.progress, command);
+        if target > 15 {
+            let outcome = crate::execution::perform_on(
+                crate::opening::empty_slot(),
+                state.progress,
+                stream,
+                journal.len(),
+                command,
+            );
+            let refusal = hazards::answers::no_event(outcome.number);
+            hazards::answers::put_answer(answers, place, refusal);
+            continue;
+        }
+        let outcome = crate::execution::perform_on(
+            state.slots[target],
+            state.progress,
+            stream,
+            journal.len(),
+            command,
+        );
+        if outcome.number != 0 {
+            let refusal = hazards::answers::no_event(outcome.number);
+            hazards::answers::put_answer(answers, place, refusal);
+            continue;
+        }
+        let free = state.progress.applied_length;
+        crate::journal::copy_into(&mut journal[free..], command);
+        hazards::answers::put_answer(answers, place, outcome.answer);
+        let moved = outcome.slot;
+        state.slots[target] = moved;
+        let next = outcome.progress;
+        state.progress = next;
+    }
+    finish(result, answered, at);
+    0
+}
+
+#[no_mangle]
+pub extern "C" fn run(
+    commands: &[u8],
+    stream: &[u8],
+    journal: &mut [u8],
+    answers: &mut [u8],
+    result: &mut [u8],
+) -> u8
+    ensures { λ r. ⌜ ran r (now (journal .exit)) (now (answers .exit)) (now (result .exit)) ≡ runOf (now (commands .entry)) (now (stream .entry)) (now (journal .entry)) (now (answers .entry)) (now (result .entry)) ⌝ }
+{
+    if !are_usable(stream, result) {
+        return BAD_BUFFERS;
+    }
+    let length = journal.len();
+    crate::journal::clear(journal, length);
+    run_commands(commands, stream, journal, answers, result)
+}
