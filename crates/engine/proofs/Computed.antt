@@ -1,5 +1,5 @@
 -- What the table of rows and the worked list compute with. To unfold `computed` is to unfold all that its line names.
-use lib.Ieee.{ofBits, toBits, isNan, size, add, sub, mul, div, lt, le}
+use lib.Ieee.{ofBits, toBits, isNan, add, sub, mul, div, lt, le}
 use Rattle.hazards.specs.Floats.{notBelowZero, zeroBits, inRange, isTime, isThreshold, isFiniteWait}
 use Rattle.hazards.specs.Lists.{all, foldl, insertBy, sortBy}
 use Rattle.hazards.specs.Fields.{littleEndian, bytesOf, fieldAt, f64At, i32At}
@@ -18,7 +18,7 @@ use Rattle.clocks.specs.Setting.{setAgain, setNew, setChannel}
 use Rattle.clocks.specs.Scheduling.{finalEvent, scheduledFor, reschedule, pause, resume, onEventDispatched}
 use Rattle.clocks.specs.Validation.{isFinite, ascendingFrom, validChannel, validClock}
 use Rattle.engine.specs.Commands.{widthOf}
-use Rattle.engine.specs.Queue.{comesFirst, nextRequest, without, isThere}
+use Rattle.engine.specs.Queue.{nextRequest, without, isThere}
 use Rattle.engine.specs.State.{openedState}
 use Rattle.engine.specs.Validation.{validSlot, validRequest, distinct, validQueue, validProgress, validState}
 use Rattle.engine.specs.Comparison.{sameFloat, everyBelow, sameHazard, sameIntervals, sameChannel, sameSettings, sameChannels}
@@ -30,16 +30,15 @@ use Rattle.engine.specs.Sessions.{feed, feedAll, newSession}
 use Rattle.engine.specs.Ledger.{recordCommand, ledgerOf}
 
 unfoldable pub computed : Unit {0}
-unfolding ofBits toBits isNan size add sub mul div lt le notBelowZero zeroBits inRange isTime isThreshold isFiniteWait all foldl insertBy
-    sortBy littleEndian bytesOf fieldAt f64At i32At pairsFrom usedPairs piecewiseHazard hazardOfKind hazardAt piecewiseCumulative
+unfolding ofBits toBits isNan add sub mul div lt le notBelowZero zeroBits inRange isTime isThreshold isFiniteWait all foldl insertBy sortBy
+    littleEndian bytesOf fieldAt f64At i32At pairsFrom usedPairs piecewiseHazard hazardOfKind hazardAt piecewiseCumulative
     cumulativeOfKind cumulativeHazard pairsAfter piecewiseWait constantWait waitOfKind invertCumulativeHazard ownRate mostPairs
     rangeFault ascending intervalsFault choiceFault hazardFaults drawAt headBytes answerBytes candidateAfter preferred precedes
     earlier earliest faultsOfAll settingsFaults drawsRefusal sampleRefusal candidates censoredAt sampledEvent sampleNext settledHazard
     onUsed placeOf holdsAt insertAt channelCandidate wholeTicks newClock clockCandidates earliestEvent setAgain setNew setChannel
     finalEvent scheduledFor reschedule pause resume onEventDispatched isFinite ascendingFrom validChannel validClock widthOf
-    comesFirst nextRequest without isThere openedState validSlot validRequest distinct validQueue validProgress validState sameFloat
-    everyBelow sameHazard sameIntervals sameChannel sameSettings sameChannels sameSchedule sameClock sameSlot sameRequest sameProgress
-    sameState createFaults setFaults rescheduleFaults pauseFaults performCreate performSet performReschedule performPause
-    performResume performDeliver performOn target perform classify replayFrom replayAll undo execute feed feedAll newSession
-    recordCommand ledgerOf
+    nextRequest without isThere openedState validSlot validRequest distinct validQueue validProgress validState sameFloat everyBelow
+    sameHazard sameIntervals sameChannel sameSettings sameChannels sameSchedule sameClock sameSlot sameRequest sameProgress sameState
+    createFaults setFaults rescheduleFaults pauseFaults performCreate performSet performReschedule performPause performResume
+    performDeliver performOn target perform classify replayFrom replayAll undo execute feed feedAll newSession recordCommand ledgerOf
 computed = tt
