@@ -55,13 +55,13 @@ fn modified(path: &Path) -> Option<SystemTime> {
     fs::metadata(path).and_then(|data| data.modified()).ok()
 }
 
-/// The newest time at which a file below the folder, or the folder, was changed.
+/// The newest time at which a file below the path, or the file itself, was changed.
 fn newest(path: &Path) -> Option<SystemTime> {
-    let below = fs::read_dir(path).into_iter().flatten().flatten();
-    below
-        .filter_map(|entry| newest(&entry.path()))
-        .chain(modified(path))
-        .max()
+    if !path.is_dir() {
+        return modified(path);
+    }
+    let entries = fs::read_dir(path).into_iter().flatten().flatten();
+    entries.filter_map(|entry| newest(&entry.path())).max()
 }
 
 /// Makes the library. Without `rt` an old library is linked as it is.
