@@ -1,9 +1,7 @@
 //! `sessions SEED COUNT`: COUNT random sessions through the batch run of the proved engine and through the unchanged Rust behind document
 //! 01's rules. Compares the returned number and every byte of answers, journal and result; ends with 1 at the first difference.
 
-#![deny(unsafe_code)]
-
-mod engine;
+#![forbid(unsafe_code)]
 
 use cases::random::Random;
 use cases::random_sessions::session;
@@ -47,7 +45,7 @@ fn through_engine(s: &Session) -> Outcome {
     let mut answers = Guarded::new(s.answers, ANSWERS_BEFORE);
     let mut journal = Guarded::new(s.journal, JOURNAL_BEFORE);
     let mut result = Guarded::new(s.result, RESULT_BEFORE);
-    let number = engine::run(
+    let number = olgaemuri_sys::run(
         &s.commands,
         &s.stream,
         journal.inner(),
