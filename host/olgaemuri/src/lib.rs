@@ -12,6 +12,7 @@ mod batch;
 mod choices;
 mod clock;
 mod command;
+mod draws;
 mod fields;
 mod hazard;
 mod input;
