@@ -168,59 +168,64 @@ impl Command {
     pub fn to_bytes(&self) -> Vec<u8> {
         let mut out = Writer::default();
         out.u8(self.code());
+        if let Some(clock) = self.clock() {
+            out.u8(clock);
+        }
+        self.write_operands(&mut out);
+        out.0
+    }
+
+    /// The operands behind the clock.
+    fn write_operands(&self, out: &mut Writer) {
         match self {
             Self::Create {
-                clock,
                 process,
                 policy,
                 tie,
                 scale,
                 entity,
+                ..
             } => {
-                out.u8(*clock)
-                    .u64(*process)
-                    .u8(policy.number())
-                    .u8(tie.number())
-                    .f64(*scale);
-                write_entity(&mut out, *entity);
+                out.u64(*process).u8(policy.number()).u8(tie.number());
+                out.f64(*scale);
+                write_entity(out, *entity);
             }
             Self::Set {
-                clock,
                 cause,
                 priority,
                 hazard,
                 now,
+                ..
             } => {
-                out.u8(*clock).u32(*cause).u32(*priority);
-                write_hazard(&mut out, hazard, *now);
+                out.u32(*cause).u32(*priority);
+                write_hazard(out, hazard, *now);
             }
-            Self::Remove { clock, cause } => {
-                out.u8(*clock).u32(*cause);
+            Self::Remove { cause, .. } => {
+                out.u32(*cause);
             }
-            Self::Reschedule {
-                clock,
-                now,
-                censor,
-                priority,
-            }
-            | Self::Resume {
-                clock,
-                now,
-                censor,
-                priority,
-            } => {
-                out.u8(*clock)
-                    .f64(*now)
-                    .u8(u8::from(censor.is_some()))
-                    .f64(censor.unwrap_or(0.0))
-                    .i32(*priority);
-            }
-            Self::Pause { clock, now } => {
-                out.u8(*clock).f64(*now);
+            Self::Reschedule { .. } | Self::Pause { .. } | Self::Resume { .. } => {
+                self.write_times(out)
             }
             Self::Deliver | Self::Undo => {}
         }
-        out.0
+    }
+
+    /// The present time; then the censor time and the priority of RESCHEDULE and RESUME.
+    fn write_times(&self, out: &mut Writer) {
+        if let Some(now) = self.now() {
+            out.f64(now);
+        }
+        if let Self::Reschedule {
+            censor, priority, ..
+        }
+        | Self::Resume {
+            censor, priority, ..
+        } = self
+        {
+            out.u8(u8::from(censor.is_some()))
+                .f64(censor.unwrap_or(0.0));
+            out.i32(*priority);
+        }
     }
 
     /// The command at the front of the bytes; those past its width are ignored. [`Command::to_bytes`] gives the same bytes back.

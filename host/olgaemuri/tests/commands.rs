@@ -26,8 +26,11 @@ fn every_command_comes_back_from_its_bytes() {
     assert!(seen[1..].iter().all(|times| *times > 1000), "{seen:?}");
 }
 
+/// The f64 2.0 in bytes.
+const TWO: [u8; 8] = [0, 0, 0, 0, 0, 0, 0, 0x40];
+
 #[test]
-fn layout_of_document_01() {
+fn layout_of_create() {
     let create = Command::Create {
         clock: 3,
         process: 0x0807_0605_0403_0201,
@@ -39,27 +42,19 @@ fn layout_of_document_01() {
             generation: 4,
         }),
     };
-    let two = [0, 0, 0, 0, 0, 0, 0, 0x40];
-    let expected = [
-        &[1, 3, 1, 2, 3, 4, 5, 6, 7, 8, 1, 2][..],
-        &two,
-        &[1, 9, 0, 0, 0, 0, 0, 0, 0, 4, 0, 0, 0],
-    ];
-    assert_eq!(create.to_bytes(), expected.concat());
-    let resume = Command::Resume {
-        clock: 2,
-        now: 2.0,
-        censor: Some(2.0),
-        priority: -2,
-    };
-    let expected = [&[6, 2][..], &two, &[1], &two, &[0xfe, 0xff, 0xff, 0xff]];
-    assert_eq!(resume.to_bytes(), expected.concat());
-    let pair = Pair {
+    let front = [1, 3, 1, 2, 3, 4, 5, 6, 7, 8, 1, 2];
+    let entity = [1, 9, 0, 0, 0, 0, 0, 0, 0, 4, 0, 0, 0];
+    assert_eq!(create.to_bytes(), [&front[..], &TWO, &entity].concat());
+}
+
+#[test]
+fn layout_of_set() {
+    let pairs = vec![Pair {
         end: 2.0,
         rate: 0.0,
-    };
+    }];
     let hazard = Hazard::PiecewiseConstant {
-        pairs: vec![pair],
+        pairs,
         trailing: 2.0,
     };
     let set = Command::Set {
@@ -69,15 +64,38 @@ fn layout_of_document_01() {
         hazard,
         now: 0.0,
     };
-    let expected = [
-        &[2, 1, 2, 1, 0, 0, 5, 0, 0, 0, 3][..],
-        &two,
-        &[0; 8],
-        &[1],
-        &two,
-        &[0; 120],
-    ];
+    let front = [2, 1, 2, 1, 0, 0, 5, 0, 0, 0, 3];
+    let expected = [&front[..], &TWO, &[0; 8], &[1], &TWO, &[0; 120]];
     assert_eq!(set.to_bytes(), expected.concat());
+}
+
+#[test]
+fn layout_of_the_others() {
+    let resume = Command::Resume {
+        clock: 2,
+        now: 2.0,
+        censor: Some(2.0),
+        priority: -2,
+    };
+    let expected = [&[6, 2][..], &TWO, &[1], &TWO, &[0xfe, 0xff, 0xff, 0xff]];
+    assert_eq!(resume.to_bytes(), expected.concat());
+    let reschedule = common::reschedule(2.0);
+    assert_eq!(
+        reschedule.to_bytes(),
+        [&[4, 0][..], &TWO, &[0; 13]].concat()
+    );
+    let pause = Command::Pause {
+        clock: 15,
+        now: 2.0,
+    };
+    assert_eq!(pause.to_bytes(), [&[5, 15][..], &TWO].concat());
+    let remove = Command::Remove {
+        clock: 1,
+        cause: 0x0403_0201,
+    };
+    assert_eq!(remove.to_bytes(), [3, 1, 1, 2, 3, 4]);
+    assert_eq!(Command::Deliver.to_bytes(), [7]);
+    assert_eq!(Command::Undo.to_bytes(), [8]);
 }
 
 #[test]

@@ -105,6 +105,47 @@ fn draws_by_policy() {
 }
 
 #[test]
+fn draws_before_a_bad_threshold() {
+    let mut session = Session::new([2.0, f64::NAN, 1.0]);
+    session.extend([create(Policy::Restart), set(1, 0.5, 0.0), set(2, 0.5, 0.0)]);
+    let run = session.run();
+    assert_eq!(run.steps[2].answer.refusal, Some(Refusal::InvalidThreshold));
+    assert_eq!(run.draws, 1);
+    // the cause is gone, its threshold stays drawn
+    session.push(Command::Remove { clock: 0, cause: 1 });
+    assert_eq!(session.run().draws, 1);
+}
+
+#[test]
+fn draws_of_sixteen_full_clocks() {
+    let mut session = Session::new([2.0; 200]);
+    for clock in 0..16 {
+        let (policy, tie) = (Policy::RetainResidual, Tie::LowestCause);
+        session.push(Command::Create {
+            clock,
+            process: 0,
+            policy,
+            tie,
+            scale: 1.0,
+            entity: None,
+        });
+        let set = |cause| Command::Set {
+            clock,
+            cause,
+            priority: 0,
+            hazard: Hazard::Zero,
+            now: 0.0,
+        };
+        session.extend((0..8).map(set));
+    }
+    let run = session.run();
+    assert_eq!(
+        (run.applied.len(), run.draws, run.clocks.len()),
+        (16 * 9, 16 * 8, 16)
+    );
+}
+
+#[test]
 fn a_clock_is_followed() {
     let mut session = row_9();
     let clock = session.run().clock(0).cloned().expect("clock 0 is present");

@@ -53,22 +53,10 @@ impl Random {
 /// A command with any values in its fields; at most eight pairs.
 pub fn any_command(random: &mut Random) -> Command {
     let (clock, cause, now) = (random.byte(), random.word() as u32, random.any_float());
-    let (priority, process) = (random.word() as u32, random.word());
+    let priority = random.word() as u32;
     let censor = random.flip().then(|| random.any_float());
-    let entity = random.flip().then_some(Entity {
-        index: process ^ 1,
-        generation: priority ^ 1,
-    });
-    let (policy, tie) = (random.pick(&Policy::ALL), random.pick(&Tie::ALL));
     match random.below(8) {
-        0 => Command::Create {
-            clock,
-            process,
-            policy,
-            tie,
-            scale: random.any_float(),
-            entity,
-        },
+        0 => any_create(random),
         1 | 2 => Command::Set {
             clock,
             cause,
@@ -92,6 +80,21 @@ pub fn any_command(random: &mut Random) -> Command {
         },
         _ if random.flip() => Command::Deliver,
         _ => Command::Undo,
+    }
+}
+
+fn any_create(random: &mut Random) -> Command {
+    let entity = Entity {
+        index: random.word(),
+        generation: random.word() as u32,
+    };
+    Command::Create {
+        clock: random.byte(),
+        process: random.word(),
+        policy: random.pick(&Policy::ALL),
+        tie: random.pick(&Tie::ALL),
+        scale: random.any_float(),
+        entity: random.flip().then_some(entity),
     }
 }
 
