@@ -5,11 +5,18 @@
  * commands one after another and writes an answer of 32 bytes to each. To go on with a session, add to the list and
  * run it again: the same list gives the same answers, byte for byte.
  *
- *     uint8_t list[512];
+ *     uint8_t list[512], stream[16], journal[512], answers[16 * OLGAEMURI_ANSWER_BYTES];
  *     size_t length = 0;
+ *     struct olgaemuri_result result;
+ *
+ *     olgaemuri_put_f64(olgaemuri_put_f64(stream, 2.0), 1.0);
  *     length += olgaemuri_put_create(list + length, 0, 7, OLGAEMURI_RETAIN_RESIDUAL, OLGAEMURI_LOWEST_CAUSE, 10.0, NULL);
  *     length += olgaemuri_put_set(list + length, 0, 1, 0, olgaemuri_constant(0.5), 0.0);
  *     length += olgaemuri_put_reschedule(list + length, 0, 0.0, NULL, 0);
+ *     olgaemuri_run(list, length, stream, sizeof stream, journal, sizeof journal, answers, sizeof answers, &result);
+ *
+ *     the third answer: the threshold 2.0 is used up at 0.5 an hour, after 4 hours, at ten ticks an hour
+ *     olgaemuri_get_answer(answers + 2 * OLGAEMURI_ANSWER_BYTES).ticks_low == 40
  *
  * Link libengine.a, which `rt staticlib engine` writes to target/staticlib. It is for x86-64, calls nothing but memcpy and
  * memset, and has no state of its own, so that runs may go on at the same time in several threads, each with its own buffers.
