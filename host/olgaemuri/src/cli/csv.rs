@@ -6,7 +6,10 @@ use super::text::names::{Named, Names};
 use super::text::write::item_text;
 use super::wording::input_word;
 
-const HEAD: &str = "no,line,command,machine,machine_name,now,number,refusal,event,censored,withdrawn,cause,cause_name,delta,ticks,applied,undone_by,text\n";
+const HEAD: &str =
+    "no,line,command,machine,machine_name,now,number,refusal,event,censored,withdrawn,\
+    cause,cause_name,delta,ticks,applied,undone_by,text
+";
 
 pub fn report_csv(report: &Report) -> String {
     let names = &report.text.names;

@@ -77,10 +77,10 @@ impl Walk {
         }
         match &applied.command {
             Command::Deliver => self.deliver(machine),
-            Command::Reschedule { now, priority, .. } | Command::Resume { now, priority, .. } => {
-                if applied.answer.event {
-                    self.schedule(applied.clock, &applied.answer, *now, *priority);
-                }
+            Command::Reschedule { now, priority, .. } | Command::Resume { now, priority, .. }
+                if applied.answer.event =>
+            {
+                self.schedule(applied.clock, &applied.answer, *now, *priority);
             }
             _ => {}
         }

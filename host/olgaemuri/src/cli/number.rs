@@ -4,7 +4,7 @@ use std::fmt::Display;
 use std::str::FromStr;
 
 /// What a reader is told that a float may be.
-const FLOAT_FORMS: &str =
+pub const FLOAT_FORMS: &str =
     "a number such as 4, -0.25 or 1e-6, or 0x and the 16 hexadecimal digits of its bits";
 
 /// The shortest decimal that reads back as the same bits; a NaN by its bits.
@@ -104,7 +104,7 @@ mod tests {
     #[test]
     fn bits_of_any_kind_survive() {
         let mut bits = 1u64;
-        for _ in 0..100_000 {
+        for _ in 0..20_000 {
             bits = bits.wrapping_mul(0x9e37_79b9_7f4a_7c15).rotate_left(23) ^ 0x5851_f42d;
             survives(f64::from_bits(bits));
         }

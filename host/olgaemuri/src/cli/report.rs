@@ -44,6 +44,12 @@ impl Report {
             .count()
     }
 
+    /// How many commands were taken back.
+    pub fn undone(&self) -> usize {
+        let undone = self.rows.iter().filter(|row| row.undone_by.is_some());
+        undone.count()
+    }
+
     /// Bytes of the list that the run did not read, having ended before.
     pub fn unread(&self) -> u64 {
         self.text.commands().len() as u64 - self.outcome.bytes_read

@@ -112,11 +112,7 @@ fn row_cells(row: &Row, names: &Names) -> Vec<String> {
 fn summary(report: &Report) -> String {
     let (given, accepted) = (report.rows.len(), report.accepted());
     let refused = given - accepted;
-    let undone = report
-        .rows
-        .iter()
-        .filter(|row| row.undone_by.is_some())
-        .count();
+    let undone = report.undone();
     let (applied, draws) = (report.outcome.applied.len(), report.outcome.draws);
     let thresholds = report.text.thresholds().len();
     let mut text = format!(

@@ -105,18 +105,16 @@ fn check(session: &[u8], name: &str) -> Vec<Event> {
 
 #[test]
 fn the_examples_events_are_drawn() {
-    for name in [
-        "press-shop.session",
-        "press-shop-before.session",
-        "press-shop-kept.session",
-    ] {
+    let count = |events: &[Event], state: &str| events.iter().filter(|e| e.4 == state).count();
+    let cases = [
+        ("press-shop.session", [7, 5, 2]),
+        ("press-shop-before.session", [7, 5, 2]),
+        ("press-shop-kept.session", [7, 3, 5]),
+    ];
+    for (name, counts) in cases {
         let events = check(&example(name), name);
-        for state in ["delivered", "scheduled", "withdrawn"] {
-            assert!(
-                events.iter().any(|event| event.4 == state),
-                "{name}: {state}"
-            );
-        }
+        let found = ["delivered", "scheduled", "withdrawn"].map(|state| count(&events, state));
+        assert_eq!(found, counts, "{name}");
     }
 }
 

@@ -1,17 +1,17 @@
 //! `olgaemuri interactive`: commands are typed, answered and taken back. Refused ones are not kept, so every command of the
 //! session is accepted.
 
+mod shown;
+
 use super::arguments::Arguments;
 use super::files::{load, write};
-use super::report::{Report, Row};
+use super::report::Report;
 use super::suggest::hint;
 use super::svg::picture;
-use super::table::{Column, aligned, breakdown_table};
 use super::text::commands::COMMANDS;
 use super::text::line::{Item, Line};
 use super::text::parse::{OTHERS, Reader};
 use super::text::session::SessionText;
-use super::text::write::command_text;
 use super::wording::told;
 use super::{Failure, help};
 use std::io::{BufRead, IsTerminal, Write, stdin, stdout};
@@ -144,7 +144,7 @@ impl<'a> Typed<'a> {
                 help::FORMAT
             )?,
             ["help", word] => self.help_on(word)?,
-            ["list"] => self.list()?,
+            ["list"] => writeln!(self.out, "{}", shown::list(&self.report))?,
             ["save", file] => self.save(file, false)?,
             ["save", file, "overwrite"] => self.save(file, true)?,
             ["picture", file] => self.draw(file)?,
@@ -215,74 +215,12 @@ impl<'a> Typed<'a> {
         }
         self.report = report;
         self.changed = true;
-        self.answer(known, &item)?;
+        writeln!(self.out, "{}", shown::answers(&self.report, &item, known))?;
         self.status()
     }
 
-    /// Tells the answers from this row on.
-    fn answer(&mut self, from: usize, item: &Item) -> std::io::Result<()> {
-        let rows: &[Row] = &self.report.rows;
-        let told = rows[from..]
-            .iter()
-            .map(|row| told(row, rows, &self.report.text.names));
-        let lines: Vec<String> = told.collect();
-        match item {
-            Item::Command(_) | Item::Raw(_) => writeln!(self.out, "{}", lines.join("\n")),
-            _ => writeln!(self.out, "noted"),
-        }
-    }
-
-    /// How many commands are in force, what is scheduled, how many thresholds are drawn.
     fn status(&mut self) -> std::io::Result<()> {
-        let (outcome, names) = (&self.report.outcome, &self.report.text.names);
-        let pending = outcome.pending();
-        let pending: Vec<String> = pending
-            .iter()
-            .map(|event| {
-                format!(
-                    "{} by {} at tick {}",
-                    names.machine(event.clock),
-                    names.cause(event.cause),
-                    event.ticks
-                )
-            })
-            .collect();
-        let scheduled = if pending.is_empty() {
-            "nothing".to_string()
-        } else {
-            pending.join(", ")
-        };
-        let (applied, draws) = (outcome.applied.len(), outcome.draws);
-        let thresholds = self.report.text.thresholds().len();
-        writeln!(
-            self.out,
-            "  in force: {applied}; scheduled: {scheduled}; thresholds drawn: {draws} of {thresholds}"
-        )
-    }
-
-    fn list(&mut self) -> std::io::Result<()> {
-        let (outcome, names) = (&self.report.outcome, &self.report.text.names);
-        let rows: Vec<Vec<String>> = (1..)
-            .zip(&outcome.applied)
-            .map(|(number, applied): (usize, _)| {
-                vec![number.to_string(), command_text(&applied.command)]
-            })
-            .collect();
-        let columns = [Column::Right("no"), Column::Left("command in force")];
-        writeln!(self.out, "{}", aligned(&columns, &rows))?;
-        let events: Vec<_> = outcome.pending().into_iter().map(Into::into).collect();
-        writeln!(
-            self.out,
-            "Scheduled, in the order of delivery:\n\n{}",
-            breakdown_table(&events, names)
-        )?;
-        let thresholds = self.report.text.thresholds();
-        writeln!(
-            self.out,
-            "Thresholds drawn: {} of {}",
-            outcome.draws,
-            thresholds.len()
-        )
+        writeln!(self.out, "{}", shown::status(&self.report))
     }
 
     fn save(&mut self, file: &str, overwrite: bool) -> std::io::Result<()> {

@@ -22,19 +22,18 @@ const LETTER: f64 = 7.4;
 
 const ROW: f64 = 26.0;
 
-/// The legend from this height on, within a width, and the height after it.
+/// The legend from this height on, between two borders, and the height after it.
 pub fn legend(
     events: &[Event],
     palette: &Palette,
     names: &Names,
-    left: f64,
-    right: f64,
+    borders: (f64, f64),
     top: f64,
 ) -> (String, f64) {
     let mut out = String::new();
     let mut y = top;
     for group in [conditions(), causes(events, palette, names), fates()] {
-        let (text, bottom) = rows(&group, palette, left, right, y);
+        let (text, bottom) = rows(&group, palette, borders, y);
         out += &text;
         y = bottom;
     }
@@ -42,7 +41,8 @@ pub fn legend(
 }
 
 /// The items of a group in as many rows as they need.
-fn rows(items: &[Item], palette: &Palette, left: f64, right: f64, top: f64) -> (String, f64) {
+fn rows(items: &[Item], palette: &Palette, borders: (f64, f64), top: f64) -> (String, f64) {
+    let (left, right) = borders;
     let (mut out, mut x, mut y) = (String::new(), left, top);
     for (sample, words) in items {
         let width = 56.0 + LETTER * words.chars().count() as f64;

@@ -59,7 +59,7 @@ impl Palette {
         &self.0
     }
 
-    fn place(&self, cause: u32) -> usize {
+    fn rank(&self, cause: u32) -> usize {
         self.0.binary_search(&cause).unwrap_or(0)
     }
 
@@ -67,14 +67,16 @@ impl Palette {
         if cause == NO_CAUSE {
             GREY
         } else {
-            COLOURS[self.place(cause) % COLOURS.len()]
+            COLOURS[self.rank(cause) % COLOURS.len()]
         }
     }
 
     /// The outline of a mark.
     fn outline(&self, cause: u32, x: f64, y: f64, radius: f64) -> String {
         let bar: &[(f64, f64)] = &[(-0.35, -1.35), (0.35, -1.35), (0.35, 1.35), (-0.35, 1.35)];
-        let shape = self.place(cause) % (SHAPES.len() + 1);
+        let rank = self.rank(cause);
+        // causes that share a colour, the ninth and the first, have different shapes
+        let shape = (rank + rank / COLOURS.len()) % (SHAPES.len() + 1);
         let corners = match shape {
             _ if cause == NO_CAUSE => bar,
             0 => return circle(x, y, radius),

@@ -42,7 +42,7 @@ pub fn read_command(words: &Words, known: &[&str], names: &Names) -> Result<Comm
     let mut operands = Operands::new(words, known, names)?;
     match words.words[0].text.as_str() {
         "create" => create(&mut operands),
-        "set" => return set(operands),
+        "set" => set(operands),
         "remove" => Ok(Command::Remove {
             clock: operands.machine()?,
             cause: operands.cause()?,

@@ -88,7 +88,7 @@ impl Reader {
         let values = &words.words[1..];
         if values.first().is_some_and(|word| word.text == "from") {
             let [file] = exactly(&values[1..], words.end, "a file name in quotes")?;
-            let name = file.name()?;
+            let name = file.unquoted("a file name in quotes, such as \"shop.thresholds\"")?;
             return Ok(Item::ThresholdsFrom(
                 name.clone(),
                 self.threshold_file(file, &name)?,

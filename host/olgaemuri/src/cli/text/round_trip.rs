@@ -130,7 +130,7 @@ fn read(text: &str) -> Vec<u8> {
 fn every_byte_comes_back() {
     let mut random = Random(20_261_115);
     let mut raw = 0;
-    for _ in 0..5000 {
+    for _ in 0..2000 {
         let (commands, thresholds) = (random.commands(), random.thresholds());
         let journal = (random.below(2) == 0).then(|| random.below(5000));
         let session = SessionText::from_parts(&commands, thresholds, journal);
@@ -141,7 +141,7 @@ fn every_byte_comes_back() {
         assert_eq!(again, text);
         raw += usize::from(text.contains("raw "));
     }
-    assert!((500..4500).contains(&raw), "{raw} sessions have raw lines");
+    assert!((200..1800).contains(&raw), "{raw} sessions have raw lines");
 }
 
 #[test]

@@ -54,23 +54,22 @@ impl Word {
         self.text.starts_with('"')
     }
 
-    /// The name between quotes, or what was expected.
-    pub fn name(&self) -> Result<String, Misplaced> {
+    /// What stands between quotes, or that such a thing was expected.
+    pub fn unquoted(&self, expected: &str) -> Result<String, Misplaced> {
         let inner = self
             .text
             .strip_prefix('"')
-            .and_then(|t| t.strip_suffix('"'));
-        let name = inner.filter(|_| self.text.len() >= 2).and_then(unescape);
-        match name {
-            Some(name) if !name.is_empty() => Ok(name),
-            _ => {
-                let message = format!(
-                    "expected a name in quotes, such as \"press 1\", not `{}`",
-                    self.text
-                );
-                Err(Misplaced::new(self.column, message))
-            }
-        }
+            .and_then(|text| text.strip_suffix('"'));
+        let text = inner.and_then(unescape).filter(|text| !text.is_empty());
+        text.ok_or_else(|| {
+            let message = format!("expected {expected}, not `{}`", self.text);
+            Misplaced::new(self.column, message)
+        })
+    }
+
+    /// The name of a machine or a cause.
+    pub fn name(&self) -> Result<String, Misplaced> {
+        self.unquoted("a name in quotes, such as \"press 1\"")
     }
 }
 

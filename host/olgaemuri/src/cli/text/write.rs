@@ -4,7 +4,7 @@ use super::commands::{HAZARDS, POLICIES, TIES};
 use super::line::{Item, Line};
 use super::words::quoted;
 use crate::cli::number::float_text;
-use olgaemuri::{Command, Hazard};
+use olgaemuri::{Command, Entity, Hazard, Policy, Tie};
 
 /// Thresholds on one line.
 const PER_LINE: usize = 8;
@@ -60,60 +60,78 @@ pub fn command_word(command: &Command) -> String {
 }
 
 pub fn command_text(command: &Command) -> String {
-    let word = command_word(command);
+    [
+        command_word(command),
+        machine_text(command),
+        operands_text(command),
+    ]
+    .concat()
+}
+
+fn machine_text(command: &Command) -> String {
+    let machine = command.clock();
+    machine.map_or(String::new(), |machine| format!(" machine={machine}"))
+}
+
+/// The operands after the machine.
+fn operands_text(command: &Command) -> String {
     match command {
         Command::Create {
-            clock,
             process,
             policy,
             tie,
             scale,
             entity,
-        } => {
-            let (policy, tie) = (
-                POLICIES[usize::from(policy.number())],
-                TIES[usize::from(tie.number())],
-            );
-            let scale = float_text(*scale);
-            let entity = entity.map_or(String::new(), |e| {
-                format!(" entity={}:{}", e.index, e.generation)
-            });
-            format!(
-                "{word} machine={clock} process={process} policy={policy} tie={tie} scale={scale}{entity}"
-            )
-        }
+            ..
+        } => create_text(*process, *policy, *tie, *scale, *entity),
         Command::Set {
-            clock,
             cause,
             priority,
             hazard,
             now,
+            ..
         } => {
             let (now, hazard) = (float_text(*now), hazard_text(hazard));
-            format!("{word} machine={clock} cause={cause} priority={priority} now={now} {hazard}")
+            format!(" cause={cause} priority={priority} now={now} {hazard}")
         }
-        Command::Remove { clock, cause } => format!("{word} machine={clock} cause={cause}"),
-        Command::Pause { clock, now } => format!("{word} machine={clock} now={}", float_text(*now)),
+        Command::Remove { cause, .. } => format!(" cause={cause}"),
+        Command::Pause { now, .. } => format!(" now={}", float_text(*now)),
         Command::Reschedule {
-            clock,
             now,
             censor,
             priority,
+            ..
         }
         | Command::Resume {
-            clock,
             now,
             censor,
             priority,
+            ..
         } => {
-            let censor = censor.map_or(String::new(), |c| format!(" censor={}", float_text(c)));
-            format!(
-                "{word} machine={clock} now={}{censor} priority={priority}",
-                float_text(*now)
-            )
+            let censor = optional_text("censor", censor.map(float_text));
+            format!(" now={}{censor} priority={priority}", float_text(*now))
         }
-        Command::Deliver | Command::Undo => word,
+        Command::Deliver | Command::Undo => String::new(),
     }
+}
+
+fn create_text(
+    process: u64,
+    policy: Policy,
+    tie: Tie,
+    scale: f64,
+    entity: Option<Entity>,
+) -> String {
+    let policy = POLICIES[usize::from(policy.number())];
+    let tie = TIES[usize::from(tie.number())];
+    let entity = entity.map(|entity| format!("{}:{}", entity.index, entity.generation));
+    let (scale, entity) = (float_text(scale), optional_text("entity", entity));
+    format!(" process={process} policy={policy} tie={tie} scale={scale}{entity}")
+}
+
+/// An operand that may be missing.
+fn optional_text(name: &str, value: Option<String>) -> String {
+    value.map_or(String::new(), |value| format!(" {name}={value}"))
 }
 
 pub fn hazard_text(hazard: &Hazard) -> String {
