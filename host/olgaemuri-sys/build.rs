@@ -2,7 +2,8 @@
 //! made from. OLGAEMURI_LIB_DIR is the full path of a folder that holds a finished libengine.a instead.
 
 use std::env;
-use std::fs;
+use std::fs::{self, File};
+use std::io;
 use std::path::{Path, PathBuf};
 use std::process::{self, Command};
 use std::time::SystemTime;
@@ -46,12 +47,22 @@ fn made_folder(manifest: &Path) -> PathBuf {
         println!("cargo::rerun-if-changed={}", source.display());
     }
     let folder = root.join("target/staticlib");
+    // two builds at the same time make it once; held to the end of this function
+    let _lock = locked(&root.join("target"));
     let made = modified(&folder.join("libengine.a"));
     let newest = sources.iter().filter_map(|source| newest(source)).max();
     if made.is_none() || made < newest {
         make(&root, made.is_some());
     }
     folder
+}
+
+/// A lock that another build script waits for.
+fn locked(folder: &Path) -> io::Result<File> {
+    fs::create_dir_all(folder)?;
+    let file = File::create(folder.join("libengine.lock"))?;
+    file.lock()?;
+    Ok(file)
 }
 
 fn modified(path: &Path) -> Option<SystemTime> {
