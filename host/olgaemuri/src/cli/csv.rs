@@ -2,9 +2,9 @@
 
 use super::number::float_text;
 use super::report::{Report, Row};
-use super::text::names::{Named, Names};
+use super::text::names::Names;
 use super::text::write::item_text;
-use super::wording::input_word;
+use super::wording::{input_word, meaning};
 
 const HEAD: &str =
     "no,line,command,machine,machine_name,now,number,refusal,event,censored,withdrawn,\
@@ -24,9 +24,6 @@ fn cells(row: &Row, names: &Names) -> [String; 18] {
     let (step, answer) = (&row.step, &row.step.answer);
     let flag = |flag: bool| u8::from(flag).to_string();
     let event = |text: String| if answer.event { text } else { String::new() };
-    let machine_name = step
-        .clock
-        .and_then(|m| names.given(Named::Machine, u32::from(m)));
     let now = step.input.command().and_then(|command| command.now());
     [
         row.number.to_string(),
@@ -34,22 +31,16 @@ fn cells(row: &Row, names: &Names) -> [String; 18] {
         input_word(&step.input),
         step.clock
             .map_or(String::new(), |machine| machine.to_string()),
-        machine_name.unwrap_or_default().to_string(),
+        step.clock
+            .map_or(String::new(), |machine| names.machine(machine)),
         now.map_or(String::new(), float_text),
         answer.number().to_string(),
-        answer
-            .refusal
-            .map_or(String::new(), |refusal| refusal.meaning().to_string()),
+        answer.refusal.map_or(String::new(), meaning),
         flag(answer.event),
         flag(answer.censored),
         flag(answer.withdrawn),
         event(answer.cause.to_string()),
-        event(
-            names
-                .given(Named::Cause, answer.cause)
-                .unwrap_or_default()
-                .to_string(),
-        ),
+        event(names.cause(answer.cause)),
         event(float_text(answer.delta)),
         event(answer.ticks.to_string()),
         flag(step.applied),

@@ -3,6 +3,7 @@
 use super::Failure;
 use super::files::write;
 use super::suggest::hint;
+use super::wording::meaning;
 
 pub const GENERAL: &str = "\
 usage: olgaemuri run|compare|convert|interactive|help ...
@@ -181,7 +182,7 @@ fn refusals() -> String {
     let head = "A refused command changes nothing. The numbers are document 01's.\n\n".to_string();
     let lines = olgaemuri::Refusal::ALL
         .iter()
-        .map(|refusal| format!("  {:2}  {}\n", refusal.number(), refusal.meaning()));
+        .map(|refusal| format!("  {:2}  {}\n", refusal.number(), meaning(*refusal)));
     std::iter::once(head).chain(lines).collect()
 }
 

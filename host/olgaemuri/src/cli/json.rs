@@ -6,7 +6,7 @@ use super::number::float_text;
 use super::report::{Report, Row};
 use super::text::names::Names;
 use super::text::write::item_text;
-use super::wording::input_word;
+use super::wording::{input_word, meaning};
 
 /// A string with its quotes.
 pub fn string(text: &str) -> String {
@@ -110,7 +110,7 @@ fn row_object(row: &Row, names: &Names) -> String {
         ("number", answer.number().to_string()),
         (
             "refusal",
-            maybe(answer.refusal, |refusal| string(refusal.meaning())),
+            maybe(answer.refusal, |refusal| string(&meaning(refusal))),
         ),
         ("event", answer.event.to_string()),
         ("censored", answer.censored.to_string()),

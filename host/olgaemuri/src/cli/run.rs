@@ -68,8 +68,8 @@ pub fn run(arguments: &Arguments) -> Result<u8, Failure> {
 /// Loads and runs a session.
 pub fn reported(file: &str) -> Result<Report, Failure> {
     let text = watched("reading the session", || load(file))?;
-    let bytes = text.commands().len();
-    let what = format!("running {bytes} bytes of commands");
+    let count = text.input_lines().len();
+    let what = format!("running {count} commands");
     Ok(watched(&what, || Report::new(text)))
 }
 

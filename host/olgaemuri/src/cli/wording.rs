@@ -28,19 +28,27 @@ pub fn input_word(input: &Input) -> String {
         .map_or_else(|| "raw".to_string(), command_word)
 }
 
-/// The operands but for machine and time, which have columns of their own.
+/// The operands but for machine and time, which have columns of their own; cut where they are long.
 pub fn operands(input: &Input, names: &Names) -> String {
-    let Some(command) = input.command() else {
-        return cut(&raw_text(&input.to_bytes()).replace("raw ", ""));
+    const MOST: usize = 42;
+    let words = match input {
+        Input::Command(command) => command_operands(command, names),
+        Input::Raw(bytes) => raw_text(bytes).replace("raw ", "").replace('\n', " "),
     };
+    if words.chars().count() <= MOST {
+        return words;
+    }
+    let kept: String = words.chars().take(MOST - 3).collect();
+    kept + "..."
+}
+
+fn command_operands(command: &Command, names: &Names) -> String {
     match command {
         Command::Create {
             policy, tie, scale, ..
         } => {
-            let (policy, tie) = (
-                POLICIES[usize::from(policy.number())],
-                TIES[usize::from(tie.number())],
-            );
+            let policy = POLICIES[usize::from(policy.number())];
+            let tie = TIES[usize::from(tie.number())];
             format!("{policy}, {tie}, scale {}", rounded(*scale))
         }
         Command::Set { cause, hazard, .. } => {
@@ -64,17 +72,6 @@ fn hazard_words(hazard: &Hazard) -> String {
             let pieces: String = pairs.iter().map(piece).collect();
             format!("{pieces}then {}", rounded(*trailing))
         }
-    }
-}
-
-/// At most so many characters of raw bytes.
-fn cut(text: &str) -> String {
-    const MOST: usize = 35;
-    let text = text.replace('\n', " ");
-    if text.len() <= MOST {
-        text
-    } else {
-        format!("{} ...", &text[..MOST])
     }
 }
 
@@ -103,10 +100,15 @@ pub fn answer(row: &Row) -> String {
     words.to_string()
 }
 
+/// What a refusal means; document 01's clocks are called machines here.
+pub fn meaning(refusal: Refusal) -> String {
+    refusal.meaning().replace("clock", "machine")
+}
+
 /// What else there is to say: why a command was refused, or that it was undone.
 pub fn note(row: &Row) -> String {
     match (row.step.answer.refusal, row.undone_by) {
-        (Some(refusal), _) => refusal.meaning().to_string(),
+        (Some(refusal), _) => meaning(refusal),
         (None, Some(undo)) => format!("undone by {undo}"),
         (None, None) => String::new(),
     }
@@ -121,7 +123,7 @@ pub fn ends_run(refusal: Refusal) -> bool {
 pub fn told(row: &Row, rows: &[Row], names: &Names) -> String {
     let answer = &row.step.answer;
     if let Some(refusal) = answer.refusal {
-        return refusal.to_string();
+        return format!("refused by {}: {}", refusal.number(), meaning(refusal));
     }
     if let Some(undone) = row.undoes {
         let undone = &rows[undone - 1].step.input;

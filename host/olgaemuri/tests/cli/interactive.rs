@@ -70,7 +70,7 @@ fn what_is_refused_changes_nothing_and_is_not_kept() {
     );
     let out = typed(&[], &input);
     assert!(
-        out.contains("refused by 9: the clock has not been created; nothing has changed\n"),
+        out.contains("refused by 9: the machine has not been created; nothing has changed\n"),
         "{out}"
     );
     assert!(
