@@ -44,6 +44,7 @@ and those still scheduled. FILE is a session in text (`olgaemuri help format`) o
   --json        answers, events and breakdowns as JSON
   --svg OUT     also draws a timeline for each machine: running, paused and broken down; breakdowns delivered, scheduled and
                 withdrawn, by cause. It shows what is in force after the whole list: undone commands are not drawn
+                (OUT - prints the picture instead of the table)
   --title TEXT  the picture's title, instead of the file's name
 
 Bad lines are told with file, line, column and what was expected; then nothing is run and the exit status is 2. A command that

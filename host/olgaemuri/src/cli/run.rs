@@ -55,7 +55,9 @@ pub fn run(arguments: &Arguments) -> Result<u8, Failure> {
     } else {
         report_text(&report)
     };
-    write("-", text.as_bytes())?;
+    if arguments.value("--svg") != Some("-") {
+        write("-", text.as_bytes())?;
+    }
     if let Some(out) = arguments.value("--svg") {
         let title = arguments
             .value("--title")

@@ -116,6 +116,30 @@ fn a_file_is_taken_up_again() {
 }
 
 #[test]
+fn what_a_file_gives_counts_for_what_is_typed() {
+    let (session, thresholds) = (scratch("first.session"), scratch("first.thresholds"));
+    let name = thresholds.file_name().unwrap().to_str().unwrap();
+    fs::write(&thresholds, "3 4\n").unwrap();
+    fs::write(
+        &session,
+        format!("\u{feff}journal 50\nthresholds from \"{name}\"\n"),
+    )
+    .unwrap();
+    let saved = scratch("second.session");
+    let input = format!("journal 60\nundo\u{fe}\nsave {}\n", saved.display());
+    let out = typed(&[session.to_str().unwrap()], &input);
+    assert!(
+        out.contains("typed:1:1: the journal's length is given already"),
+        "{out}"
+    );
+    let text = fs::read_to_string(&saved).unwrap();
+    assert_eq!(text, "journal 50\nthresholds 3 4\n");
+    for file in [session, thresholds, saved] {
+        fs::remove_file(file).unwrap();
+    }
+}
+
+#[test]
 fn files_are_not_written_over_unasked() {
     let file = scratch("kept.session");
     let path = file.to_str().unwrap();

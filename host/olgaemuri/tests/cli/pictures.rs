@@ -181,6 +181,12 @@ fn random_session(random: &mut u64) -> String {
 }
 
 #[test]
+fn a_picture_on_standard_output_stands_alone() {
+    let ran = olgaemuri(&["run", "examples/press-shop.session", "--svg", "-"], b"");
+    assert_eq!(xml::parse(ran.text()).unwrap().name, "svg");
+}
+
+#[test]
 fn odd_names_and_no_machine_at_all() {
     let (_, empty) = run(b"", "empty");
     assert_eq!(drawn_events(&empty), []);

@@ -92,8 +92,7 @@ fn accepted_part(text: SessionText) -> SessionText {
 
 impl<'a> Typed<'a> {
     fn new(text: SessionText, out: &'a mut dyn Write) -> Self {
-        let mut reader = Reader::new("typed", PathBuf::new());
-        reader.names = text.names.clone();
+        let reader = Reader::after(&text, "typed", PathBuf::new());
         Self {
             report: Report::new(text),
             reader,
@@ -120,8 +119,9 @@ impl<'a> Typed<'a> {
                 write!(self.out, "> ")?;
                 self.out.flush()?;
             }
-            let mut line = String::new();
-            let read = input.read_line(&mut line)?;
+            let mut line = Vec::new();
+            let read = input.read_until(b'\n', &mut line)?;
+            let line = String::from_utf8_lossy(&line);
             self.count += 1;
             next = if read == 0 {
                 Next::Quit
@@ -231,7 +231,7 @@ impl<'a> Typed<'a> {
                 "{file} exists; `save {file} overwrite` writes over it"
             );
         }
-        match write(file, self.report.text.to_text().as_bytes()) {
+        match write(file, self.report.text.self_contained().to_text().as_bytes()) {
             Ok(()) => {
                 self.changed = false;
                 self.saved_as = Some(file.to_string());

@@ -4,6 +4,7 @@ use super::commands::{known_operands, read_command};
 use super::fault::{Fault, Misplaced};
 use super::line::{Item, Line};
 use super::names::{Named, Names};
+use super::session::SessionText;
 use super::words::{Word, Words, split};
 use crate::cli::number::{parse_float, parse_whole};
 use std::fs;
@@ -42,6 +43,17 @@ impl Reader {
             file,
             folder,
             ..Self::default()
+        }
+    }
+
+    /// A reader that goes on where a session ends.
+    pub fn after(session: &SessionText, file: &str, folder: PathBuf) -> Self {
+        let names = session.names.clone();
+        let journal = session.journal().is_some();
+        Self {
+            names,
+            journal,
+            ..Self::new(file, folder)
         }
     }
 

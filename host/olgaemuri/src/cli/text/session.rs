@@ -15,11 +15,15 @@ pub struct SessionText {
     pub names: Names,
 }
 
+/// Some editors put it at the front of a text.
+const BYTE_ORDER_MARK: char = '\u{feff}';
+
 impl SessionText {
     /// Reads a session, or tells every bad line.
     pub fn parse(file: &str, folder: PathBuf, bytes: &[u8]) -> Result<Self, Vec<Fault>> {
         let text = str::from_utf8(bytes)
             .map_err(|error| vec![not_text(file, bytes, error.valid_up_to())])?;
+        let text = text.strip_prefix(BYTE_ORDER_MARK).unwrap_or(text);
         let mut reader = Reader::new(file, folder);
         let mut lines = Vec::new();
         let mut faults = Vec::new();
@@ -99,6 +103,17 @@ impl SessionText {
             Some(length) => session.with_journal_length(length as usize),
             None => session,
         }
+    }
+
+    /// The same session without reference to files of thresholds: their values stand in it.
+    pub fn self_contained(&self) -> Self {
+        let mut session = self.clone();
+        for line in &mut session.lines {
+            if let Some(Item::ThresholdsFrom(_, values)) = &line.item {
+                line.item = Some(Item::Thresholds(values.clone()));
+            }
+        }
+        session
     }
 
     pub fn to_text(&self) -> String {
