@@ -7,5 +7,6 @@ mod interactive;
 mod json;
 mod pictures;
 mod program;
+mod readme;
 mod usage;
 mod xml;
