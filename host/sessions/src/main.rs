@@ -1,9 +1,10 @@
 //! `sessions SEED COUNT`: COUNT random sessions through the batch run of the proved engine and through the unchanged Rust behind document
-//! 01's rules. Compares the returned number and every byte of answers, journal and result; ends with 1 at the first difference.
+//! 01's rules. Compares the returned number, every byte of answers, journal and result, and what the wrapper derives from these with
+//! the oracle's state; ends with 1 at the first difference.
 
-#![deny(unsafe_code)]
+#![forbid(unsafe_code)]
 
-mod engine;
+mod derived;
 
 use cases::random::Random;
 use cases::random_sessions::session;
@@ -47,7 +48,7 @@ fn through_engine(s: &Session) -> Outcome {
     let mut answers = Guarded::new(s.answers, ANSWERS_BEFORE);
     let mut journal = Guarded::new(s.journal, JOURNAL_BEFORE);
     let mut result = Guarded::new(s.result, RESULT_BEFORE);
-    let number = engine::run(
+    let number = olgaemuri_sys::run(
         &s.commands,
         &s.stream,
         journal.inner(),
@@ -95,7 +96,8 @@ fn main() -> ExitCode {
     for index in 0..count {
         let s = session(&mut random);
         commands += command_count(&s.commands);
-        if let Some(words) = difference(&s.expected(), &through_engine(&s)) {
+        let bytes = difference(&s.expected(), &through_engine(&s));
+        if let Some(words) = bytes.or_else(|| derived::difference(&s)) {
             println!("seed {seed}, session {index}: {words}\n{s:?}");
             return ExitCode::FAILURE;
         }
