@@ -5,6 +5,10 @@
 
 mod compare;
 mod describe;
+#[path = "../../sessions/src/engine.rs"]
+mod engine;
+mod engine_report;
+mod engine_workloads;
 mod formats;
 mod probe;
 mod report;
@@ -21,6 +25,11 @@ fn main() -> ExitCode {
     match words.as_slice() {
         [] => {
             report::print();
+            engine_report::print();
+            ExitCode::SUCCESS
+        }
+        ["--engine"] => {
+            engine_report::print();
             ExitCode::SUCCESS
         }
         ["--compare", seed, count] => match (seed.parse(), count.parse()) {
