@@ -1,0 +1,77 @@
+//! The engine's answer to one command, from its 32 bytes and back (document 01, "Answer").
+
+use crate::fields::{Reader, Writer};
+use crate::refusal::Refusal;
+
+/// Bytes of one answer.
+pub const ANSWER_BYTES: usize = olgaemuri_sys::ANSWER_BYTES;
+
+/// What the engine says to one command. What does not apply is false or zero; a refusal has nothing else.
+#[derive(Clone, Copy, Debug, Default, PartialEq)]
+pub struct Answer {
+    /// Why the command was refused, if it was. Then nothing has changed.
+    pub refusal: Option<Refusal>,
+    /// Whether an event was scheduled (RESCHEDULE, RESUME) or delivered (DELIVER).
+    pub event: bool,
+    /// Whether that event is the end of observation instead of a breakdown. Its cause is [`NO_CAUSE`](crate::NO_CAUSE).
+    pub censored: bool,
+    /// Whether a pending event was withdrawn.
+    pub withdrawn: bool,
+    /// The event's cause.
+    pub cause: u32,
+    /// How long after the command's time the event comes. For DELIVER, after the time at which it was scheduled.
+    pub delta: f64,
+    /// The event's time in ticks.
+    pub ticks: u128,
+}
+
+impl Answer {
+    /// Whether the command was accepted.
+    pub fn is_accepted(&self) -> bool {
+        self.refusal.is_none()
+    }
+
+    /// The refusal's number, or 0.
+    pub fn number(&self) -> u8 {
+        self.refusal.map_or(0, Refusal::number)
+    }
+
+    /// The answer's bytes.
+    pub fn to_bytes(&self) -> [u8; ANSWER_BYTES] {
+        let mut out = Writer::default();
+        out.u8(self.number())
+            .u8(u8::from(self.event))
+            .u8(u8::from(self.censored))
+            .u8(u8::from(self.withdrawn))
+            .u32(self.cause)
+            .f64(self.delta)
+            .bytes(&self.ticks.to_le_bytes());
+        out.0.try_into().expect("the fields are 32 bytes long")
+    }
+
+    /// The answer with these bytes; none where the number is above 18 or a flag is neither 0 nor 1.
+    pub fn from_bytes(bytes: &[u8; ANSWER_BYTES]) -> Option<Self> {
+        let mut fields = Reader(bytes);
+        let refusal = match fields.u8() {
+            0 => None,
+            number => Some(Refusal::from_number(number)?),
+        };
+        Some(Self {
+            refusal,
+            event: flag(fields.u8())?,
+            censored: flag(fields.u8())?,
+            withdrawn: flag(fields.u8())?,
+            cause: fields.u32(),
+            delta: fields.f64(),
+            ticks: u128::from(fields.u64()) | u128::from(fields.u64()) << 64,
+        })
+    }
+}
+
+fn flag(byte: u8) -> Option<bool> {
+    match byte {
+        0 => Some(false),
+        1 => Some(true),
+        _ => None,
+    }
+}

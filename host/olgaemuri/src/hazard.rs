@@ -1,0 +1,92 @@
+//! Hazards: how fast a cause uses up its threshold over time (document 01, kinds 0 to 3 of SET).
+
+use crate::refusal::Refusal;
+
+/// The most pairs that a hazard may have.
+pub const MAX_PAIRS: usize = 8;
+
+/// One piece of a [`Hazard::PiecewiseConstant`].
+#[derive(Clone, Copy, Debug, Default, PartialEq)]
+pub struct Pair {
+    /// Until when the rate holds, counted from the start of the interval. A time equal to it uses the next rate.
+    pub end: f64,
+    /// The rate.
+    pub rate: f64,
+}
+
+/// The hazard of one cause. A rate that is negative counts as 0.
+#[derive(Clone, Debug, PartialEq)]
+pub enum Hazard {
+    /// Never strikes by itself.
+    Zero,
+    /// The same rate at all times.
+    Constant(f64),
+    /// Gompertz with b = 0, which is the constant rate eta.
+    Gompertz(f64),
+    /// Rates by pieces, and one after the last piece.
+    PiecewiseConstant {
+        /// The pieces by ascending end, at most [`MAX_PAIRS`]. With more the command is refused by 6 (its count says how many,
+        /// up to 255; only the first eight have a place in the bytes).
+        pairs: Vec<Pair>,
+        /// The rate after the last piece.
+        trailing: f64,
+    },
+}
+
+impl Hazard {
+    /// The byte that names the kind.
+    pub fn kind(&self) -> u8 {
+        match self {
+            Self::Zero => 0,
+            Self::Constant(_) => 1,
+            Self::Gompertz(_) => 2,
+            Self::PiecewiseConstant { .. } => 3,
+        }
+    }
+
+    /// The field `first`: the rate, eta or the trailing rate; +0.0 for Zero.
+    pub fn first(&self) -> f64 {
+        match self {
+            Self::Zero => 0.0,
+            Self::Constant(first)
+            | Self::Gompertz(first)
+            | Self::PiecewiseConstant {
+                trailing: first, ..
+            } => *first,
+        }
+    }
+
+    /// The pieces; none but for PiecewiseConstant.
+    pub fn pairs(&self) -> &[Pair] {
+        match self {
+            Self::PiecewiseConstant { pairs, .. } => pairs,
+            Self::Zero | Self::Constant(_) | Self::Gompertz(_) => &[],
+        }
+    }
+
+    /// The hazard with these fields. Refuses by 4 or 6 what no hazard of this type has: an unknown kind, a `first` of Zero that
+    /// is not zero bits, a count above eight, pairs that are not zero bits where they are unused.
+    pub(crate) fn from_fields(
+        kind: u8,
+        first: f64,
+        count: u8,
+        pairs: &[Pair; MAX_PAIRS],
+    ) -> Result<Self, Refusal> {
+        let hazard = match kind {
+            0 if first.to_bits() == 0 => Self::Zero,
+            1 => Self::Constant(first),
+            2 => Self::Gompertz(first),
+            3 => Self::PiecewiseConstant {
+                pairs: pairs.iter().take(usize::from(count)).copied().collect(),
+                trailing: first,
+            },
+            _ => return Err(Refusal::InvalidChoice),
+        };
+        let used = hazard.pairs().len();
+        let is_blank = |pair: &Pair| pair.end.to_bits() == 0 && pair.rate.to_bits() == 0;
+        if usize::from(count) != used || !pairs[used..].iter().all(is_blank) {
+            return Err(Refusal::InvalidPairs);
+        }
+        Ok(hazard)
+    }
+}

@@ -1,0 +1,58 @@
+//! What is given to the engine: a typed command, or bytes that are none.
+
+use crate::command::{Command, width};
+
+/// One input of a session.
+#[derive(Clone, Debug, PartialEq)]
+pub enum Input {
+    /// A command.
+    Command(Command),
+    /// Bytes that no [`Command`] has. The engine refuses them.
+    Raw(Vec<u8>),
+}
+
+impl Input {
+    /// The input's bytes.
+    pub fn to_bytes(&self) -> Vec<u8> {
+        match self {
+            Self::Command(command) => command.to_bytes(),
+            Self::Raw(bytes) => bytes.clone(),
+        }
+    }
+
+    /// The command, where it is one.
+    pub fn command(&self) -> Option<&Command> {
+        match self {
+            Self::Command(command) => Some(command),
+            Self::Raw(_) => None,
+        }
+    }
+
+    /// Cuts a list of commands into inputs as the engine does. Where no whole command begins, all that is left is one
+    /// [`Input::Raw`], since a run ends there. The inputs' bytes one after another are the bytes given.
+    pub fn split(bytes: &[u8]) -> Vec<Self> {
+        let mut rest = bytes;
+        let mut inputs = Vec::new();
+        while !rest.is_empty() {
+            let (front, back) = rest.split_at(front_length(rest));
+            let command = Command::from_bytes(front);
+            inputs.push(command.map_or_else(|_| Self::Raw(front.to_vec()), Self::Command));
+            rest = back;
+        }
+        inputs
+    }
+}
+
+impl From<Command> for Input {
+    fn from(command: Command) -> Self {
+        Self::Command(command)
+    }
+}
+
+/// How many bytes belong to the first input.
+fn front_length(bytes: &[u8]) -> usize {
+    let whole = bytes.first().and_then(|code| width(*code));
+    whole
+        .filter(|width| *width <= bytes.len())
+        .unwrap_or(bytes.len())
+}

@@ -1,0 +1,34 @@
+//! Survival clocks with competing causes and an undo that gives every event back, run by the proved engine.
+//!
+//! A [`Session`] holds recorded thresholds and a list of [`Command`]s; [`Session::run`] gives them to the engine and returns an
+//! [`Outcome`]: every [`Answer`], the applied commands, the clocks with their pending events, the number of draws. What the
+//! engine refuses it refuses by a [`Refusal`], and nothing changes. Bytes are laid out as in document 01.
+
+#![forbid(unsafe_code)]
+#![deny(missing_docs)]
+
+mod answer;
+mod batch;
+mod choices;
+mod clock;
+mod command;
+mod fields;
+mod hazard;
+mod input;
+mod ledger;
+mod outcome;
+mod refusal;
+mod session;
+mod thresholds;
+
+pub use answer::{ANSWER_BYTES, Answer};
+pub use choices::{Policy, Tie};
+pub use clock::{Cause, Clock};
+pub use command::{CLOCKS, Command, Entity, NO_CAUSE, width};
+pub use hazard::{Hazard, MAX_PAIRS, Pair};
+pub use input::Input;
+pub use ledger::{Account, Pending};
+pub use outcome::{Applied, Outcome, Step};
+pub use refusal::Refusal;
+pub use session::Session;
+pub use thresholds::{thresholds_from_bytes, thresholds_to_bytes};
