@@ -14,7 +14,6 @@ fn main() {
     println!("cargo::rerun-if-changed={}", archive.display());
     println!("cargo::rustc-link-search=native={}", folder.display());
     println!("cargo::rustc-link-lib=static=probe");
-    println!("cargo::rustc-link-lib=static=engine");
 }
 
 fn repository_folder() -> PathBuf {

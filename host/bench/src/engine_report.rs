@@ -1,6 +1,5 @@
 //! The benchmark of the engine: the batch run, opening, and one undo; both sides in one run, first held to the same bytes.
 
-use crate::engine;
 use crate::engine_workloads::{self as workloads, EngineWorkload};
 use crate::timing::best;
 use reference::{batch, unvalidated};
@@ -10,7 +9,7 @@ use std::hint::black_box;
 type Run = fn(&[u8], &[u8], &mut [u8], &mut [u8], &mut [u8]) -> u8;
 
 /// The oracle as written, the Rust without what a run from opening never needs, Rattle.
-const SIDES: [Run; 3] = [batch::run, unvalidated::run, engine::run];
+const SIDES: [Run; 3] = [batch::run, unvalidated::run, olgaemuri_sys::run];
 
 const OPENED_JOURNAL: usize = 1 << 20;
 const SESSION_COMMANDS: usize = 1000;
@@ -107,9 +106,9 @@ fn times(workload: &EngineWorkload) -> [f64; 3] {
     best(
         1,
         [
-            &mut || drop(a.run(SIDES[0], workload)),
-            &mut || drop(b.run(SIDES[1], workload)),
-            &mut || drop(c.run(SIDES[2], workload)),
+            &mut || a.time(SIDES[0], workload),
+            &mut || b.time(SIDES[1], workload),
+            &mut || c.time(SIDES[2], workload),
         ],
     )
 }
@@ -128,6 +127,10 @@ impl Buffers {
             answers: workload.answer_buffer(),
             result: workload.result_buffer(),
         }
+    }
+
+    fn time(&mut self, side: Run, workload: &EngineWorkload) {
+        black_box(self.run(side, workload));
     }
 
     fn run(&mut self, side: Run, workload: &EngineWorkload) -> u8 {

@@ -5,8 +5,6 @@
 
 mod compare;
 mod describe;
-#[path = "../../sessions/src/engine.rs"]
-mod engine;
 mod engine_report;
 mod engine_workloads;
 mod formats;

@@ -3,8 +3,6 @@
 
 #![deny(unsafe_code)]
 
-mod engine;
-
 use cases::random::Random;
 use cases::random_sessions::session;
 use cases::sessions::{
@@ -47,7 +45,7 @@ fn through_engine(s: &Session) -> Outcome {
     let mut answers = Guarded::new(s.answers, ANSWERS_BEFORE);
     let mut journal = Guarded::new(s.journal, JOURNAL_BEFORE);
     let mut result = Guarded::new(s.result, RESULT_BEFORE);
-    let number = engine::run(
+    let number = olgaemuri_sys::run(
         &s.commands,
         &s.stream,
         journal.inner(),
