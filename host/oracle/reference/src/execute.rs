@@ -89,11 +89,7 @@ fn queue_refusal(state: &State, command: &Command) -> Result<(), Refusal> {
 }
 
 /// By 14.
-fn journal_refusal(
-    state: &State,
-    journal_length: usize,
-    command: &Command,
-) -> Result<(), Refusal> {
+fn journal_refusal(state: &State, journal_length: usize, command: &Command) -> Result<(), Refusal> {
     let free = journal_length as u64 - state.applied_length;
     require(command.width() as u64 <= free, Refusal::JournalFull)
 }
