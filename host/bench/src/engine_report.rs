@@ -2,11 +2,10 @@
 
 use crate::engine_workloads::{self as workloads, EngineWorkload};
 use crate::timing::best;
-use reference::{batch, unvalidated};
+use cases::sessions::Run;
+use reference::batch::{self, RESULT_BYTES};
+use reference::unvalidated;
 use std::hint::black_box;
-
-/// Commands, stream, journal, answers, result; the number that ended the run.
-type Run = fn(&[u8], &[u8], &mut [u8], &mut [u8], &mut [u8]) -> u8;
 
 /// The oracle as written, the Rust without what a run from opening never needs, Rattle.
 const SIDES: [Run; 3] = [batch::run, unvalidated::run, olgaemuri_sys::run];
@@ -18,18 +17,18 @@ const SOME_UNDOS: u64 = 10;
 /// UNDO and the last command again, so often.
 const UNDO_PAIRS: usize = 8;
 
+const HEAD: &str = "
+The engine's batch run. All sides are given the same bytes and leave the same bytes; nothing is cleared between runs, and
+the journal of a run was written by the run before it.
+Oracle: document 01's rules over the Rust, as written: every state validated, UNDO with a journal of its own and a
+comparison of states. Rust: the same without these, which no run from opening needs; UNDO replays straight from the journal.
+Rattle: no state is validated (proved needless); UNDO compares states. ratio = the other's time / Rattle's.
+An undo's time is a run of the commands and 8 times UNDO and the last command, less a run of the commands alone, by 8.";
+
 pub fn print() {
+    println!("{HEAD}");
     println!(
-        "\nThe engine's batch run, from the same bytes. \"Oracle\": document 01's rules over the Rust, every state validated, UNDO with a"
-    );
-    println!(
-        "journal of its own and a comparison of states. \"Rust\": the same without these, which no run from opening needs."
-    );
-    println!(
-        "Rattle validates no state (proved needless) and does compare states at UNDO. ratio = other / Rattle."
-    );
-    println!(
-        "{:<44}{:>10}{:>10}{:>10}{:>8}{:>8}",
+        "{:<46}{:>11}{:>10}{:>10}{:>8}{:>7}",
         "", "Oracle", "Rust", "Rattle", "Oracle/", "Rust/"
     );
     print_sessions();
@@ -49,35 +48,43 @@ fn print_sessions() {
         ),
     ];
     for (name, workload) in sessions {
-        let times = times(&workload).map(|ns| ns / workload.command_count() as f64);
+        let times = checked_times(&workload).map(|ns| ns / workload.command_count() as f64);
         row(&format!("{name}, ns per command"), times);
         let [oracle, rust, rattle] = times.map(|ns| 1e9 / ns);
         println!(
-            "{:<44}{oracle:>10.0}{rust:>10.0}{rattle:>10.0}",
+            "{:<46}{oracle:>11.0}{rust:>10.0}{rattle:>10.0}",
             "    commands per second"
         );
     }
 }
 
-/// Nothing is cleared before; the journal's pages were written by the run before, on every side.
+/// An empty list of commands: the journal is filled with zero, and the result written. Beside it a memset of the journal alone.
 fn print_opening() {
     let workload = EngineWorkload::opening(OPENED_JOURNAL);
-    let mut bytes = workload.journal_buffer();
-    let [memset] = best(1, [&mut || black_box(&mut bytes[..]).fill(0)]);
-    let times = times(&workload);
-    row("opening a journal of 2^20 bytes, ns", times);
-    println!(
-        "{:<44}{memset:>10.0}   Rattle / memset {:.2}",
-        "    memset of 2^20 bytes, ns",
-        times[2] / memset
+    hold_to_same_bytes(&workload);
+    let [oracle, rust, rattle] = SIDES;
+    let [oracle, rust, rattle, memset] = times([oracle, rust, rattle, memset], &workload);
+    row(
+        "opening a journal of 2^20 bytes, ns",
+        [oracle, rust, rattle],
     );
+    println!(
+        "{:<46}{memset:>11.0}   Rattle / memset {:.2}",
+        "    memset of 2^20 bytes, ns",
+        rattle / memset
+    );
+}
+
+fn memset(_: &[u8], _: &[u8], journal: &mut [u8], _: &mut [u8], _: &mut [u8]) -> u8 {
+    journal.fill(0);
+    0
 }
 
 /// A run with the pairs less a run without them, for one pair.
 fn print_undos() {
     for count in [100, 1000, 5000] {
-        let without = times(&workloads::undone(count, 0));
-        let with = times(&workloads::undone(count, UNDO_PAIRS));
+        let without = checked_times(&workloads::undone(count, 0));
+        let with = checked_times(&workloads::undone(count, UNDO_PAIRS));
         let one = [0, 1, 2].map(|side| (with[side] - without[side]) / UNDO_PAIRS as f64);
         row(&format!("one UNDO after {count} applied commands, ns"), one);
     }
@@ -85,32 +92,36 @@ fn print_undos() {
 
 fn row(name: &str, [oracle, rust, rattle]: [f64; 3]) {
     println!(
-        "{name:<44}{oracle:>10.0}{rust:>10.0}{rattle:>10.0}{:>8.2}{:>8.2}",
+        "{name:<46}{oracle:>11.0}{rust:>10.0}{rattle:>10.0}{:>8.2}{:>7.2}",
         oracle / rattle,
         rust / rattle
     );
 }
 
-/// Nanoseconds of a whole run, for each side.
-fn times(workload: &EngineWorkload) -> [f64; 3] {
-    let mut buffers = SIDES.map(|side| {
+/// Every side ends at the list's end and leaves the same bytes.
+fn hold_to_same_bytes(workload: &EngineWorkload) {
+    let [oracle, rust, rattle] = SIDES.map(|side| {
         let mut buffers = Buffers::new(workload);
         assert_eq!(buffers.run(side, workload), 0, "a run to the list's end");
         buffers
     });
-    assert!(
-        buffers.iter().all(|other| *other == buffers[0]),
-        "the sides differ"
-    );
-    let [a, b, c] = buffers.each_mut();
-    best(
-        1,
-        [
-            &mut || a.time(SIDES[0], workload),
-            &mut || b.time(SIDES[1], workload),
-            &mut || c.time(SIDES[2], workload),
-        ],
-    )
+    assert!(oracle == rust && oracle == rattle, "the sides differ");
+}
+
+fn checked_times(workload: &EngineWorkload) -> [f64; 3] {
+    hold_to_same_bytes(workload);
+    times(SIDES, workload)
+}
+
+/// Nanoseconds of a whole run, for each side.
+fn times<const N: usize>(sides: [Run; N], workload: &EngineWorkload) -> [f64; N] {
+    let mut runs = sides.map(|side| {
+        let mut buffers = Buffers::new(workload);
+        move || {
+            black_box(buffers.run(side, workload));
+        }
+    });
+    best(1, runs.each_mut().map(|run| run as &mut dyn FnMut()))
 }
 
 #[derive(PartialEq)]
@@ -122,15 +133,13 @@ struct Buffers {
 
 impl Buffers {
     fn new(workload: &EngineWorkload) -> Self {
+        let [journal, answers, result] =
+            [workload.journal, workload.answers, RESULT_BYTES].map(|length| vec![0xA5; length]);
         Self {
-            journal: workload.journal_buffer(),
-            answers: workload.answer_buffer(),
-            result: workload.result_buffer(),
+            journal,
+            answers,
+            result,
         }
-    }
-
-    fn time(&mut self, side: Run, workload: &EngineWorkload) {
-        black_box(self.run(side, workload));
     }
 
     fn run(&mut self, side: Run, workload: &EngineWorkload) -> u8 {

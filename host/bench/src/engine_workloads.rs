@@ -3,7 +3,6 @@
 use cases::random::Random;
 use cases::sessions::command_count;
 use reference::answer::ANSWER_BYTES;
-use reference::batch::RESULT_BYTES;
 use reference::command::{Command, Create, Reschedule, Set};
 use reference::hazard::{CONSTANT, GOMPERTZ, Hazard};
 
@@ -42,18 +41,6 @@ impl EngineWorkload {
 
     pub fn command_count(&self) -> usize {
         command_count(&self.commands)
-    }
-
-    pub fn journal_buffer(&self) -> Vec<u8> {
-        vec![0xA5; self.journal]
-    }
-
-    pub fn answer_buffer(&self) -> Vec<u8> {
-        vec![0xA5; self.answers]
-    }
-
-    pub fn result_buffer(&self) -> Vec<u8> {
-        vec![0xA5; RESULT_BYTES]
     }
 }
 

@@ -1,4 +1,4 @@
-//! `bench` times the Rattle library against the unchanged Rust.
+//! `bench` times the Rattle libraries against the unchanged Rust: evaluations, sampler, engine. `bench --engine`: the engine alone.
 //! `bench --compare SEED COUNT` compares their answers on random cases.
 
 #![deny(unsafe_code)]
@@ -52,6 +52,6 @@ fn compare(seed: u64, count: u64) -> ExitCode {
 }
 
 fn usage() -> ExitCode {
-    eprintln!("usage: bench [--compare SEED COUNT]");
+    eprintln!("usage: bench [--engine | --compare SEED COUNT]");
     ExitCode::from(2)
 }
