@@ -42,12 +42,10 @@ fn size(session: &Session) -> (usize, usize) {
 }
 
 /// Puts the changed session in place of the session if the test holds of it.
-fn keep(session: &mut Session, changed: Session, holds: Test) -> bool {
-    let kept = holds(&changed);
-    if kept {
+fn keep(session: &mut Session, changed: Session, holds: Test) {
+    if holds(&changed) {
         *session = changed;
     }
-    kept
 }
 
 /// The answers keep the bytes that they had beyond what the commands need.
@@ -61,56 +59,52 @@ fn with_commands(session: &Session, commands: Vec<u8>) -> Session {
     }
 }
 
+fn with_stream(session: &Session, stream: Vec<u8>) -> Session {
+    Session {
+        stream,
+        ..session.clone()
+    }
+}
+
+fn command_parts(session: &Session) -> Vec<Vec<u8>> {
+    let commands = split(&session.commands).into_iter();
+    commands.map(<[u8]>::to_vec).collect()
+}
+
+fn threshold_parts(session: &Session) -> Vec<Vec<u8>> {
+    let thresholds = session.stream.chunks(THRESHOLD_BYTES);
+    thresholds.map(<[u8]>::to_vec).collect()
+}
+
 fn drop_commands(session: &mut Session, holds: Test) {
-    drop_parts(
-        session,
-        holds,
-        |session| {
-            split(&session.commands)
-                .into_iter()
-                .map(<[u8]>::to_vec)
-                .collect()
-        },
-        with_commands,
-    );
+    drop_parts(session, holds, command_parts, with_commands);
 }
 
 fn drop_thresholds(session: &mut Session, holds: Test) {
-    drop_parts(
-        session,
-        holds,
-        |session| {
-            session
-                .stream
-                .chunks(THRESHOLD_BYTES)
-                .map(<[u8]>::to_vec)
-                .collect()
-        },
-        |session, stream| Session {
-            stream,
-            ..session.clone()
-        },
-    );
+    drop_parts(session, holds, threshold_parts, with_stream);
 }
 
-/// Takes runs of parts out, from the last to the first: first half of them at once, then ever fewer.
-fn drop_parts(
-    session: &mut Session,
-    holds: Test,
-    parts: fn(&Session) -> Vec<Vec<u8>>,
-    with: fn(&Session, Vec<u8>) -> Session,
-) {
+type Parts = fn(&Session) -> Vec<Vec<u8>>;
+type With = fn(&Session, Vec<u8>) -> Session;
+
+/// First half of the parts at once, then ever fewer.
+fn drop_parts(session: &mut Session, holds: Test, parts: Parts, with: With) {
     let mut run = parts(session).len().div_ceil(2);
     while run > 0 {
-        let mut end = parts(session).len();
-        while end > 0 {
-            let mut rest = parts(session);
-            let start = end.saturating_sub(run);
-            rest.drain(start..end);
-            keep(session, with(session, rest.concat()), holds);
-            end = start;
-        }
+        drop_runs(session, holds, run, parts, with);
         run /= 2;
+    }
+}
+
+/// Takes out so many parts at a time, from the last to the first.
+fn drop_runs(session: &mut Session, holds: Test, run: usize, parts: Parts, with: With) {
+    let mut end = parts(session).len();
+    while end > 0 {
+        let mut rest = parts(session);
+        let start = end.saturating_sub(run);
+        rest.drain(start..end);
+        keep(session, with(session, rest.concat()), holds);
+        end = start;
     }
 }
 

@@ -5,6 +5,7 @@ use crate::sessions::{Outcome, Session, Step};
 use crate::tally::count;
 use kairo_ecs_rng::{DeterministicStream, THRESHOLD_BYTES};
 use reference::answer::ANSWER_BYTES;
+use reference::batch::RESULT_BYTES;
 use reference::clock::CHANNELS;
 use reference::command::Command;
 use reference::command_fields::CLOCKS;
@@ -41,30 +42,22 @@ impl Coverage {
     }
 }
 
-fn of_buffers(session: &Session, outcome: &Outcome) -> Vec<(&'static str, bool)> {
-    let answers = outcome.number == Refusal::AnswersFull.number();
+type Shown = Vec<(&'static str, bool)>;
+
+fn of_buffers(session: &Session, outcome: &Outcome) -> Shown {
+    let ended_by = |refusal: Refusal| outcome.number == refusal.number();
+    let (stream, answers) = (session.stream.len(), session.answers);
+    let cut_within = ended_by(Refusal::AnswersFull) && !answers.is_multiple_of(ANSWER_BYTES);
     vec![
         ("tiny journal", session.journal < 40),
-        ("short stream", session.stream.len() < 3 * THRESHOLD_BYTES),
+        ("short stream", stream < 3 * THRESHOLD_BYTES),
         ("bad threshold", has_bad_threshold(&session.stream)),
-        (
-            "junk bytes",
-            outcome.number == Refusal::UnknownCode.number(),
-        ),
-        (
-            "command cut short",
-            outcome.number == Refusal::CutShort.number(),
-        ),
-        ("answers cut", answers),
-        (
-            "answers cut within one",
-            answers && session.answers % ANSWER_BYTES != 0,
-        ),
-        (
-            "stream cut within a threshold",
-            session.stream.len() % THRESHOLD_BYTES != 0,
-        ),
-        ("result of another length", session.result != 16),
+        ("junk bytes", ended_by(Refusal::UnknownCode)),
+        ("command cut short", ended_by(Refusal::CutShort)),
+        ("answers cut", ended_by(Refusal::AnswersFull)),
+        ("answer cut within", cut_within),
+        ("threshold cut", !stream.is_multiple_of(THRESHOLD_BYTES)),
+        ("other result", session.result != RESULT_BYTES),
     ]
 }
 
@@ -74,42 +67,26 @@ fn has_bad_threshold(stream: &[u8]) -> bool {
     thresholds.any(|w| !threshold_valid(w))
 }
 
-fn of_steps(steps: &[Step]) -> Vec<(&'static str, bool)> {
+fn of_steps(steps: &[Step]) -> Shown {
     let undone = steps.iter().filter(|step| accepted(step, is_undo)).count();
     let some = |test: &dyn Fn(&Step) -> bool| steps.iter().any(test);
-    let delivered = |step: &Step, rule| {
-        accepted(step, |c| *c == Command::Deliver) && delivered_by(&step.before) == rule
+    let delivered = |rule| {
+        let by = |step: &Step| accepted(step, is_deliver) && delivered_by(&step.before) == rule;
+        some(&by)
     };
+    let requests = |state: &State| state.scheduler.requests_made;
+    let queued = |step: &Step| step.before.scheduler.queue.len();
+    let damaged = |step: &Step| (4..=7).contains(&step.answer.number);
     vec![
         ("many undos", undone >= 10 && 4 * undone >= steps.len()),
-        (
-            "undo of a draw",
-            undoes(steps, |a, b| a.position != b.position),
-        ),
-        (
-            "undo of a request",
-            undoes(steps, |a, b| {
-                a.scheduler.requests_made != b.scheduler.requests_made
-            }),
-        ),
-        ("tie between causes", some(&is_tie)),
-        (
-            "delivered by priority",
-            some(&|s| delivered(s, "delivered by priority")),
-        ),
-        (
-            "delivered by index",
-            some(&|s| delivered(s, "delivered by index")),
-        ),
+        ("undone draw", undoes(steps, |state| state.position)),
+        ("undone request", undoes(steps, requests)),
+        ("tie", some(&is_tie)),
+        ("by priority", delivered("delivered by priority")),
+        ("by index", delivered("delivered by index")),
         ("all clocks full", some(&|s| clocks_full(&s.before))),
-        (
-            "queue full",
-            some(&|s| s.before.scheduler.queue.len() == CLOCKS),
-        ),
-        (
-            "damaged field",
-            some(&|s| (4..=7).contains(&s.answer.number)),
-        ),
+        ("queue full", some(&|step| queued(step) == CLOCKS)),
+        ("damaged field", some(&damaged)),
         ("extreme float", some(&|s| accepted(s, has_extreme_float))),
     ]
 }
@@ -122,11 +99,15 @@ fn is_undo(command: &Command) -> bool {
     *command == Command::Undo
 }
 
-/// Whether an UNDO changes the state so. The step after it has the state that it leaves.
-fn undoes(steps: &[Step], changed: impl Fn(&State, &State) -> bool) -> bool {
-    steps
-        .windows(2)
-        .any(|pair| accepted(&pair[0], is_undo) && changed(&pair[0].before, &pair[1].before))
+fn is_deliver(command: &Command) -> bool {
+    *command == Command::Deliver
+}
+
+/// Whether an UNDO changes a number of the state. The step after it has the state that it leaves.
+fn undoes(steps: &[Step], number: impl Fn(&State) -> u64) -> bool {
+    let changed = |pair: &[Step]| number(&pair[0].before) != number(&pair[1].before);
+    let mut pairs = steps.windows(2);
+    pairs.any(|pair| accepted(&pair[0], is_undo) && changed(pair))
 }
 
 fn is_tie(step: &Step) -> bool {

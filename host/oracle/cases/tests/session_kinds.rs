@@ -12,11 +12,11 @@ const SESSIONS: usize = 4000;
 /// Each with the least number of sessions among the random ones that show it.
 const KINDS: [(&str, usize); 19] = [
     ("many undos", 100),
-    ("undo of a draw", 100),
-    ("undo of a request", 100),
-    ("tie between causes", 100),
-    ("delivered by priority", 50),
-    ("delivered by index", 50),
+    ("undone draw", 100),
+    ("undone request", 100),
+    ("tie", 100),
+    ("by priority", 50),
+    ("by index", 50),
     ("all clocks full", 10),
     ("queue full", 10),
     ("tiny journal", 100),
@@ -27,9 +27,9 @@ const KINDS: [(&str, usize); 19] = [
     ("damaged field", 100),
     ("extreme float", 100),
     ("answers cut", 100),
-    ("answers cut within one", 50),
-    ("stream cut within a threshold", 50),
-    ("result of another length", 50),
+    ("answer cut within", 50),
+    ("threshold cut", 50),
+    ("other result", 50),
 ];
 
 fn random_sessions() -> impl Iterator<Item = cases::sessions::Session> {
