@@ -1,8 +1,9 @@
 //! Links libengine.a. Makes it by `rt staticlib engine` where target/staticlib/libengine.a is missing or older than what it is
-//! made from. OLGAEMURI_LIB_DIR names a folder that holds a finished libengine.a instead.
+//! made from. OLGAEMURI_LIB_DIR is the full path of a folder that holds a finished libengine.a instead.
 
 use std::env;
-use std::fs;
+use std::fs::{self, File};
+use std::io;
 use std::path::{Path, PathBuf};
 use std::process::{self, Command};
 use std::time::SystemTime;
@@ -11,6 +12,9 @@ use std::time::SystemTime;
 const CRATES: [&str; 3] = ["crates/engine", "crates/clocks", "crates/hazards"];
 const PARTS: [&str; 3] = ["src", "specs", "proofs"];
 
+const TO_INSTALL: &str = "libengine.a is made by the Rattle kit: install the kit, so that its command `rt` is on the PATH, and build \
+    again, or set OLGAEMURI_LIB_DIR to a folder that has a libengine.a";
+
 fn main() {
     println!("cargo::rerun-if-env-changed=OLGAEMURI_LIB_DIR");
     let manifest = PathBuf::from(env::var_os("CARGO_MANIFEST_DIR").expect("set by cargo"));
@@ -18,7 +22,7 @@ fn main() {
         env::var_os("OLGAEMURI_LIB_DIR").map_or_else(|| made_folder(&manifest), PathBuf::from);
     let library = folder.join("libengine.a");
     if !library.is_file() {
-        fail(&format!("there is no {}", library.display()));
+        fail(&format!("there is no {}; {TO_INSTALL}", library.display()));
     }
     println!("cargo::rerun-if-changed={}", library.display());
     println!("cargo::rustc-link-search=native={}", folder.display());
@@ -43,6 +47,8 @@ fn made_folder(manifest: &Path) -> PathBuf {
         println!("cargo::rerun-if-changed={}", source.display());
     }
     let folder = root.join("target/staticlib");
+    // two builds at the same time make it once; held to the end of this function
+    let _lock = locked(&root.join("target"));
     let made = modified(&folder.join("libengine.a"));
     let newest = sources.iter().filter_map(|source| newest(source)).max();
     if made.is_none() || made < newest {
@@ -51,17 +57,25 @@ fn made_folder(manifest: &Path) -> PathBuf {
     folder
 }
 
+/// A lock that another build script waits for.
+fn locked(folder: &Path) -> io::Result<File> {
+    fs::create_dir_all(folder)?;
+    let file = File::create(folder.join("libengine.lock"))?;
+    file.lock()?;
+    Ok(file)
+}
+
 fn modified(path: &Path) -> Option<SystemTime> {
     fs::metadata(path).and_then(|data| data.modified()).ok()
 }
 
-/// The newest time at which a file below the folder, or the folder, was changed.
+/// The newest time at which a file below the path, or the file itself, was changed.
 fn newest(path: &Path) -> Option<SystemTime> {
-    let below = fs::read_dir(path).into_iter().flatten().flatten();
-    below
-        .filter_map(|entry| newest(&entry.path()))
-        .chain(modified(path))
-        .max()
+    if !path.is_dir() {
+        return modified(path);
+    }
+    let entries = fs::read_dir(path).into_iter().flatten().flatten();
+    entries.filter_map(|entry| newest(&entry.path())).max()
 }
 
 /// Makes the library. Without `rt` an old library is linked as it is.
@@ -73,12 +87,11 @@ fn make(root: &Path, old_is_there: bool) {
     {
         Ok(output) if output.status.success() => {}
         Ok(output) => {
-            eprintln!("{}", String::from_utf8_lossy(&output.stdout));
-            eprintln!("{}", String::from_utf8_lossy(&output.stderr));
-            fail(&format!(
-                "`rt staticlib engine` failed in {}",
-                root.display()
-            ));
+            let said = [output.stdout, output.stderr].concat();
+            String::from_utf8_lossy(&said)
+                .lines()
+                .for_each(|line| println!("cargo::error={line}"));
+            fail("`rt staticlib engine` failed, see above");
         }
         Err(_) if old_is_there => {
             println!(
@@ -86,18 +99,13 @@ fn make(root: &Path, old_is_there: bool) {
             );
         }
         Err(error) => fail(&format!(
-            "`rt staticlib engine` could not be started ({error})"
+            "`rt staticlib engine` could not be started ({error}); {TO_INSTALL}"
         )),
     }
 }
 
+/// Ends the build with the reason. Cargo takes the line for a failure and shows it without the script's other output.
 fn fail(what: &str) -> ! {
-    eprintln!("olgaemuri-sys: {what}.");
-    eprintln!(
-        "The engine is linked from libengine.a, which the Rattle kit makes from this repository: install the kit, so that"
-    );
-    eprintln!(
-        "its command `rt` is found on the PATH, and build again. Or set OLGAEMURI_LIB_DIR to a folder with a libengine.a."
-    );
-    process::exit(1);
+    println!("cargo::error={what}");
+    process::exit(0);
 }

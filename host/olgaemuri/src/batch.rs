@@ -32,24 +32,3 @@ pub(crate) fn run(commands: &[u8], inputs: usize, stream: &[u8], journal_length:
         bytes_read,
     }
 }
-
-/// How many thresholds the applied commands draw: the length of the shortest stream with which none of them is refused by 15.
-pub(crate) fn draws(applied: &[u8], count: usize, stream: &[u8], journal_length: usize) -> usize {
-    let suffices = |thresholds: usize| {
-        let ran = run(applied, count, &stream[..8 * thresholds], journal_length);
-        ran.answers
-            .iter()
-            .all(|answer| answer.refusal != Some(Refusal::StreamExhausted))
-    };
-    // each command draws at most one threshold
-    let (mut low, mut high) = (0, count.min(stream.len() / 8));
-    while low < high {
-        let middle = low.midpoint(high);
-        if suffices(middle) {
-            high = middle;
-        } else {
-            low = middle + 1;
-        }
-    }
-    low
-}

@@ -17,7 +17,7 @@ pub struct Pair {
 /// The hazard of one cause. A rate that is negative counts as 0.
 #[derive(Clone, Debug, PartialEq)]
 pub enum Hazard {
-    /// Never strikes by itself.
+    /// No event ever comes from this cause.
     Zero,
     /// The same rate at all times.
     Constant(f64),

@@ -1,6 +1,7 @@
 //! What is given to the engine: a typed command, or bytes that are none.
 
-use crate::command::{Command, width};
+use crate::command::Command;
+use crate::command_bytes::width;
 
 /// One input of a session.
 #[derive(Clone, Debug, PartialEq)]

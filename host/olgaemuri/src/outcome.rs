@@ -4,6 +4,7 @@ use crate::answer::Answer;
 use crate::batch::{self, Ran};
 use crate::clock::Clock;
 use crate::command::{CLOCKS, Command};
+use crate::draws::draws;
 use crate::input::Input;
 use crate::ledger::{Ledger, Pending};
 use crate::refusal::Refusal;
@@ -84,8 +85,8 @@ impl Outcome {
         let length = applied.iter().map(Command::width).sum();
         let bytes = &ran.journal[..length];
         let alone = batch::run(bytes, applied.len(), stream, journal_length);
-        let draws = batch::draws(bytes, applied.len(), stream, journal_length);
         let (applied, clocks) = follow_applied(applied, &alone);
+        let draws = draws(bytes, &applied, &clocks, stream);
         Self {
             end: ran.end,
             bytes_read: ran.bytes_read,

@@ -19,12 +19,15 @@ pub enum Difference {
         rust: u8,
         engine: u8,
     },
+    /// What the wrapper derives, in words.
+    Wrapper(String),
 }
 
 impl Display for Difference {
     fn fmt(&self, f: &mut Formatter<'_>) -> Result {
         match self {
             Self::Guard => write!(f, "a byte outside the buffers was written"),
+            Self::Wrapper(words) => write!(f, "{words}"),
             Self::Number { rust, engine } => {
                 write!(f, "returned {rust} in the Rust, {engine} in the engine")
             }

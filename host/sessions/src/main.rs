@@ -1,10 +1,11 @@
 //! `sessions SEED COUNT`: the chosen sessions and COUNT random ones through the batch run of the proved engine and through the unchanged
-//! Rust behind document 01's rules. Compares the returned number and every byte of answers, journal and result. The first session on
-//! which they part is shrunk and printed, and the program ends with 1.
+//! Rust behind document 01's rules. Compares the returned number, every byte of answers, journal and result, and what the wrapper derives
+//! from these with the oracle's state. The first session on which they part is shrunk and printed, and the program ends with 1.
 
 #![forbid(unsafe_code)]
 
 mod comparison;
+mod derived;
 mod guarded;
 mod report;
 mod shrink;
@@ -12,7 +13,7 @@ mod shrink;
 use cases::random::Random;
 use cases::session_kinds;
 use cases::sessions::{Run, Session, command_count};
-use comparison::difference;
+use comparison::Difference;
 use std::env;
 use std::process::ExitCode;
 
@@ -31,7 +32,7 @@ fn main() -> ExitCode {
     for session in chosen.into_iter().chain(random) {
         sessions += 1;
         commands += command_count(&session.commands);
-        if difference(ENGINE, &session).is_some() {
+        if difference(&session).is_some() {
             println!("seed {seed}, session {sessions}: the sides part");
             print!("{}", smallest(&session));
             return ExitCode::FAILURE;
@@ -41,9 +42,15 @@ fn main() -> ExitCode {
     ExitCode::SUCCESS
 }
 
+/// Where the sides part on a session, or else the wrapper and the oracle.
+fn difference(session: &Session) -> Option<Difference> {
+    let wrapper = || derived::difference(session).map(Difference::Wrapper);
+    comparison::difference(ENGINE, session).or_else(wrapper)
+}
+
 /// The smallest session found on which the sides still part, in words.
 fn smallest(session: &Session) -> String {
-    let small = shrink::shrink(session, &|session| difference(ENGINE, session).is_some());
-    let seen = difference(ENGINE, &small).expect("shrinking keeps a difference");
+    let small = shrink::shrink(session, &|session| difference(session).is_some());
+    let seen = difference(&small).expect("shrinking keeps a difference");
     report::report(ENGINE, &small, &seen)
 }

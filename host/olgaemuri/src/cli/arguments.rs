@@ -1,0 +1,114 @@
+//! Words of the command line, parted into options and files.
+
+use super::suggest::hint;
+
+/// An option of a subcommand, and whether a value follows.
+#[derive(Clone, Copy)]
+pub struct Known {
+    pub name: &'static str,
+    pub takes_value: bool,
+}
+
+#[derive(Debug, Default, PartialEq)]
+pub struct Arguments {
+    pub files: Vec<String>,
+    options: Vec<(&'static str, String)>,
+}
+
+impl Arguments {
+    /// Reads the words, or says what is wrong with them. `-` is a file, `--` ends the options.
+    pub fn parse(words: &[String], known: &[Known]) -> Result<Self, String> {
+        let mut arguments = Self::default();
+        let mut words = words.iter();
+        while let Some(word) = words.next() {
+            if word == "--" {
+                arguments.files.extend(words.by_ref().cloned());
+            } else if word.len() > 1 && word.starts_with('-') {
+                arguments.option(word, known, &mut words)?;
+            } else {
+                arguments.files.push(word.clone());
+            }
+        }
+        Ok(arguments)
+    }
+
+    fn option<'a>(
+        &mut self,
+        word: &str,
+        known: &[Known],
+        words: &mut impl Iterator<Item = &'a String>,
+    ) -> Result<(), String> {
+        let (name, value) = match word.split_once('=') {
+            Some((name, value)) => (name, Some(value.to_string())),
+            None => (word, None),
+        };
+        let Some(option) = known.iter().find(|option| option.name == name) else {
+            let names: Vec<&str> = known.iter().map(|option| option.name).collect();
+            return Err(format!("unknown option `{name}`{}", hint(name, &names)));
+        };
+        let value = match (option.takes_value, value) {
+            (true, Some(value)) => value,
+            (true, None) => words
+                .next()
+                .cloned()
+                .ok_or(format!("a value must follow `{name}`"))?,
+            (false, None) => String::new(),
+            (false, Some(_)) => return Err(format!("`{name}` takes no value")),
+        };
+        if self.value(option.name).is_some() {
+            return Err(format!("`{name}` stands twice"));
+        }
+        self.options.push((option.name, value));
+        Ok(())
+    }
+
+    pub fn value(&self, name: &str) -> Option<&str> {
+        let found = self.options.iter().find(|option| option.0 == name);
+        found.map(|option| option.1.as_str())
+    }
+
+    pub fn has(&self, name: &str) -> bool {
+        self.value(name).is_some()
+    }
+}
+
+#[cfg(test)]
+mod tests {
+    use super::*;
+
+    const KNOWN: [Known; 2] = [
+        Known {
+            name: "--csv",
+            takes_value: false,
+        },
+        Known {
+            name: "--svg",
+            takes_value: true,
+        },
+    ];
+
+    fn parse(words: &str) -> Result<Arguments, String> {
+        let words: Vec<String> = words.split_whitespace().map(str::to_string).collect();
+        Arguments::parse(&words, &KNOWN)
+    }
+
+    #[test]
+    fn options_and_files() {
+        let arguments = parse("a --svg out --csv - -- --b").unwrap();
+        assert_eq!(arguments.files, ["a", "-", "--b"]);
+        assert_eq!(arguments.value("--svg"), Some("out"));
+        assert!(arguments.has("--csv"));
+        assert_eq!(parse("--svg=x").unwrap().value("--svg"), Some("x"));
+    }
+
+    #[test]
+    fn wrong_words() {
+        assert_eq!(
+            parse("--cvs").unwrap_err(),
+            "unknown option `--cvs`; did you mean `--csv`?"
+        );
+        assert_eq!(parse("--svg").unwrap_err(), "a value must follow `--svg`");
+        assert_eq!(parse("--csv=1").unwrap_err(), "`--csv` takes no value");
+        assert_eq!(parse("--csv --csv").unwrap_err(), "`--csv` stands twice");
+    }
+}

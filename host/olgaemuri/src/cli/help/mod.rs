@@ -1,0 +1,84 @@
+//! Help that teaches. The first line of each text is its usage.
+
+use crate::cli::Failure;
+use crate::cli::files::write;
+use crate::cli::suggest::hint;
+use crate::cli::wording::meaning;
+
+pub const GENERAL: &str = include_str!("general.txt");
+
+pub const RUN: &str = include_str!("run.txt");
+
+pub const COMPARE: &str = include_str!("compare.txt");
+
+pub const CONVERT: &str = include_str!("convert.txt");
+
+pub const INTERACTIVE: &str = include_str!("interactive.txt");
+
+pub const FORMAT: &str = include_str!("format.txt");
+
+pub const ANSWERS: &str = include_str!("answers.txt");
+
+/// The topics of `olgaemuri help`.
+const TOPICS: [(&str, &str); 6] = [
+    ("run", RUN),
+    ("compare", COMPARE),
+    ("convert", CONVERT),
+    ("interactive", INTERACTIVE),
+    ("format", FORMAT),
+    ("answers", ANSWERS),
+];
+
+/// Shows a topic, or where to begin.
+pub fn show(topic: Option<&str>) -> Result<u8, Failure> {
+    let text = match topic {
+        None => GENERAL.to_string(),
+        Some("refusals") => refusals(),
+        Some(topic) => found(topic)?.to_string(),
+    };
+    write("-", text.as_bytes())?;
+    Ok(0)
+}
+
+fn found(topic: &str) -> Result<&'static str, Failure> {
+    let found = TOPICS.iter().find(|known| known.0 == topic);
+    found.map(|known| known.1).ok_or_else(|| {
+        let names: Vec<&str> = TOPICS
+            .iter()
+            .map(|known| known.0)
+            .chain(["refusals"])
+            .collect();
+        let hint = match hint(topic, &names) {
+            hint if hint.is_empty() => format!("; there are {}", names.join(", ")),
+            hint => hint,
+        };
+        Failure::from(format!("there is no help on `{topic}`{hint}"))
+    })
+}
+
+/// Every refusal with its number.
+fn refusals() -> String {
+    let head = "A refused command changes nothing. The numbers are document 01's.\n\n".to_string();
+    let lines = olgaemuri::Refusal::ALL
+        .iter()
+        .map(|refusal| format!("  {:2}  {}\n", refusal.number(), meaning(*refusal)));
+    std::iter::once(head).chain(lines).collect()
+}
+
+/// The lines of the format's help that tell of one word, with those that go on from them.
+pub fn lines_on(word: &str) -> String {
+    let mut out = String::new();
+    let mut wanted = false;
+    for line in FORMAT.lines() {
+        let indented = line.starts_with("   ");
+        wanted = if indented {
+            wanted
+        } else {
+            line.split_whitespace().next() == Some(word)
+        };
+        if wanted {
+            out += &format!("{line}\n");
+        }
+    }
+    out
+}

@@ -1,0 +1,259 @@
+//! `olgaemuri interactive`: commands are typed, answered and taken back. Refused ones are not kept, so every command of the
+//! session is accepted.
+
+mod shown;
+
+use super::arguments::Arguments;
+use super::files::{load, write};
+use super::report::Report;
+use super::suggest::hint;
+use super::svg::picture;
+use super::text::commands::COMMANDS;
+use super::text::line::{Item, Line};
+use super::text::parse::{OTHERS, Reader};
+use super::text::session::SessionText;
+use super::wording::told;
+use super::{Failure, help};
+use std::io::{BufRead, IsTerminal, Write, stdin, stdout};
+use std::path::{Path, PathBuf};
+
+/// The words that are no lines of a session.
+const WORDS: [&str; 5] = ["help", "list", "save", "picture", "quit"];
+
+/// A session while it is typed.
+struct Typed<'a> {
+    report: Report,
+    reader: Reader,
+    /// How many lines were typed.
+    count: usize,
+    /// Whether anything was added since it was saved.
+    changed: bool,
+    /// The file that was written, which may be written again.
+    saved_as: Option<String>,
+    out: &'a mut dyn Write,
+}
+
+/// Whether to go on.
+#[derive(PartialEq)]
+enum Next {
+    On,
+    Quit,
+}
+
+pub fn interactive(arguments: &Arguments) -> Result<u8, Failure> {
+    let text = match arguments.files.as_slice() {
+        [] => SessionText::default(),
+        [file] if file != "-" => accepted_part(load(file)?),
+        _ => {
+            return Err(Failure::usage(
+                "`olgaemuri interactive` takes one FILE or none",
+                help::INTERACTIVE,
+            ));
+        }
+    };
+    let terminal = stdin().is_terminal();
+    let mut out = stdout().lock();
+    let mut typed = Typed::new(text, &mut out);
+    let ended = typed
+        .greet()
+        .and_then(|()| typed.talk(&mut stdin().lock(), terminal));
+    match ended {
+        Err(error) if error.kind() != std::io::ErrorKind::BrokenPipe => {
+            Err(Failure::from(format!("cannot go on: {error}")))
+        }
+        _ => Ok(0),
+    }
+}
+
+/// The session without the commands that it refuses, which change nothing.
+fn accepted_part(text: SessionText) -> SessionText {
+    let report = Report::new(text);
+    if report.accepted() == report.rows.len() {
+        return report.text;
+    }
+    let accepted = report
+        .rows
+        .iter()
+        .filter(|row| row.step.answer.is_accepted());
+    let accepted = accepted.map(|row| Line::from(Item::from(row.step.input.clone())));
+    let is_command = |line: &Line| matches!(line.item, Some(Item::Command(_) | Item::Raw(_)));
+    let others = report
+        .text
+        .lines
+        .iter()
+        .filter(|line| !is_command(line))
+        .cloned();
+    let lines = others.chain(accepted).collect();
+    SessionText {
+        lines,
+        names: report.text.names,
+    }
+}
+
+impl<'a> Typed<'a> {
+    fn new(text: SessionText, out: &'a mut dyn Write) -> Self {
+        let reader = Reader::after(&text, "typed", PathBuf::new());
+        Self {
+            report: Report::new(text),
+            reader,
+            count: 0,
+            changed: false,
+            saved_as: None,
+            out,
+        }
+    }
+
+    fn greet(&mut self) -> std::io::Result<()> {
+        writeln!(
+            self.out,
+            "Type commands, `help` for help, `undo` to take the last one back, `quit` to end."
+        )?;
+        self.status()
+    }
+
+    /// Reads line after line until `quit` or the end of the input.
+    fn talk(&mut self, input: &mut dyn BufRead, terminal: bool) -> std::io::Result<()> {
+        let mut next = Next::On;
+        while next == Next::On {
+            if terminal {
+                write!(self.out, "> ")?;
+                self.out.flush()?;
+            }
+            let mut line = Vec::new();
+            let read = input.read_until(b'\n', &mut line)?;
+            let line = String::from_utf8_lossy(&line);
+            self.count += 1;
+            next = if read == 0 {
+                Next::Quit
+            } else {
+                self.take(line.trim_end(), terminal)?
+            };
+        }
+        self.out.flush()
+    }
+
+    /// Takes one typed line.
+    fn take(&mut self, line: &str, terminal: bool) -> std::io::Result<Next> {
+        let words: Vec<&str> = line.split_whitespace().collect();
+        match words.as_slice() {
+            ["quit" | "exit"] => return self.quit(terminal),
+            ["help"] => write!(
+                self.out,
+                "{}\n{}",
+                help::INTERACTIVE.trim_start_matches(|c| c != '\n'),
+                help::FORMAT
+            )?,
+            ["help", word] => self.help_on(word)?,
+            ["list"] => writeln!(self.out, "{}", shown::list(&self.report))?,
+            ["save", file] => self.save(file, false)?,
+            ["save", file, "overwrite"] => self.save(file, true)?,
+            ["picture", file] => self.draw(file)?,
+            ["save" | "picture", ..] => writeln!(self.out, "a file's name must follow")?,
+            [word, ..] if !is_known(word) => self.unknown(word)?,
+            _ => self.read(line)?,
+        }
+        Ok(Next::On)
+    }
+
+    fn quit(&mut self, terminal: bool) -> std::io::Result<Next> {
+        if self.changed && terminal {
+            self.changed = false;
+            writeln!(
+                self.out,
+                "not saved: type `save FILE`, or `quit` again to leave it"
+            )?;
+            return Ok(Next::On);
+        }
+        Ok(Next::Quit)
+    }
+
+    fn unknown(&mut self, word: &str) -> std::io::Result<()> {
+        let known: Vec<&str> = known_words().collect();
+        let hint = match hint(word, &known) {
+            hint if hint.is_empty() => "; `help` tells what can be typed".to_string(),
+            hint => hint,
+        };
+        writeln!(self.out, "unknown word `{word}`{hint}")
+    }
+
+    fn help_on(&mut self, word: &str) -> std::io::Result<()> {
+        let lines = help::lines_on(word);
+        if lines.is_empty() {
+            self.unknown(word)
+        } else {
+            write!(self.out, "{lines}")
+        }
+    }
+
+    /// Reads a line of the session and tries it.
+    fn read(&mut self, line: &str) -> std::io::Result<()> {
+        let before = self.reader.clone();
+        match self.reader.read(line, self.count) {
+            Ok(line) => self.attempt(line, before),
+            Err(fault) => writeln!(self.out, "{fault}"),
+        }
+    }
+
+    /// Runs the session with one more line, and keeps the line if nothing is refused then.
+    fn attempt(&mut self, line: Line, before: Reader) -> std::io::Result<()> {
+        let Some(item) = line.item.clone() else {
+            return Ok(());
+        };
+        let mut text = self.report.text.clone();
+        text.lines.push(line);
+        text.names = self.reader.names.clone();
+        let report = Report::new(text);
+        let known = self.report.rows.len();
+        if let Some(refused) = report
+            .rows
+            .iter()
+            .find(|row| !row.step.answer.is_accepted())
+        {
+            let told = told(refused, &report.rows, &report.text.names);
+            self.reader = before;
+            return writeln!(self.out, "{told}; nothing has changed");
+        }
+        self.report = report;
+        self.changed = true;
+        writeln!(self.out, "{}", shown::answers(&self.report, &item, known))?;
+        self.status()
+    }
+
+    fn status(&mut self) -> std::io::Result<()> {
+        writeln!(self.out, "{}", shown::status(&self.report))
+    }
+
+    fn save(&mut self, file: &str, overwrite: bool) -> std::io::Result<()> {
+        let ours = overwrite || self.saved_as.as_deref() == Some(file);
+        if !ours && Path::new(file).exists() {
+            return writeln!(
+                self.out,
+                "{file} exists; `save {file} overwrite` writes over it"
+            );
+        }
+        match write(file, self.report.text.self_contained().to_text().as_bytes()) {
+            Ok(()) => {
+                self.changed = false;
+                self.saved_as = Some(file.to_string());
+                writeln!(self.out, "saved; `olgaemuri run {file}` runs it again")
+            }
+            Err(message) => writeln!(self.out, "{message}"),
+        }
+    }
+
+    fn draw(&mut self, file: &str) -> std::io::Result<()> {
+        match write(file, picture(&self.report, "olgaemuri").as_bytes()) {
+            Ok(()) => writeln!(self.out, "drawn"),
+            Err(message) => writeln!(self.out, "{message}"),
+        }
+    }
+}
+
+fn known_words() -> impl Iterator<Item = &'static str> {
+    let commands = COMMANDS.iter().map(|command| command.0);
+    commands.chain(OTHERS).chain(WORDS)
+}
+
+fn is_known(word: &str) -> bool {
+    word.starts_with('#') || known_words().any(|known| known == word)
+}

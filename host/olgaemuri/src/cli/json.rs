@@ -1,0 +1,139 @@
+//! The report as JSON. Ticks are strings, since they may have more digits than a JSON reader's numbers; so are commands, as they
+//! stand in the text format. All floats of answers are finite.
+
+use super::events::{Event, breakdowns};
+use super::number::float_text;
+use super::report::{Report, Row};
+use super::text::names::Names;
+use super::text::write::item_text;
+use super::wording::{input_word, meaning};
+
+/// A string with its quotes.
+pub fn string(text: &str) -> String {
+    let mut out = String::from("\"");
+    for c in text.chars() {
+        match c {
+            '"' => out.push_str("\\\""),
+            '\\' => out.push_str("\\\\"),
+            c if c < ' ' => out.push_str(&format!("\\u{:04x}", u32::from(c))),
+            c => out.push(c),
+        }
+    }
+    out + "\""
+}
+
+/// A finite float; null for another, which no answer has.
+fn number(value: f64) -> String {
+    if value.is_finite() {
+        float_text(value)
+    } else {
+        "null".to_string()
+    }
+}
+
+fn maybe<T>(value: Option<T>, text: impl Fn(T) -> String) -> String {
+    value.map_or_else(|| "null".to_string(), text)
+}
+
+fn object(fields: &[(&str, String)]) -> String {
+    let fields: Vec<String> = fields
+        .iter()
+        .map(|(name, value)| format!("\"{name}\": {value}"))
+        .collect();
+    format!("{{{}}}", fields.join(", "))
+}
+
+/// An array with an element on each line.
+fn array(elements: &[String]) -> String {
+    if elements.is_empty() {
+        return "[]".to_string();
+    }
+    format!("[\n    {}\n  ]", elements.join(",\n    "))
+}
+
+pub fn report_json(report: &Report) -> String {
+    let names = &report.text.names;
+    let rows: Vec<String> = report
+        .rows
+        .iter()
+        .map(|row| row_object(row, names))
+        .collect();
+    let events: Vec<String> = report
+        .events
+        .iter()
+        .map(|event| event_object(event, names))
+        .collect();
+    let list = breakdowns(&report.events);
+    let breakdowns: Vec<String> = list
+        .iter()
+        .map(|event| event_object(event, names))
+        .collect();
+    let outcome = &report.outcome;
+    let fields = [
+        ("end", outcome.end_number().to_string()),
+        ("accepted", report.accepted().to_string()),
+        (
+            "refused",
+            (report.rows.len() - report.accepted()).to_string(),
+        ),
+        ("applied", outcome.applied.len().to_string()),
+        ("draws", outcome.draws.to_string()),
+        ("thresholds", report.text.thresholds().len().to_string()),
+        ("answers", array(&rows)),
+        ("events", array(&events)),
+        ("breakdowns", array(&breakdowns)),
+    ];
+    let fields = fields.map(|(name, value)| format!("  \"{name}\": {value}"));
+    format!("{{\n{}\n}}\n", fields.join(",\n"))
+}
+
+fn row_object(row: &Row, names: &Names) -> String {
+    let (step, answer) = (&row.step, &row.step.answer);
+    let text = item_text(&step.input.clone().into()).replace('\n', " ");
+    let event = |text: String| {
+        if answer.event {
+            text
+        } else {
+            "null".to_string()
+        }
+    };
+    object(&[
+        ("no", row.number.to_string()),
+        ("line", row.line.to_string()),
+        ("command", string(&input_word(&step.input))),
+        ("text", string(&text)),
+        ("machine", maybe(step.clock, |machine| machine.to_string())),
+        (
+            "machine_name",
+            maybe(step.clock, |machine| string(&names.machine(machine))),
+        ),
+        ("number", answer.number().to_string()),
+        (
+            "refusal",
+            maybe(answer.refusal, |refusal| string(&meaning(refusal))),
+        ),
+        ("event", answer.event.to_string()),
+        ("censored", answer.censored.to_string()),
+        ("withdrawn", answer.withdrawn.to_string()),
+        ("cause", event(answer.cause.to_string())),
+        ("cause_name", event(string(&names.cause(answer.cause)))),
+        ("delta", event(number(answer.delta))),
+        ("ticks", event(string(&answer.ticks.to_string()))),
+        ("applied", step.applied.to_string()),
+        ("undone_by", maybe(row.undone_by, |undo| undo.to_string())),
+    ])
+}
+
+fn event_object(event: &Event, names: &Names) -> String {
+    object(&[
+        ("machine", event.machine.to_string()),
+        ("machine_name", string(&names.machine(event.machine))),
+        ("cause", event.cause.to_string()),
+        ("cause_name", string(&names.cause(event.cause))),
+        ("censored", event.censored.to_string()),
+        ("scheduled_at", number(event.scheduled_at)),
+        ("time", number(event.time)),
+        ("ticks", string(&event.ticks.to_string())),
+        ("state", string(event.fate.word())),
+    ])
+}

@@ -1,0 +1,121 @@
+//! The command line: which subcommand is meant, and the exit status. 0 is success, refused commands among it; 1 a comparison that
+//! found a difference; 2 a bad file or a bad command line.
+
+mod arguments;
+mod compare;
+mod container;
+mod convert;
+mod csv;
+mod events;
+mod files;
+mod help;
+mod interactive;
+mod json;
+mod number;
+mod progress;
+mod report;
+mod run;
+mod suggest;
+mod svg;
+mod table;
+mod text;
+mod wording;
+
+use arguments::{Arguments, Known};
+use std::ffi::OsString;
+use std::io::{IsTerminal, stdin};
+use std::process::ExitCode;
+
+/// Why nothing could be done; for people.
+pub struct Failure(String);
+
+impl Failure {
+    /// A wrong command line: what is wrong, and where to read on.
+    fn usage(message: &str, help: &str) -> Self {
+        let usage = help.lines().next().unwrap_or_default();
+        Self(format!("{message}\n{usage}\n`olgaemuri --help` tells more"))
+    }
+}
+
+impl From<String> for Failure {
+    fn from(message: String) -> Self {
+        Self(message)
+    }
+}
+
+const SUBCOMMANDS: [&str; 5] = ["run", "compare", "convert", "interactive", "help"];
+
+const HELP_ONLY: [Known; 1] = [Known {
+    name: "--help",
+    takes_value: false,
+}];
+
+pub fn main(words: impl Iterator<Item = OsString>) -> ExitCode {
+    let words: Result<Vec<String>, OsString> = words.map(OsString::into_string).collect();
+    let status = words
+        .map_err(|word| Failure(format!("the word {} is no UTF-8", word.to_string_lossy())))
+        .and_then(|words| dispatch(&words));
+    match status {
+        Ok(status) => ExitCode::from(status),
+        Err(Failure(message)) => {
+            eprintln!("{message}");
+            ExitCode::from(2)
+        }
+    }
+}
+
+fn dispatch(words: &[String]) -> Result<u8, Failure> {
+    let Some((first, rest)) = words.split_first() else {
+        return without_words();
+    };
+    match first.as_str() {
+        "run" => with(rest, &run::OPTIONS, help::RUN, run::run),
+        "compare" => with(rest, &HELP_ONLY, help::COMPARE, compare::compare),
+        "convert" => with(rest, &convert::OPTIONS, help::CONVERT, convert::convert),
+        "interactive" => with(
+            rest,
+            &HELP_ONLY,
+            help::INTERACTIVE,
+            interactive::interactive,
+        ),
+        "help" | "--help" | "-h" => help::show(rest.first().map(String::as_str)),
+        "--version" | "-V" => {
+            files::write(
+                "-",
+                concat!("olgaemuri ", env!("CARGO_PKG_VERSION"), "\n").as_bytes(),
+            )?;
+            Ok(0)
+        }
+        other => {
+            let hint = suggest::hint(other, &SUBCOMMANDS);
+            Err(Failure::usage(
+                &format!("unknown subcommand `{other}`{hint}"),
+                help::GENERAL,
+            ))
+        }
+    }
+}
+
+/// On a terminal a session begins; elsewhere nobody is there to type one.
+fn without_words() -> Result<u8, Failure> {
+    if stdin().is_terminal() {
+        return interactive::interactive(&Arguments::default());
+    }
+    Err(Failure::usage("a subcommand is missing", help::GENERAL))
+}
+
+/// Runs a subcommand, or shows its help where that is asked for.
+fn with(
+    words: &[String],
+    known: &[Known],
+    help: &str,
+    subcommand: impl Fn(&Arguments) -> Result<u8, Failure>,
+) -> Result<u8, Failure> {
+    if words.iter().any(|word| word == "--help" || word == "-h") {
+        files::write("-", help.as_bytes())?;
+        return Ok(0);
+    }
+    let arguments =
+        Arguments::parse(words, known).map_err(|message| Failure::usage(&message, help))?;
+    subcommand(&arguments)
+}

@@ -1,0 +1,82 @@
+//! `olgaemuri run`: a session run, its answers printed.
+
+use super::arguments::{Arguments, Known};
+use super::csv::report_csv;
+use super::files::{called, load, write};
+use super::json::report_json;
+use super::progress::watched;
+use super::report::Report;
+use super::svg::picture;
+use super::table::report_text;
+use super::{Failure, help};
+use std::path::Path;
+
+pub const OPTIONS: [Known; 5] = [
+    Known {
+        name: "--csv",
+        takes_value: false,
+    },
+    Known {
+        name: "--json",
+        takes_value: false,
+    },
+    Known {
+        name: "--svg",
+        takes_value: true,
+    },
+    Known {
+        name: "--title",
+        takes_value: true,
+    },
+    Known {
+        name: "--help",
+        takes_value: false,
+    },
+];
+
+pub fn run(arguments: &Arguments) -> Result<u8, Failure> {
+    let [file] = arguments.files.as_slice() else {
+        return Err(Failure::usage(
+            "`olgaemuri run` takes one FILE, or - for standard input",
+            help::RUN,
+        ));
+    };
+    if arguments.has("--csv") && arguments.has("--json") {
+        return Err(Failure::usage(
+            "`--csv` and `--json` do not go together",
+            help::RUN,
+        ));
+    }
+    let report = reported(file)?;
+    let text = if arguments.has("--csv") {
+        report_csv(&report)
+    } else if arguments.has("--json") {
+        report_json(&report)
+    } else {
+        report_text(&report)
+    };
+    if arguments.value("--svg") != Some("-") {
+        write("-", text.as_bytes())?;
+    }
+    if let Some(out) = arguments.value("--svg") {
+        let title = arguments
+            .value("--title")
+            .map_or_else(|| default_title(file), str::to_string);
+        write(out, picture(&report, &title).as_bytes())?;
+    }
+    Ok(0)
+}
+
+/// Loads and runs a session.
+pub fn reported(file: &str) -> Result<Report, Failure> {
+    let text = watched("reading the session", || load(file))?;
+    let count = text.input_lines().len();
+    let what = format!("running {count} commands");
+    Ok(watched(&what, || Report::new(text)))
+}
+
+/// The file's name without its folder.
+pub fn default_title(file: &str) -> String {
+    let name = Path::new(called(file)).file_name();
+    name.map_or_else(String::new, |name| name.to_string_lossy().into_owned())
+}

@@ -1,0 +1,108 @@
+//! The legend: items in rows, each a sample and its words.
+
+use super::marks::Palette;
+use super::spans::Condition;
+use super::xml::{rectangle, text};
+use crate::cli::events::{Event, Fate};
+use crate::cli::text::names::Names;
+use olgaemuri::NO_CAUSE;
+
+/// What an item shows.
+#[derive(Clone, Copy)]
+enum Sample {
+    Condition(Condition),
+    Cause(u32),
+    Fate(Fate),
+}
+
+type Item = (Sample, String);
+
+/// Room for a letter, on average.
+const LETTER: f64 = 7.4;
+
+const ROW: f64 = 26.0;
+
+/// The legend from this height on, between two borders, and the height after it.
+pub fn legend(
+    events: &[Event],
+    palette: &Palette,
+    names: &Names,
+    borders: (f64, f64),
+    top: f64,
+) -> (String, f64) {
+    let mut out = String::new();
+    let mut y = top;
+    for group in [conditions(), causes(events, palette, names), fates()] {
+        let (text, bottom) = rows(&group, palette, borders, y);
+        out += &text;
+        y = bottom;
+    }
+    (out, y)
+}
+
+/// The items of a group in as many rows as they need.
+fn rows(items: &[Item], palette: &Palette, borders: (f64, f64), top: f64) -> (String, f64) {
+    let (left, right) = borders;
+    let (mut out, mut x, mut y) = (String::new(), left, top);
+    for (sample, words) in items {
+        let width = 56.0 + LETTER * words.chars().count() as f64;
+        if x + width > right && x > left {
+            (x, y) = (left, y + ROW);
+        }
+        out += &drawn(sample, palette, x + 12.0, y);
+        out += &text("legend", x + 32.0, y + 4.5, words);
+        x += width;
+    }
+    (out, if items.is_empty() { top } else { y + ROW })
+}
+
+fn conditions() -> Vec<Item> {
+    let item = |condition: Condition| (Sample::Condition(condition), condition.word().to_string());
+    Condition::ALL.map(item).to_vec()
+}
+
+/// The causes, and the end of observation if there is any.
+fn causes(events: &[Event], palette: &Palette, names: &Names) -> Vec<Item> {
+    let causes = palette
+        .causes()
+        .iter()
+        .map(|cause| (Sample::Cause(*cause), names.cause(*cause)));
+    let censored = events.iter().any(|event| event.censored);
+    let censored = censored.then(|| {
+        (
+            Sample::Cause(NO_CAUSE),
+            "end of observation (censored)".to_string(),
+        )
+    });
+    causes.chain(censored).collect()
+}
+
+fn fates() -> Vec<Item> {
+    let item = |(fate, words): (Fate, &str)| (Sample::Fate(fate), words.to_string());
+    let fates = [
+        (Fate::Delivered, "filled: delivered"),
+        (Fate::Pending, "hollow: scheduled"),
+        (Fate::Withdrawn, "crossed out, above the bar: withdrawn"),
+    ];
+    fates.map(item).to_vec()
+}
+
+fn drawn(sample: &Sample, palette: &Palette, x: f64, y: f64) -> String {
+    let mark = match sample {
+        Sample::Condition(condition) => {
+            let height = bar_height(*condition);
+            return rectangle(condition.class(), x - 12.0, y - height / 2.0, 24.0, height);
+        }
+        Sample::Cause(cause) => palette.mark(*cause, Fate::Delivered, x, y),
+        Sample::Fate(fate) => Palette::neutral_mark(*fate, x, y),
+    };
+    mark + "\n"
+}
+
+/// The height of a span's bar.
+pub fn bar_height(condition: Condition) -> f64 {
+    match condition {
+        Condition::Running | Condition::Paused => 14.0,
+        Condition::Down => 3.0,
+    }
+}

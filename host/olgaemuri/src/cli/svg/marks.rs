@@ -1,0 +1,165 @@
+//! Marks of events: a colour and a shape for each cause, so that either tells them apart; filled when delivered, hollow when
+//! scheduled, small and crossed out when withdrawn. The end of observation is a bar.
+
+use super::xml::{escaped, place};
+use crate::cli::events::{Event, Fate};
+use crate::cli::number::float_text;
+use crate::cli::text::names::Names;
+use crate::cli::wording::rounded;
+use olgaemuri::NO_CAUSE;
+
+/// Okabe and Ito's colours, which the colour-blind can tell apart.
+const COLOURS: [&str; 8] = [
+    "#0072b2", "#d55e00", "#009e73", "#cc79a7", "#e69f00", "#56b4e9", "#8a7a00", "#000000",
+];
+
+/// The end of observation.
+const GREY: &str = "#555555";
+
+/// Corners in units of the radius; the first shape is a circle.
+const SHAPES: [&[(f64, f64)]; 7] = [
+    &[(-0.9, -0.9), (0.9, -0.9), (0.9, 0.9), (-0.9, 0.9)],
+    &[(0.0, -1.25), (1.1, 0.75), (-1.1, 0.75)],
+    &[(0.0, -1.3), (1.3, 0.0), (0.0, 1.3), (-1.3, 0.0)],
+    &[(0.0, 1.25), (1.1, -0.75), (-1.1, -0.75)],
+    &[
+        (0.0, -1.2),
+        (1.15, -0.35),
+        (0.7, 1.0),
+        (-0.7, 1.0),
+        (-1.15, -0.35),
+    ],
+    &[
+        (-0.6, -1.1),
+        (0.6, -1.1),
+        (1.2, 0.0),
+        (0.6, 1.1),
+        (-0.6, 1.1),
+        (-1.2, 0.0),
+    ],
+    &[(-1.2, -0.5), (1.2, -0.5), (1.2, 0.5), (-1.2, 0.5)],
+];
+
+/// The causes of a picture, each with its colour and shape.
+pub struct Palette(Vec<u32>);
+
+impl Palette {
+    pub fn new(events: &[Event]) -> Self {
+        let mut causes: Vec<u32> = events
+            .iter()
+            .map(|event| event.cause)
+            .filter(|cause| *cause != NO_CAUSE)
+            .collect();
+        causes.sort_unstable();
+        causes.dedup();
+        Self(causes)
+    }
+
+    pub fn causes(&self) -> &[u32] {
+        &self.0
+    }
+
+    fn rank(&self, cause: u32) -> usize {
+        self.0.binary_search(&cause).unwrap_or(0)
+    }
+
+    fn colour(&self, cause: u32) -> &'static str {
+        if cause == NO_CAUSE {
+            GREY
+        } else {
+            COLOURS[self.rank(cause) % COLOURS.len()]
+        }
+    }
+
+    /// The outline of a mark.
+    fn outline(&self, cause: u32, x: f64, y: f64, radius: f64) -> String {
+        let bar: &[(f64, f64)] = &[(-0.35, -1.35), (0.35, -1.35), (0.35, 1.35), (-0.35, 1.35)];
+        let rank = self.rank(cause);
+        // causes that share a colour, the ninth and the first, have different shapes
+        let shape = (rank + rank / COLOURS.len()) % (SHAPES.len() + 1);
+        let corners = match shape {
+            _ if cause == NO_CAUSE => bar,
+            0 => return circle(x, y, radius),
+            shape => SHAPES[shape - 1],
+        };
+        let corner = |(dx, dy): &(f64, f64)| {
+            format!("{},{}", place(x + dx * radius), place(y + dy * radius))
+        };
+        let corners: Vec<String> = corners.iter().map(corner).collect();
+        format!("<polygon points=\"{}\"/>", corners.join(" "))
+    }
+
+    /// The mark of an event.
+    pub fn mark(&self, cause: u32, fate: Fate, x: f64, y: f64) -> String {
+        painted(
+            &self.outline(cause, x, y, radius(fate)),
+            self.colour(cause),
+            fate,
+            x,
+            y,
+        )
+    }
+
+    /// A mark for the legend that has no cause.
+    pub fn neutral_mark(fate: Fate, x: f64, y: f64) -> String {
+        painted(&circle(x, y, radius(fate)), GREY, fate, x, y)
+    }
+}
+
+fn radius(fate: Fate) -> f64 {
+    if fate == Fate::Withdrawn { 4.5 } else { 7.0 }
+}
+
+fn circle(x: f64, y: f64, radius: f64) -> String {
+    let [x, y, radius] = [x, y, 1.05 * radius].map(place);
+    format!("<circle cx=\"{x}\" cy=\"{y}\" r=\"{radius}\"/>")
+}
+
+/// An outline with the colours of its fate, a stroke through it where it is withdrawn.
+fn painted(outline: &str, colour: &str, fate: Fate, x: f64, y: f64) -> String {
+    match fate {
+        Fate::Delivered => {
+            format!("<g fill=\"{colour}\" stroke=\"#ffffff\" stroke-width=\"1\">{outline}</g>")
+        }
+        Fate::Pending => {
+            format!("<g fill=\"#ffffff\" stroke=\"{colour}\" stroke-width=\"2.4\">{outline}</g>")
+        }
+        Fate::Withdrawn => {
+            let [x1, y1, x2, y2] = [x - 7.0, y + 7.0, x + 7.0, y - 7.0].map(place);
+            format!(
+                "<g fill=\"none\" stroke=\"{colour}\" stroke-width=\"1.4\">{outline}\
+                 <line x1=\"{x1}\" y1=\"{y1}\" x2=\"{x2}\" y2=\"{y2}\"/></g>"
+            )
+        }
+    }
+}
+
+/// What a mark says when it is pointed at.
+fn title(event: &Event, names: &Names) -> String {
+    let what = if event.censored {
+        "end of observation (censored)".to_string()
+    } else {
+        names.cause(event.cause)
+    };
+    let (time, scheduled) = (rounded(event.time), rounded(event.scheduled_at));
+    let (machine, state) = (names.machine(event.machine), event.fate.word());
+    format!(
+        "{machine}: {what} at {time}, tick {}; {state}, as scheduled at {scheduled}",
+        event.ticks
+    )
+}
+
+/// An event with its title, and with its values for programs that read the picture.
+pub fn event_mark(event: &Event, names: &Names, mark: &str) -> String {
+    format!(
+        "<g class=\"event\" data-machine=\"{}\" data-cause=\"{}\" data-censored=\"{}\" data-time=\"{}\" data-ticks=\"{}\" \
+         data-state=\"{}\"><title>{}</title>{mark}</g>\n",
+        event.machine,
+        event.cause,
+        event.censored,
+        float_text(event.time),
+        event.ticks,
+        event.fate.word(),
+        escaped(&title(event, names)),
+    )
+}

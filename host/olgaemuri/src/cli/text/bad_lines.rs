@@ -1,0 +1,66 @@
+//! Bad lines: each gets its column and what was expected.
+
+use super::session::SessionText;
+use crate::cli::number::FLOAT_FORMS;
+use std::path::PathBuf;
+
+/// The reports of a session, as FILE:LINE:COLUMN: MESSAGE.
+fn reports(text: &str) -> Vec<String> {
+    let faults = SessionText::parse("shop", PathBuf::new(), text.as_bytes()).unwrap_err();
+    let shown = faults.iter().map(|fault| fault.to_string());
+    shown
+        .map(|text| text.lines().next().unwrap().to_string())
+        .collect()
+}
+
+#[test]
+fn every_kind_of_bad_line() {
+    let text = include_str!("bad_lines.txt");
+    let lines: Vec<&str> = text
+        .lines()
+        .filter(|line| !line.is_empty() && !line.starts_with("# "))
+        .collect();
+    assert_eq!(lines.len() % 2, 0);
+    for pair in lines.chunks(2) {
+        let expected = pair[1].trim_start().replace("FLOAT", FLOAT_FORMS);
+        assert_eq!(reports(pair[0]), [format!("shop:1:{expected}")]);
+    }
+    assert_eq!(lines.len() / 2, 61);
+}
+
+#[test]
+fn a_file_of_thresholds_that_is_not_there() {
+    let reports = reports("thresholds from \"no such file\"");
+    assert!(reports[0].starts_with("shop:1:17: cannot read the thresholds of no such file: "));
+}
+
+#[test]
+fn what_stands_against_an_earlier_line() {
+    let text = "machine 1 \"a\"\nmachine 1 \"b\"\nmachine 2 \"a\"\n\
+        journal 5\njournal 6\npause machine=\"aa\" now=0";
+    assert_eq!(
+        reports(text),
+        [
+            "shop:2:9: machine 1 is named \"a\" already",
+            "shop:3:9: \"a\" is the name of machine 1 already",
+            "shop:5:1: the journal's length is given already",
+            "shop:6:15: no machine is named `aa` above; did you mean `a`?",
+        ]
+    );
+}
+
+#[test]
+fn the_line_is_shown_with_a_caret() {
+    let text = b"undo\n\tpause machine=0";
+    let faults = SessionText::parse("shop", PathBuf::new(), text).unwrap_err();
+    let expected = "shop:2:17: `pause` needs an operand `now=`\n     \
+        pause machine=0\n                    ^";
+    assert_eq!(faults[0].to_string(), expected);
+}
+
+#[test]
+fn bytes_that_are_no_text() {
+    let faults = SessionText::parse("shop", PathBuf::new(), b"undo\nma\xff\n").unwrap_err();
+    let report = faults[0].to_string();
+    assert!(report.starts_with("shop:2:3: expected text in UTF-8"));
+}

@@ -1,0 +1,191 @@
+//! The commands of a session in text: reading their operands.
+
+use super::fault::Misplaced;
+use super::names::Names;
+use super::operands::Operands;
+use super::words::{Word, Words};
+use crate::cli::number::{parse_float, parse_whole};
+use crate::cli::suggest::hint;
+use olgaemuri::{Command, Entity, Hazard, MAX_PAIRS, Pair, Policy, Tie};
+
+/// The words that begin a command, and the operands that may follow.
+pub const COMMANDS: [(&str, &[&str]); 8] = [
+    (
+        "create",
+        &["machine", "process", "policy", "tie", "scale", "entity"],
+    ),
+    (
+        "set",
+        &[
+            "machine", "cause", "priority", "now", "hazard", "rate", "eta", "pieces", "then",
+        ],
+    ),
+    ("remove", &["machine", "cause"]),
+    ("reschedule", &["machine", "now", "censor", "priority"]),
+    ("pause", &["machine", "now"]),
+    ("resume", &["machine", "now", "censor", "priority"]),
+    ("deliver", &[]),
+    ("undo", &[]),
+];
+
+/// By document 01's number.
+pub const POLICIES: [&str; 2] = ["restart", "retain"];
+
+/// By document 01's number.
+pub const TIES: [&str; 3] = ["lowest", "highest", "priority"];
+
+/// By document 01's number.
+pub const HAZARDS: [&str; 4] = ["zero", "constant", "gompertz", "piecewise"];
+
+/// The command of a line whose first word is a known one.
+pub fn read_command(words: &Words, known: &[&str], names: &Names) -> Result<Command, Misplaced> {
+    let mut operands = Operands::new(words, known, names)?;
+    match words.words[0].text.as_str() {
+        "create" => create(&mut operands),
+        "set" => set(operands),
+        "remove" => Ok(Command::Remove {
+            clock: operands.machine()?,
+            cause: operands.cause()?,
+        }),
+        "reschedule" => {
+            let (clock, now, censor, priority) = reschedule(&mut operands)?;
+            Ok(Command::Reschedule {
+                clock,
+                now,
+                censor,
+                priority,
+            })
+        }
+        "pause" => Ok(Command::Pause {
+            clock: operands.machine()?,
+            now: operands.float("now")?,
+        }),
+        "resume" => {
+            let (clock, now, censor, priority) = reschedule(&mut operands)?;
+            Ok(Command::Resume {
+                clock,
+                now,
+                censor,
+                priority,
+            })
+        }
+        "deliver" => Ok(Command::Deliver),
+        _ => Ok(Command::Undo),
+    }
+}
+
+fn create(operands: &mut Operands) -> Result<Command, Misplaced> {
+    let clock = operands.machine()?;
+    let policy = Policy::ALL[operands.choice("policy", &POLICIES)?];
+    let process = operands.whole("process", 0, u64::MAX)?;
+    let tie = Tie::ALL[operands.optional_choice("tie", &TIES)?];
+    let scale = operands.optional_float("scale")?.unwrap_or(1.0);
+    let entity = operands
+        .optional("entity")
+        .map(|word| entity(&word))
+        .transpose()?;
+    Ok(Command::Create {
+        clock,
+        process,
+        policy,
+        tie,
+        scale,
+        entity,
+    })
+}
+
+/// `INDEX:GENERATION`.
+fn entity(word: &Word) -> Result<Entity, Misplaced> {
+    let parts = word.text.split_once(':');
+    let read = parts.and_then(|(index, generation)| {
+        let index = parse_whole(index, 0, u64::MAX).ok()?;
+        let generation = parse_whole(generation, 0, u32::MAX).ok()?;
+        Some(Entity { index, generation })
+    });
+    let message = format!(
+        "expected INDEX:GENERATION, two whole numbers such as 12:0, not `{}`",
+        word.text
+    );
+    read.ok_or_else(|| Misplaced::new(word.column, message))
+}
+
+/// The operands of `reschedule` and of `resume`.
+fn reschedule(operands: &mut Operands) -> Result<(u8, f64, Option<f64>, i32), Misplaced> {
+    let (clock, now) = (operands.machine()?, operands.float("now")?);
+    let censor = operands.optional_float("censor")?;
+    Ok((
+        clock,
+        now,
+        censor,
+        operands.whole("priority", i32::MIN, i32::MAX)?,
+    ))
+}
+
+fn set(mut operands: Operands) -> Result<Command, Misplaced> {
+    let (clock, cause) = (operands.machine()?, operands.cause()?);
+    let priority = operands.whole("priority", 0, u32::MAX)?;
+    let now = operands.float("now")?;
+    let kind = operands.choice("hazard", &HAZARDS)?;
+    let hazard = match kind {
+        0 => Hazard::Zero,
+        1 => Hazard::Constant(operands.float("rate")?),
+        2 => Hazard::Gompertz(operands.float("eta")?),
+        _ => Hazard::PiecewiseConstant {
+            pairs: operands
+                .optional("pieces")
+                .map_or(Ok(Vec::new()), |word| pieces(&word))?,
+            trailing: operands.float("then")?,
+        },
+    };
+    operands.finish(&format!("hazard={}", HAZARDS[kind]))?;
+    Ok(Command::Set {
+        clock,
+        cause,
+        priority,
+        hazard,
+        now,
+    })
+}
+
+/// `END:RATE,END:RATE,...`
+fn pieces(word: &Word) -> Result<Vec<Pair>, Misplaced> {
+    let mut pairs = Vec::new();
+    let mut column = word.column;
+    for text in word.text.split(',') {
+        if pairs.len() == MAX_PAIRS {
+            return Err(Misplaced::new(
+                column,
+                format!("expected at most {MAX_PAIRS} pieces"),
+            ));
+        }
+        pairs.push(piece(text, column)?);
+        column += text.chars().count() + 1;
+    }
+    Ok(pairs)
+}
+
+fn piece(text: &str, column: usize) -> Result<Pair, Misplaced> {
+    let Some((end, rate)) = text.split_once(':') else {
+        let message = format!("expected a piece END:RATE such as 100:0.5, not `{text}`");
+        return Err(Misplaced::new(column, message));
+    };
+    let after = column + end.chars().count() + 1;
+    Ok(Pair {
+        end: parse_float(end).map_err(|message| Misplaced::new(column, message))?,
+        rate: parse_float(rate).map_err(|message| Misplaced::new(after, message))?,
+    })
+}
+
+/// The operands of a command, or what its first word should have been.
+pub fn known_operands(word: &Word, others: &[&str]) -> Result<&'static [&'static str], Misplaced> {
+    let found = COMMANDS.iter().find(|command| command.0 == word.text);
+    found.map(|command| command.1).ok_or_else(|| {
+        let commands = COMMANDS.iter().map(|command| command.0);
+        let known: Vec<&str> = commands.chain(others.iter().copied()).collect();
+        let hint = match hint(&word.text, &known) {
+            hint if hint.is_empty() => format!("; a line begins with {}", known.join(", ")),
+            hint => hint,
+        };
+        Misplaced::new(word.column, format!("unknown word `{}`{hint}", word.text))
+    })
+}

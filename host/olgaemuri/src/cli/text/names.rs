@@ -1,0 +1,101 @@
+//! Names of machines and causes. The engine knows numbers only.
+
+use super::words::quoted;
+use olgaemuri::NO_CAUSE;
+use std::collections::BTreeMap;
+
+/// Names by number. A number has one name and a name one number.
+#[derive(Clone, Debug, Default, PartialEq)]
+pub struct Names {
+    machines: BTreeMap<u32, String>,
+    causes: BTreeMap<u32, String>,
+}
+
+/// What a name is given to.
+#[derive(Clone, Copy, Debug, PartialEq, Eq)]
+pub enum Named {
+    Machine,
+    Cause,
+}
+
+impl Named {
+    pub fn word(self) -> &'static str {
+        match self {
+            Self::Machine => "machine",
+            Self::Cause => "cause",
+        }
+    }
+
+    /// The largest number that can be given a name: the last machine, the last cause that can be set.
+    pub fn last(self) -> u32 {
+        match self {
+            Self::Machine => 15,
+            Self::Cause => NO_CAUSE - 1,
+        }
+    }
+}
+
+impl Names {
+    fn table(&self, named: Named) -> &BTreeMap<u32, String> {
+        match named {
+            Named::Machine => &self.machines,
+            Named::Cause => &self.causes,
+        }
+    }
+
+    /// Gives a name, or says what stands against it.
+    pub fn add(&mut self, named: Named, number: u32, name: &str) -> Result<(), String> {
+        let word = named.word();
+        if let Some(other) = self.table(named).get(&number) {
+            return Err(format!(
+                "{word} {number} is named {} already",
+                quoted(other)
+            ));
+        }
+        if let Some(other) = self.number(named, name) {
+            return Err(format!(
+                "{} is the name of {word} {other} already",
+                quoted(name)
+            ));
+        }
+        let table = match named {
+            Named::Machine => &mut self.machines,
+            Named::Cause => &mut self.causes,
+        };
+        table.insert(number, name.to_string());
+        Ok(())
+    }
+
+    pub fn number(&self, named: Named, name: &str) -> Option<u32> {
+        let mut pairs = self.table(named).iter();
+        pairs.find(|pair| pair.1 == name).map(|pair| *pair.0)
+    }
+
+    /// All names of a kind, for suggestions.
+    pub fn all(&self, named: Named) -> Vec<&str> {
+        self.table(named).values().map(String::as_str).collect()
+    }
+
+    /// The name as given.
+    pub fn given(&self, named: Named, number: u32) -> Option<&str> {
+        self.table(named).get(&number).map(String::as_str)
+    }
+
+    /// The name, or `machine 3`.
+    pub fn machine(&self, number: u8) -> String {
+        self.shown(Named::Machine, u32::from(number))
+    }
+
+    /// The name, or `cause 7`; `censored` for the number that stands for it.
+    pub fn cause(&self, number: u32) -> String {
+        if number == NO_CAUSE {
+            return "censored".to_string();
+        }
+        self.shown(Named::Cause, number)
+    }
+
+    fn shown(&self, named: Named, number: u32) -> String {
+        let given = self.given(named, number).map(str::to_string);
+        given.unwrap_or_else(|| format!("{} {number}", named.word()))
+    }
+}

@@ -1,0 +1,178 @@
+//! Commands and answers in a planner's words.
+
+use super::number::float_text;
+use super::report::Row;
+use super::text::commands::{POLICIES, TIES};
+use super::text::names::Names;
+use super::text::write::{command_word, item_text, raw_text};
+use olgaemuri::{Command, Hazard, Input, Pair, Refusal};
+
+/// A float for tables: short, and rounded where its digits are many. CSV and JSON have all of them.
+pub fn rounded(value: f64) -> String {
+    let exact = float_text(value);
+    let size = value.abs();
+    if exact.len() <= 10 || value.is_nan() {
+        exact
+    } else if (1e-3..1e12).contains(&size) {
+        let text = format!("{value:.4}");
+        text.trim_end_matches('0').trim_end_matches('.').to_string()
+    } else {
+        format!("{value:.4e}")
+    }
+}
+
+/// The first word of an input.
+pub fn input_word(input: &Input) -> String {
+    input
+        .command()
+        .map_or_else(|| "raw".to_string(), command_word)
+}
+
+/// The operands but for machine and time, which have columns of their own; cut where they are long.
+pub fn operands(input: &Input, names: &Names) -> String {
+    const MOST: usize = 42;
+    let words = match input {
+        Input::Command(command) => command_operands(command, names),
+        Input::Raw(bytes) => raw_text(bytes).replace("raw ", "").replace('\n', " "),
+    };
+    if words.chars().count() <= MOST {
+        return words;
+    }
+    let kept: String = words.chars().take(MOST - 3).collect();
+    kept + "..."
+}
+
+fn command_operands(command: &Command, names: &Names) -> String {
+    match command {
+        Command::Create {
+            policy, tie, scale, ..
+        } => {
+            let policy = POLICIES[usize::from(policy.number())];
+            let tie = TIES[usize::from(tie.number())];
+            format!("{policy}, {tie}, scale {}", rounded(*scale))
+        }
+        Command::Set { cause, hazard, .. } => {
+            format!("{}: {}", names.cause(*cause), hazard_words(hazard))
+        }
+        Command::Remove { cause, .. } => names.cause(*cause),
+        Command::Reschedule { censor, .. } | Command::Resume { censor, .. } => {
+            censor.map_or(String::new(), |time| format!("censor {}", rounded(time)))
+        }
+        Command::Pause { .. } | Command::Deliver | Command::Undo => String::new(),
+    }
+}
+
+fn hazard_words(hazard: &Hazard) -> String {
+    match hazard {
+        Hazard::Zero => "zero".to_string(),
+        Hazard::Constant(rate) => format!("rate {}", rounded(*rate)),
+        Hazard::Gompertz(eta) => format!("eta {}", rounded(*eta)),
+        Hazard::PiecewiseConstant { pairs, trailing } => {
+            let piece = |pair: &Pair| format!("{} to {}, ", rounded(pair.rate), rounded(pair.end));
+            let pieces: String = pairs.iter().map(piece).collect();
+            format!("{pieces}then {}", rounded(*trailing))
+        }
+    }
+}
+
+/// The answer in one or two words.
+pub fn answer(row: &Row) -> String {
+    let answer = &row.step.answer;
+    if let Some(refusal) = answer.refusal {
+        return format!("refused by {}", refusal.number());
+    }
+    if let Some(undone) = row.undoes {
+        return format!("took back {undone}");
+    }
+    let words = match row.step.input.command() {
+        Some(Command::Deliver) => "delivered",
+        Some(Command::Reschedule { .. } | Command::Resume { .. }) => {
+            match (answer.event, answer.withdrawn) {
+                (true, true) => "rescheduled",
+                (true, false) => "scheduled",
+                (false, true) => "withdrawn, none due",
+                (false, false) => "none due",
+            }
+        }
+        _ if answer.withdrawn => "withdrawn",
+        _ => "accepted",
+    };
+    words.to_string()
+}
+
+/// What a refusal means; document 01's clocks are called machines here.
+pub fn meaning(refusal: Refusal) -> String {
+    refusal.meaning().replace("clock", "machine")
+}
+
+/// What else there is to say: why a command was refused, or that it was undone.
+pub fn note(row: &Row) -> String {
+    match (row.step.answer.refusal, row.undone_by) {
+        (Some(refusal), _) => meaning(refusal),
+        (None, Some(undo)) => format!("undone by {undo}"),
+        (None, None) => String::new(),
+    }
+}
+
+/// Whether the refusal ends a run.
+pub fn ends_run(refusal: Refusal) -> bool {
+    matches!(refusal, Refusal::UnknownCode | Refusal::CutShort)
+}
+
+/// A row's answer as a sentence; the rows are all that there are.
+pub fn told(row: &Row, rows: &[Row], names: &Names) -> String {
+    let answer = &row.step.answer;
+    if let Some(refusal) = answer.refusal {
+        return format!("refused by {}: {}", refusal.number(), meaning(refusal));
+    }
+    if let Some(undone) = row.undoes {
+        let undone = &rows[undone - 1].step.input;
+        return format!("took back: {}", item_text(&undone.clone().into()));
+    }
+    let withdrawn = if answer.withdrawn {
+        "the breakdown scheduled before is withdrawn"
+    } else {
+        ""
+    };
+    let event = event_words(row, names);
+    let parts: Vec<&str> = [withdrawn, &event]
+        .into_iter()
+        .filter(|part| !part.is_empty())
+        .collect();
+    if parts.is_empty() {
+        "done".to_string()
+    } else {
+        parts.join("; ")
+    }
+}
+
+/// What was scheduled or delivered, or that nothing is due.
+fn event_words(row: &Row, names: &Names) -> String {
+    let (answer, command) = (&row.step.answer, row.step.input.command());
+    let machine = row
+        .step
+        .clock
+        .map_or(String::new(), |machine| names.machine(machine));
+    let (after, ticks) = (rounded(answer.delta), answer.ticks);
+    let what = match (answer.event, answer.censored) {
+        (false, _) => {
+            let asked = matches!(
+                command,
+                Some(Command::Reschedule { .. } | Command::Resume { .. })
+            );
+            return if asked {
+                format!("no breakdown of {machine} is due")
+            } else {
+                String::new()
+            };
+        }
+        (true, true) => format!("the end of observation of {machine}"),
+        (true, false) => format!("a breakdown of {machine} by {}", names.cause(answer.cause)),
+    };
+    match command {
+        Some(Command::Deliver) => {
+            format!("delivered: {what}, {after} after it was scheduled, at tick {ticks}")
+        }
+        _ => format!("scheduled: {what}, in {after}, at tick {ticks}"),
+    }
+}

@@ -1,0 +1,64 @@
+//! Answers from bytes and back.
+
+mod common;
+
+use common::Random;
+use olgaemuri::{Answer, Refusal};
+
+#[test]
+fn every_answer_comes_back_from_its_bytes() {
+    let mut random = Random(3);
+    for _ in 0..20_000 {
+        let answer = Answer {
+            refusal: Refusal::from_number(random.below(19) as u8),
+            event: random.flip(),
+            censored: random.flip(),
+            withdrawn: random.flip(),
+            cause: random.word() as u32,
+            delta: random.any_float(),
+            ticks: u128::from(random.word()) << 64 | u128::from(random.word()),
+        };
+        let bytes = answer.to_bytes();
+        let back = Answer::from_bytes(&bytes).expect("an answer's own bytes");
+        assert_eq!(back.to_bytes(), bytes);
+        assert_eq!(format!("{back:?}"), format!("{answer:?}"));
+    }
+}
+
+#[test]
+fn layout_of_row_9() {
+    let run = common::row_9().run();
+    let answer = run.steps[2].answer;
+    let mut expected = [0; 32];
+    expected[1] = 1;
+    expected[4] = 1;
+    expected[14..17].copy_from_slice(&[0x10, 0x40, 0x28]);
+    assert_eq!(answer.to_bytes(), expected);
+    let scheduled = Answer {
+        event: true,
+        cause: 1,
+        delta: 4.0,
+        ticks: 40,
+        ..Answer::default()
+    };
+    assert_eq!(Answer::from_bytes(&expected), Some(scheduled));
+    assert_eq!(answer, scheduled);
+    assert!(answer.is_accepted());
+}
+
+#[test]
+fn ticks_are_low_then_high() {
+    let mut bytes = [0; 32];
+    (bytes[16], bytes[24]) = (5, 1);
+    let answer = Answer::from_bytes(&bytes).expect("an answer");
+    assert_eq!(answer.ticks, (1 << 64) + 5);
+}
+
+#[test]
+fn bytes_that_are_no_answer() {
+    for (at, byte) in [(0, 19), (0, 255), (1, 2), (2, 2), (3, 255)] {
+        let mut bytes = [0; 32];
+        bytes[at] = byte;
+        assert_eq!(Answer::from_bytes(&bytes), None);
+    }
+}

@@ -1,0 +1,96 @@
+//! The worked example's output is what is stored beside it.
+
+use super::json::{self, Value};
+use super::program::{example, olgaemuri, scratch};
+use std::fs;
+
+const SESSION: &str = "examples/press-shop.session";
+
+/// The program's output, held to a stored file.
+fn check(words: &[&str], stored: &str) {
+    let ran = olgaemuri(words, b"");
+    assert_eq!((ran.status, ran.err.as_str()), (0, ""));
+    let expected = example(stored);
+    assert!(
+        ran.out == expected,
+        "`olgaemuri {}` prints\n{}\nand examples/{stored} has\n{}",
+        words.join(" "),
+        ran.text(),
+        String::from_utf8_lossy(&expected)
+    );
+}
+
+#[test]
+fn table() {
+    check(&["run", SESSION], "press-shop.out");
+}
+
+#[test]
+fn csv() {
+    check(&["run", SESSION, "--csv"], "press-shop.csv");
+}
+
+#[test]
+fn json() {
+    check(&["run", SESSION, "--json"], "press-shop.json");
+}
+
+#[test]
+fn picture() {
+    let file = scratch("example.svg");
+    let ran = olgaemuri(
+        &[
+            "run",
+            SESSION,
+            "--title",
+            "A press shop over two weeks, in hours",
+            "--svg",
+            file.to_str().unwrap(),
+        ],
+        b"",
+    );
+    assert_eq!(ran.status, 0);
+    let drawn = fs::read(&file).unwrap();
+    fs::remove_file(&file).unwrap();
+    assert!(
+        drawn == example("press-shop.svg"),
+        "the picture is another than examples/press-shop.svg"
+    );
+}
+
+#[test]
+fn side_by_side() {
+    check(
+        &["compare", "examples/press-shop-before.session", SESSION],
+        "press-shop-compare.out",
+    );
+}
+
+#[test]
+fn the_answers_are_well_formed_json() {
+    let stored = String::from_utf8(example("press-shop.json")).unwrap();
+    let report = json::parse(&stored).unwrap();
+    let answers = report.get("answers").array();
+    assert_eq!(answers.len(), 52);
+    let undone: Vec<f64> = answers
+        .iter()
+        .filter(|answer| *answer.get("undone_by") != Value::Null)
+        .map(|answer| answer.get("no").number())
+        .collect();
+    assert_eq!(undone, [29.0, 30.0, 31.0]);
+    let refused = answers
+        .iter()
+        .filter(|answer| answer.get("number").number() > 0.0);
+    assert_eq!(refused.count(), 1);
+}
+
+#[test]
+fn the_csv_has_as_many_cells_in_every_line() {
+    let stored = String::from_utf8(example("press-shop.csv")).unwrap();
+    let cells = |line: &str| {
+        let outside = line.split('"').step_by(2);
+        outside.map(|part| part.matches(',').count()).sum::<usize>() + 1
+    };
+    assert!(stored.lines().all(|line| cells(line) == 18), "{stored}");
+    assert_eq!(stored.lines().count(), 53);
+}

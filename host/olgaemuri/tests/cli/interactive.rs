@@ -1,0 +1,190 @@
+//! The interactive mode, with its input from a pipe.
+
+use super::program::{olgaemuri, scratch};
+use std::fs;
+
+fn typed(words: &[&str], input: &str) -> String {
+    let words: Vec<&str> = ["interactive"].iter().chain(words).copied().collect();
+    let ran = olgaemuri(&words, input.as_bytes());
+    assert_eq!((ran.status, ran.err.as_str()), (0, ""));
+    ran.text().to_string()
+}
+
+const PRESS: &str = "thresholds 2 1
+machine 0 \"press 1\"
+cause 1 \"ram seal\"
+create machine=0 policy=retain scale=10
+set machine=0 cause=1 now=0 hazard=constant rate=0.5
+reschedule machine=0 now=0
+";
+
+#[test]
+fn an_edit_is_made_and_taken_back() {
+    let out = typed(
+        &[],
+        &format!("{PRESS}pause machine=0 now=1\nundo\nlist\nquit\n"),
+    );
+    assert_eq!(out, TAKEN_BACK);
+}
+
+const TAKEN_BACK: &str =
+    "Type commands, `help` for help, `undo` to take the last one back, `quit` to end.
+  in force: 0; scheduled: nothing; thresholds drawn: 0 of 0
+noted
+  in force: 0; scheduled: nothing; thresholds drawn: 0 of 2
+noted
+  in force: 0; scheduled: nothing; thresholds drawn: 0 of 2
+noted
+  in force: 0; scheduled: nothing; thresholds drawn: 0 of 2
+done
+  in force: 1; scheduled: nothing; thresholds drawn: 0 of 2
+done
+  in force: 2; scheduled: nothing; thresholds drawn: 1 of 2
+scheduled: a breakdown of press 1 by ram seal, in 4, at tick 40
+  in force: 3; scheduled: press 1 by ram seal at tick 40; thresholds drawn: 1 of 2
+the breakdown scheduled before is withdrawn
+  in force: 4; scheduled: nothing; thresholds drawn: 1 of 2
+took back: pause machine=0 now=1
+  in force: 3; scheduled: press 1 by ram seal at tick 40; thresholds drawn: 1 of 2
+no  command in force
+--  ---------------------------------------------------------------
+ 1  create machine=0 process=0 policy=retain tie=lowest scale=10
+ 2  set machine=0 cause=1 priority=0 now=0 hazard=constant rate=0.5
+ 3  reschedule machine=0 now=0 priority=0
+
+Scheduled, in the order of delivery:
+
+no  machine  cause     at  tick  state
+--  -------  --------  --  ----  ---------
+ 1  press 1  ram seal   4    40  scheduled
+
+Thresholds drawn: 1 of 2
+";
+
+#[test]
+fn what_is_refused_changes_nothing_and_is_not_kept() {
+    let file = scratch("typed.session");
+    let path = file.to_str().unwrap();
+    let input = format!(
+        "set machine=0 cause=1 now=0 hazard=zero\n{PRESS}undo\nundo\nundo\nundo\nsave {path}\nquit\n"
+    );
+    let out = typed(&[], &input);
+    assert!(
+        out.contains("refused by 9: the machine has not been created; nothing has changed\n"),
+        "{out}"
+    );
+    assert!(
+        out.contains("refused by 12: there is no command to undo; nothing has changed\n"),
+        "{out}"
+    );
+    assert!(out.contains("took back: create machine=0"), "{out}");
+    let saved = fs::read_to_string(&file).unwrap();
+    fs::remove_file(&file).unwrap();
+    assert!(
+        saved.starts_with("thresholds 2 1\nmachine 0 \"press 1\"\n"),
+        "{saved}"
+    );
+    assert!(
+        saved.ends_with("reschedule machine=0 now=0 priority=0\nundo\nundo\nundo\n"),
+        "{saved}"
+    );
+}
+
+#[test]
+fn thresholds_can_be_added_when_they_are_used_up() {
+    let set = "set machine=0 cause=3 now=0 hazard=constant rate=1\n";
+    let input = format!("create machine=0 policy=retain\n{set}thresholds 7\n{set}");
+    let out = typed(&[], &input);
+    assert!(out.contains("refused by 15"), "{out}");
+    assert!(
+        out.ends_with("  in force: 2; scheduled: nothing; thresholds drawn: 1 of 1\n"),
+        "{out}"
+    );
+}
+
+#[test]
+fn a_file_is_taken_up_again() {
+    let out = typed(&["examples/press-shop.session"], "undo\n");
+    assert!(
+        out.contains("in force: 45; scheduled: press brake 2 by drive belt at tick 8373"),
+        "{out}"
+    );
+    assert!(
+        out.contains("took back: resume machine=1 now=117 censor=160 priority=0\n  in force: 44;"),
+        "{out}"
+    );
+}
+
+#[test]
+fn what_a_file_gives_counts_for_what_is_typed() {
+    let (session, thresholds) = (scratch("first.session"), scratch("first.thresholds"));
+    let name = thresholds.file_name().unwrap().to_str().unwrap();
+    fs::write(&thresholds, "3 4\n").unwrap();
+    fs::write(
+        &session,
+        format!("\u{feff}journal 50\nthresholds from \"{name}\"\n"),
+    )
+    .unwrap();
+    let saved = scratch("second.session");
+    let input = format!("journal 60\nundo\u{fe}\nsave {}\n", saved.display());
+    let out = typed(&[session.to_str().unwrap()], &input);
+    assert!(
+        out.contains("typed:1:1: the journal's length is given already"),
+        "{out}"
+    );
+    let text = fs::read_to_string(&saved).unwrap();
+    assert_eq!(text, "journal 50\nthresholds 3 4\n");
+    for file in [session, thresholds, saved] {
+        fs::remove_file(file).unwrap();
+    }
+}
+
+#[test]
+fn files_are_not_written_over_unasked() {
+    let file = scratch("kept.session");
+    let path = file.to_str().unwrap();
+    fs::write(&file, "# mine\n").unwrap();
+    let out = typed(&[], &format!("save {path}\n"));
+    assert!(out.contains("exists"), "{out}");
+    assert_eq!(fs::read_to_string(&file).unwrap(), "# mine\n");
+    typed(
+        &[],
+        &format!("thresholds 1\nsave {path} overwrite\nthresholds 2\nsave {path}\n"),
+    );
+    assert_eq!(
+        fs::read_to_string(&file).unwrap(),
+        "thresholds 1\nthresholds 2\n"
+    );
+    fs::remove_file(&file).unwrap();
+}
+
+#[test]
+fn pictures_can_be_drawn() {
+    let file = scratch("typed.svg");
+    let path = file.to_str().unwrap();
+    let out = typed(&[], &format!("{PRESS}picture {path}\n"));
+    assert!(out.ends_with("drawn\n"), "{out}");
+    let picture = super::xml::parse(&fs::read_to_string(&file).unwrap()).unwrap();
+    fs::remove_file(&file).unwrap();
+    assert_eq!(picture.with_class("event").len(), 1);
+}
+
+#[test]
+fn wrong_words_and_help() {
+    let out = typed(
+        &[],
+        "lst\nundoo\nbanana\nset machine=0 casue=1\nhelp\nhelp pause\nhelp me\nsave\n",
+    );
+    for expected in [
+        "unknown word `lst`; did you mean `list`?",
+        "unknown word `undoo`; did you mean `undo`?",
+        "unknown word `banana`; `help` tells what can be typed",
+        "typed:4:15: unknown operand `casue`; did you mean `cause`?",
+        "  undo            takes the last command back",
+        "  reschedule machine=3 now=T [censor=T] [priority=0]",
+        "\n  pause machine=3 now=T\nunknown word `me`",
+        "a file's name must follow",
+    ] {
+        assert!(out.contains(expected), "{expected}\n{out}");
+    }
+}

@@ -1,0 +1,196 @@
+//! The pictures are well formed, and their events are the answers' events.
+
+use super::json::{self, Value};
+use super::program::{example, olgaemuri, scratch};
+use super::xml::{self, Element};
+use std::fs;
+
+/// Machine, cause, time's bits, ticks, state.
+type Event = (u64, u64, u64, String, String);
+
+/// Runs a session: its answers, and its picture.
+fn run(session: &[u8], name: &str) -> (Value, Element) {
+    let file = scratch(name);
+    let path = file.to_str().unwrap();
+    let ran = olgaemuri(&["run", "-", "--json", "--svg", path], session);
+    assert_eq!((ran.status, ran.err.as_str()), (0, ""));
+    let picture = fs::read_to_string(&file).unwrap();
+    fs::remove_file(&file).unwrap();
+    let picture = xml::parse(&picture).unwrap_or_else(|wrong| panic!("{wrong}\n{picture}"));
+    (json::parse(ran.text()).unwrap(), picture)
+}
+
+/// The value of an operand in a command's text.
+fn operand(answer: &Value, name: &str) -> f64 {
+    let words = answer.get("text").text().split_whitespace();
+    let value = words
+        .filter_map(|word| word.split_once('='))
+        .find(|pair| pair.0 == name);
+    value.unwrap().1.parse().unwrap()
+}
+
+/// The events by the answers of the applied commands alone.
+fn answered_events(answers: &[Value]) -> Vec<Event> {
+    let mut events: Vec<Event> = Vec::new();
+    let mut pending = [None; 16];
+    for answer in answers
+        .iter()
+        .filter(|answer| answer.get("applied").is_true())
+    {
+        let machine = answer.get("machine").number() as usize;
+        let ended = if answer.get("withdrawn").is_true() {
+            Some("withdrawn")
+        } else {
+            None
+        };
+        let delivered = answer.get("command").text() == "deliver";
+        if let Some(state) = ended.or(delivered.then_some("delivered")) {
+            let place: usize = pending[machine].take().unwrap();
+            events[place].4 = state.to_string();
+        }
+        if answer.get("event").is_true() && !delivered {
+            pending[machine] = Some(events.len());
+            let time = operand(answer, "now") + answer.get("delta").number();
+            let (cause, ticks) = (
+                answer.get("cause").number(),
+                answer.get("ticks").text().to_string(),
+            );
+            events.push((
+                machine as u64,
+                cause as u64,
+                time.to_bits(),
+                ticks,
+                "scheduled".to_string(),
+            ));
+        }
+    }
+    events.sort();
+    events
+}
+
+fn drawn_events(picture: &Element) -> Vec<Event> {
+    let of = |element: &Element| {
+        let value = |name: &str| element.attributes[&format!("data-{name}")].clone();
+        let number = |name: &str| value(name).parse::<u64>().unwrap();
+        let time = value("time").parse::<f64>().unwrap().to_bits();
+        assert!(!element.child("title").text.is_empty());
+        assert_eq!(
+            value("censored") == "true",
+            number("cause") == u64::from(u32::MAX)
+        );
+        (
+            number("machine"),
+            number("cause"),
+            time,
+            value("ticks"),
+            value("state"),
+        )
+    };
+    let mut events: Vec<Event> = picture.with_class("event").into_iter().map(of).collect();
+    events.sort();
+    events
+}
+
+fn check(session: &[u8], name: &str) -> Vec<Event> {
+    let (answers, picture) = run(session, name);
+    let drawn = drawn_events(&picture);
+    assert_eq!(
+        drawn,
+        answered_events(answers.get("answers").array()),
+        "{}",
+        String::from_utf8_lossy(session)
+    );
+    drawn
+}
+
+#[test]
+fn the_examples_events_are_drawn() {
+    let count = |events: &[Event], state: &str| events.iter().filter(|e| e.4 == state).count();
+    let cases = [
+        ("press-shop.session", [7, 5, 2]),
+        ("press-shop-before.session", [7, 5, 2]),
+        ("press-shop-kept.session", [7, 3, 5]),
+    ];
+    for (name, counts) in cases {
+        let events = check(&example(name), name);
+        let found = ["delivered", "scheduled", "withdrawn"].map(|state| count(&events, state));
+        assert_eq!(found, counts, "{name}");
+    }
+}
+
+#[test]
+fn undone_edits_are_not_drawn() {
+    let pictures = ["press-shop.session", "press-shop-before.session"]
+        .map(|name| run(&example(name), "undone").1);
+    let [after, before] = pictures;
+    assert_eq!(drawn_events(&after), drawn_events(&before));
+    let spans = |picture: &Element| -> Vec<Element> {
+        picture.with_class("span").into_iter().cloned().collect()
+    };
+    assert_eq!(spans(&after), spans(&before));
+}
+
+#[test]
+fn random_sessions_are_drawn_as_they_were_answered() {
+    let mut random = 7u64;
+    let mut events = 0;
+    for index in 0..40 {
+        let session = random_session(&mut random);
+        events += check(session.as_bytes(), &format!("random-{index}")).len();
+    }
+    assert!(events > 400, "{events} events");
+}
+
+/// Commands to four machines at rising times, a fifth of them undone.
+fn random_session(random: &mut u64) -> String {
+    let mut below = |limit: u64| {
+        *random = random
+            .wrapping_mul(6_364_136_223_846_793_005)
+            .wrapping_add(1_442_695_040_888_963_407);
+        (*random >> 33) % limit
+    };
+    let thresholds: Vec<String> = (0..90)
+        .map(|_| (below(300) as f64 / 100.0).to_string())
+        .collect();
+    let mut lines = vec![format!("thresholds {}", thresholds.join(" "))];
+    for time in 0..90u64 {
+        let machine = below(4);
+        lines.push(match below(12) {
+            0 => format!("create machine={machine} policy=retain scale=10"),
+            1..=3 => {
+                let (cause, rate) = (below(9), below(50) as f64 / 100.0);
+                format!(
+                    "set machine={machine} cause={cause} now={time} hazard=constant rate={rate}"
+                )
+            }
+            4..=6 => format!(
+                "reschedule machine={machine} now={time} censor={}",
+                time + 40
+            ),
+            7 => format!("pause machine={machine} now={time}"),
+            8 => format!("resume machine={machine} now={time}"),
+            9 => "deliver".to_string(),
+            _ => "undo".to_string(),
+        });
+    }
+    let creates: Vec<String> = (0..4)
+        .map(|machine| format!("create machine={machine} policy=restart scale=10"))
+        .collect();
+    lines.splice(1..1, creates);
+    lines.join("\n")
+}
+
+#[test]
+fn a_picture_on_standard_output_stands_alone() {
+    let ran = olgaemuri(&["run", "examples/press-shop.session", "--svg", "-"], b"");
+    assert_eq!(xml::parse(ran.text()).unwrap().name, "svg");
+}
+
+#[test]
+fn odd_names_and_no_machine_at_all() {
+    let (_, empty) = run(b"", "empty");
+    assert_eq!(drawn_events(&empty), []);
+    let odd = "machine 0 \"<a & \\\"b\\\"> \u{7}\"\ncause 1 \"]]>\"\nthresholds 1\ncreate machine=0 policy=retain\n\
+        set machine=0 cause=1 now=0 hazard=constant rate=1e-300\nreschedule machine=0 now=0\n";
+    assert_eq!(check(odd.as_bytes(), "odd").len(), 1);
+}

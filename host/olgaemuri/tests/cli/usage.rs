@@ -1,0 +1,132 @@
+//! Help, wrong words, bad files and exit statuses.
+
+use super::program::olgaemuri;
+
+#[test]
+fn help_is_there_for_everything() {
+    let general = olgaemuri(&["--help"], b"");
+    assert_eq!(general.status, 0);
+    for topic in ["run", "compare", "convert", "interactive"] {
+        assert!(general.text().contains(&format!("olgaemuri {topic}")));
+        let by_option = olgaemuri(&[topic, "--help"], b"");
+        let by_word = olgaemuri(&["help", topic], b"");
+        assert_eq!((by_option.status, by_word.status), (0, 0));
+        assert_eq!(by_option.out, by_word.out);
+        assert!(
+            by_word
+                .text()
+                .starts_with(&format!("usage: olgaemuri {topic}"))
+        );
+    }
+    assert!(
+        olgaemuri(&["help", "format"], b"")
+            .text()
+            .contains("reschedule machine=3 now=T")
+    );
+    assert!(
+        olgaemuri(&["help", "answers"], b"")
+            .text()
+            .contains("took back")
+    );
+    assert!(
+        olgaemuri(&["help", "refusals"], b"")
+            .text()
+            .contains("  15  a threshold is to be drawn")
+    );
+}
+
+#[test]
+fn the_session_in_the_help_runs() {
+    let help = olgaemuri(&["--help"], b"");
+    let lines = help
+        .text()
+        .lines()
+        .skip_while(|line| !line.contains("thresholds 2 1"));
+    let session: Vec<&str> = lines.take_while(|line| !line.is_empty()).collect();
+    let ran = olgaemuri(&["run", "-"], session.join("\n").as_bytes());
+    assert_eq!((ran.status, ran.err.as_str()), (0, ""));
+    assert!(ran.text().contains(
+        "5 commands: 5 accepted, 0 refused; 1 taken back, 3 in force. Thresholds drawn: 1 of 2."
+    ));
+    assert!(
+        ran.text()
+            .contains(" 1  press 1  ram seal   4    40  scheduled"),
+        "{}",
+        ran.text()
+    );
+}
+
+#[test]
+fn wrong_words_get_a_suggestion() {
+    let cases: [(&[&str], &str); 6] = [
+        (&["rnu"], "unknown subcommand `rnu`; did you mean `run`?"),
+        (
+            &["run", "--cvs", "x"],
+            "unknown option `--cvs`; did you mean `--csv`?",
+        ),
+        (
+            &["help", "formt"],
+            "there is no help on `formt`; did you mean `format`?",
+        ),
+        (
+            &["run"],
+            "`olgaemuri run` takes one FILE, or - for standard input",
+        ),
+        (
+            &["run", "a", "--csv", "--json"],
+            "`--csv` and `--json` do not go together",
+        ),
+        (&["run", "no such file"], "cannot read no such file: "),
+    ];
+    for (words, expected) in cases {
+        let ran = olgaemuri(words, b"");
+        assert_eq!(ran.status, 2, "{words:?}");
+        assert!(ran.err.starts_with(expected), "{}", ran.err);
+        assert_eq!(ran.text(), "");
+    }
+}
+
+#[test]
+fn without_words_and_without_a_terminal_it_says_how_it_is_used() {
+    let ran = olgaemuri(&[], b"");
+    assert_eq!(ran.status, 2);
+    assert!(
+        ran.err
+            .contains("usage: olgaemuri run|compare|convert|interactive|help")
+    );
+}
+
+#[test]
+fn every_bad_line_is_told_and_nothing_is_run() {
+    let ran = olgaemuri(
+        &["run", "-"],
+        b"undo\ncreat machine=0\nset machine=0 casue=1\n",
+    );
+    assert_eq!((ran.status, ran.text()), (2, ""));
+    let expected = "standard input:2:1: unknown word `creat`; did you mean `create`?\n    creat machine=0\n    ^\n\
+        standard input:3:15: unknown operand `casue`; did you mean `cause`?\n    set machine=0 casue=1\n                  ^\n";
+    assert_eq!(ran.err, expected);
+}
+
+#[test]
+fn many_bad_lines_are_counted() {
+    let ran = olgaemuri(&["run", "-"], "x\n".repeat(30).as_bytes());
+    assert_eq!(ran.err.matches("unknown word").count(), 20);
+    assert!(ran.err.ends_with("and 10 more bad lines\n"));
+}
+
+#[test]
+fn a_refusal_is_an_answer() {
+    let session = "journal 40\nthresholds 5000\ncreate machine=0 policy=retain\ncreate machine=0 policy=retain\n\
+        create machine=16 policy=retain\npause machine=1 now=0\npause machine=0 now=-1\ndeliver\n\
+        set machine=0 cause=1 now=0 hazard=zero\n";
+    let ran = olgaemuri(&["run", "-"], session.as_bytes());
+    assert_eq!((ran.status, ran.err.as_str()), (0, ""));
+    let numbers: Vec<&str> = ran
+        .text()
+        .split("refused by ")
+        .skip(1)
+        .map(|part| part.split(' ').next().unwrap())
+        .collect();
+    assert_eq!(numbers, ["8", "7", "9", "5", "11", "14"]);
+}

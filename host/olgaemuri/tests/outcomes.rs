@@ -1,0 +1,237 @@
+//! What an outcome says beyond the answers: applied commands, pending events, clocks, draws.
+
+mod common;
+
+use common::{Random, create, likely_session, reschedule, row_9, set};
+use olgaemuri::{Command, Entity, Hazard, NO_CAUSE, Outcome, Policy, Refusal, Session, Step, Tie};
+
+/// Each session with what it gave.
+fn random_runs(seed: u64, count: usize) -> impl Iterator<Item = (Session, Outcome)> {
+    let mut random = Random(seed);
+    std::iter::repeat_with(move || likely_session(&mut random, 40))
+        .take(count)
+        .map(|session| (session.clone(), session.run()))
+}
+
+#[test]
+fn applied_steps_are_the_journal_s_commands() {
+    for (_, run) in random_runs(5, 500) {
+        let from_steps: Vec<_> = run.steps.iter().filter(|step| step.applied).collect();
+        assert_eq!(from_steps.len(), run.applied.len());
+        for (step, applied) in from_steps.iter().zip(&run.applied) {
+            assert_eq!(step.input.command(), Some(&applied.command));
+            assert_eq!(step.answer, applied.answer);
+            assert_eq!(step.clock, Some(applied.clock));
+        }
+    }
+}
+
+#[test]
+fn made_is_withdrawn_delivered_and_pending() {
+    let mut made = 0;
+    for (_, run) in random_runs(6, 500) {
+        for clock in &run.clocks {
+            let events = clock.events;
+            let pending = u64::from(events.pending.is_some());
+            assert_eq!(events.made, events.withdrawn + events.delivered + pending);
+            made += events.made;
+        }
+    }
+    assert!(made > 500, "{made}");
+}
+
+#[test]
+fn pending_events_are_delivered_in_their_order() {
+    let (mut delivered, mut several) = (0, 0);
+    for (mut session, run) in random_runs(9, 500) {
+        let pending = run.pending();
+        several += usize::from(pending.len() > 1);
+        session.extend(pending.iter().map(|_| Command::Deliver));
+        session.push(Command::Deliver);
+        let after = session.run();
+        let (last, steps) = after.steps.split_last().expect("a DELIVER");
+        assert_eq!(last.answer.refusal, Some(Refusal::QueueEmpty));
+        for (step, event) in steps[run.steps.len()..].iter().zip(&pending) {
+            assert_eq!(step.clock, Some(event.clock));
+            assert_eq!(step.answer.ticks, event.ticks);
+            assert_eq!(
+                (step.answer.cause, step.answer.censored),
+                (event.cause, event.censored)
+            );
+            assert_eq!(step.answer.delta, event.delta);
+            delivered += 1;
+        }
+        assert_eq!(after.pending(), []);
+    }
+    assert!(delivered > 300 && several > 100, "{delivered} {several}");
+}
+
+#[test]
+fn draws_are_the_shortest_stream_that_suffices() {
+    let mut most = 0;
+    for (session, run) in random_runs(13, 300) {
+        let with = |count: usize| {
+            let mut shorter = Session::new(&session.thresholds()[..count])
+                .with_journal_length(session.journal_length());
+            shorter.extend(run.applied.iter().map(|applied| applied.command.clone()));
+            shorter.run()
+        };
+        let exact = with(run.draws);
+        assert_eq!(exact.applied, run.applied);
+        assert_eq!(exact.draws, run.draws);
+        assert!(exact.answers().all(olgaemuri::Answer::is_accepted));
+        for count in 0..run.draws {
+            let exhausted = |step: &Step| step.answer.refusal == Some(Refusal::StreamExhausted);
+            assert!(with(count).steps.iter().any(exhausted));
+        }
+        most = most.max(run.draws);
+    }
+    assert!(most > 4, "{most}");
+}
+
+#[test]
+fn draws_by_policy() {
+    for (policy, draws) in [(Policy::Restart, 3), (Policy::RetainResidual, 2)] {
+        let mut session = Session::new([2.0, 1.0, 3.0, 4.0]);
+        // at hour 1 only half of the 2.0 is used up, at hour 4 all of it
+        session.extend([
+            create(policy),
+            set(1, 0.5, 0.0),
+            set(1, 0.5, 1.0),
+            set(1, 0.5, 4.0),
+        ]);
+        assert_eq!(session.run().draws, draws);
+    }
+}
+
+#[test]
+fn draws_before_a_bad_threshold() {
+    let mut session = Session::new([2.0, f64::NAN, 1.0]);
+    session.extend([create(Policy::Restart), set(1, 0.5, 0.0), set(2, 0.5, 0.0)]);
+    let run = session.run();
+    assert_eq!(run.steps[2].answer.refusal, Some(Refusal::InvalidThreshold));
+    assert_eq!(run.draws, 1);
+    // the cause is gone, its threshold stays drawn
+    session.push(Command::Remove { clock: 0, cause: 1 });
+    assert_eq!(session.run().draws, 1);
+}
+
+#[test]
+fn draws_of_sixteen_full_clocks() {
+    let mut session = Session::new([2.0; 200]);
+    for clock in 0..16 {
+        let (policy, tie) = (Policy::RetainResidual, Tie::LowestCause);
+        session.push(Command::Create {
+            clock,
+            process: 0,
+            policy,
+            tie,
+            scale: 1.0,
+            entity: None,
+        });
+        let set = |cause| Command::Set {
+            clock,
+            cause,
+            priority: 0,
+            hazard: Hazard::Zero,
+            now: 0.0,
+        };
+        session.extend((0..8).map(set));
+    }
+    let run = session.run();
+    assert_eq!(
+        (run.applied.len(), run.draws, run.clocks.len()),
+        (16 * 9, 16 * 8, 16)
+    );
+}
+
+#[test]
+fn a_clock_is_followed() {
+    let mut session = row_9();
+    let clock = session.run().clock(0).cloned().expect("clock 0 is present");
+    assert_eq!((clock.number, clock.process, clock.scale), (0, 7, 10.0));
+    assert_eq!(
+        (clock.policy, clock.tie, clock.entity),
+        (Policy::RetainResidual, Tie::LowestCause, None)
+    );
+    assert!(clock.active);
+    assert_eq!(clock.causes.len(), 1);
+    assert_eq!((clock.causes[0].number, clock.causes[0].set_at), (1, 0.0));
+    assert_eq!(clock.causes[0].hazard, Hazard::Constant(0.5));
+    session.push(Command::Pause { clock: 0, now: 1.0 });
+    session.push(set(0, 0.25, 1.0));
+    session.push(set(1, 0.75, 2.0));
+    let clock = session.run().clock(0).cloned().expect("clock 0 is present");
+    assert!(!clock.active);
+    let causes: Vec<_> = clock
+        .causes
+        .iter()
+        .map(|cause| (cause.number, cause.set_at))
+        .collect();
+    assert_eq!(causes, [(0, 1.0), (1, 2.0)]);
+    assert_eq!((clock.events.made, clock.events.withdrawn), (1, 1));
+    session.push(Command::Remove { clock: 0, cause: 0 });
+    session.push(reschedule(2.0));
+    session.push(Command::Deliver);
+    let run = session.run();
+    let clock = run.clock(0).expect("clock 0 is present");
+    assert!(!clock.active);
+    assert_eq!(clock.causes.len(), 1);
+    assert_eq!((clock.events.made, clock.events.delivered), (2, 1));
+    assert_eq!(run.clock(1), None);
+}
+
+#[test]
+fn reschedule_without_an_event_leaves_the_clock_active() {
+    let mut session = row_9();
+    session.push(Command::Remove { clock: 0, cause: 1 });
+    session.push(reschedule(1.0));
+    let run = session.run();
+    let clock = run.clock(0).expect("clock 0 is present");
+    assert!(clock.active && clock.events.pending.is_none());
+    assert_eq!(clock.events.withdrawn, 1);
+}
+
+#[test]
+fn censored_events_and_other_clocks() {
+    let mut session = Session::new([2.0]);
+    let entity = Some(Entity {
+        index: 4,
+        generation: 1,
+    });
+    let (policy, tie) = (Policy::Restart, Tie::HighestCause);
+    session.push(Command::Create {
+        clock: 15,
+        process: 1,
+        policy,
+        tie,
+        scale: -1.0,
+        entity,
+    });
+    session.push(Command::Reschedule {
+        clock: 15,
+        now: 1.0,
+        censor: Some(2.5),
+        priority: -3,
+    });
+    let run = session.run();
+    let clock = run.clock(15).expect("clock 15 is present");
+    assert_eq!((clock.scale, clock.entity, clock.tie), (1.0, entity, tie));
+    let event = run.pending()[0];
+    assert_eq!(
+        (event.clock, event.cause, event.censored),
+        (15, NO_CAUSE, true)
+    );
+    assert_eq!(
+        (event.scheduled_at, event.delta, event.ticks),
+        (1.0, 1.5, 3)
+    );
+    assert_eq!((event.priority, event.index), (-3, 0));
+}
+
+#[test]
+fn an_empty_session() {
+    let run = Session::default().run();
+    assert_eq!((run.end_number(), run.bytes_read, run.draws), (0, 0, 0));
+    assert!(run.steps.is_empty() && run.applied.is_empty() && run.clocks.is_empty());
+}
