@@ -3,9 +3,9 @@
 use crate::formats;
 use cases::evaluations::EvaluationCase;
 use cases::samples::SampleCase;
+use cases::words::{float, hazard, hex};
 use reference::evaluation::OPERATIONS;
-use reference::fields::{Reader, is_zero_bits};
-use reference::hazard::{Hazard, Pair};
+use reference::fields::Reader;
 use reference::request::Record;
 
 pub fn evaluation_case(case: &EvaluationCase) -> String {
@@ -43,27 +43,6 @@ fn record(record: &Record) -> String {
     )
 }
 
-/// Pairs that are all zero are left out.
-fn hazard(hazard: &Hazard) -> String {
-    let filled = |pair: &&Pair| !is_zero_bits(pair.end) || !is_zero_bits(pair.rate);
-    let pairs = hazard.pairs.iter().filter(filled);
-    let pairs: Vec<String> = pairs
-        .map(|pair| format!("({}, {})", float(pair.end), float(pair.rate)))
-        .collect();
-    let (kind, first, count) = (hazard.kind, float(hazard.first), hazard.count);
-    let pairs = pairs.join(" ");
-    format!("kind {kind}, first {first}, count {count}, pairs {pairs}")
-}
-
-/// Decimal digits that give the float back; the bits of a NaN.
-fn float(value: f64) -> String {
-    if value.is_nan() {
-        format!("NaN {:016x}", value.to_bits())
-    } else {
-        format!("{value:?}")
-    }
-}
-
 pub fn evaluation(bytes: &[u8]) -> String {
     let mut reader = Reader(bytes);
     let (number, found) = (reader.u8(), reader.u8());
@@ -82,9 +61,4 @@ pub fn sample(bytes: &[u8]) -> String {
         "number {number}, event {event}, censored {censored}, cause {cause}, delta {delta}, \
          position after {after} [{hex}]"
     )
-}
-
-fn hex(bytes: &[u8]) -> String {
-    let bytes: Vec<String> = bytes.iter().map(|byte| format!("{byte:02x}")).collect();
-    bytes.join(" ")
 }

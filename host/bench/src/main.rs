@@ -1,10 +1,12 @@
-//! `bench` times the Rattle library against the unchanged Rust.
+//! `bench` times the Rattle libraries against the unchanged Rust: evaluations, sampler, engine. `bench --engine`: the engine alone.
 //! `bench --compare SEED COUNT` compares their answers on random cases.
 
 #![deny(unsafe_code)]
 
 mod compare;
 mod describe;
+mod engine_report;
+mod engine_workloads;
 mod formats;
 mod probe;
 mod report;
@@ -21,6 +23,11 @@ fn main() -> ExitCode {
     match words.as_slice() {
         [] => {
             report::print();
+            engine_report::print();
+            ExitCode::SUCCESS
+        }
+        ["--engine"] => {
+            engine_report::print();
             ExitCode::SUCCESS
         }
         ["--compare", seed, count] => match (seed.parse(), count.parse()) {
@@ -45,6 +52,6 @@ fn compare(seed: u64, count: u64) -> ExitCode {
 }
 
 fn usage() -> ExitCode {
-    eprintln!("usage: bench [--compare SEED COUNT]");
+    eprintln!("usage: bench [--engine | --compare SEED COUNT]");
     ExitCode::from(2)
 }

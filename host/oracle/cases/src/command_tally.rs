@@ -40,7 +40,7 @@ pub fn sessions(sessions: &[Session]) -> Tally {
 }
 
 /// How many commands were answered; none where the result was not written.
-fn answered(outcome: &Outcome) -> usize {
+pub fn answered(outcome: &Outcome) -> usize {
     if outcome.number == Refusal::InvalidBuffers.number() {
         0
     } else {
@@ -105,7 +105,7 @@ pub fn decided_by_tie(clock: &SurvivalClock, command: &Command, answer: &Answer)
 }
 
 /// What decides which of the queued requests is delivered.
-fn delivered_by(state: &State) -> &'static str {
+pub fn delivered_by(state: &State) -> &'static str {
     let mut orders: Vec<_> = state.scheduler.queue.iter().map(|q| q.order()).collect();
     orders.sort_unstable();
     match orders.as_slice() {

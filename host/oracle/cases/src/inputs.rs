@@ -33,7 +33,7 @@ pub fn inputs(random: &mut Random) -> Inputs {
 }
 
 /// The commands of a list; the last part may be cut or unknown.
-fn split(mut bytes: &[u8]) -> Vec<&[u8]> {
+pub fn split(mut bytes: &[u8]) -> Vec<&[u8]> {
     let mut commands = Vec::new();
     while let Some(code) = bytes.first() {
         let read = width(*code).unwrap_or(bytes.len()).min(bytes.len());

@@ -14,10 +14,10 @@ use reference::fields::time_in_range;
 use reference::state::{State, open};
 
 /// What a session is like; shares are in percent.
-struct Plan {
-    style: Style,
+pub(crate) struct Plan {
+    pub style: Style,
     /// Clocks below this number are named.
-    clocks: u64,
+    pub clocks: u64,
     commands: usize,
     undo: u64,
     deliver: u64,
@@ -30,7 +30,7 @@ struct Plan {
     channels: usize,
 }
 
-fn plan(random: &mut Random) -> Plan {
+pub(crate) fn plan(random: &mut Random) -> Plan {
     Plan {
         style: if random.chance(50) {
             Style::Simple
@@ -49,29 +49,32 @@ fn plan(random: &mut Random) -> Plan {
 }
 
 /// The engine that the commands so far have been given to.
-struct Builder {
-    state: State,
-    journal: Vec<u8>,
-    stream: Vec<u8>,
-    commands: Vec<u8>,
+pub(crate) struct Builder {
+    pub state: State,
+    pub journal: Vec<u8>,
+    pub stream: Vec<u8>,
+    pub commands: Vec<u8>,
+    /// No more bytes of commands than this.
+    limit: usize,
     now: f64,
 }
 
 impl Builder {
-    fn new(journal: usize, stream: Vec<u8>) -> Self {
+    pub fn new(journal: usize, stream: Vec<u8>, limit: usize) -> Self {
         let mut journal = vec![0; journal];
         Self {
             state: open(&mut journal),
             journal,
             stream,
             commands: Vec::new(),
+            limit,
             now: 0.0,
         }
     }
 
     /// Adds a command; whether there was room for it.
-    fn give(&mut self, command: &Command) -> bool {
-        let has_room = self.commands.len() + command.width() <= BUFFER_LIMIT;
+    pub fn give(&mut self, command: &Command) -> bool {
+        let has_room = self.commands.len() + command.width() <= self.limit;
         if has_room {
             let bytes = command.to_bytes();
             execute(&mut self.state, &mut self.journal, &self.stream, &bytes);
@@ -80,6 +83,18 @@ impl Builder {
             self.now = time.unwrap_or(self.now);
         }
         has_room
+    }
+
+    /// A clock that is present, as the next command finds it.
+    pub fn view(&self, name: u8, style: Style) -> Option<View<'_>> {
+        let clock = self.state.clocks[usize::from(name)].as_ref()?;
+        Some(View {
+            name,
+            clock,
+            style,
+            now: self.now,
+            due: self.due(),
+        })
     }
 
     fn due(&self) -> Option<f64> {
@@ -93,7 +108,7 @@ pub fn session(random: &mut Random) -> Session {
     let stream = stream(random, plan.style);
     let journal = journal_length(random);
     let most = plan.commands.min(8 + journal / 12);
-    let mut builder = Builder::new(journal, stream);
+    let mut builder = Builder::new(journal, stream, BUFFER_LIMIT);
     if random.chance(50) {
         give_all_clocks(random, &plan, &mut builder);
     }
@@ -118,13 +133,13 @@ pub fn session(random: &mut Random) -> Session {
 }
 
 /// CREATE for each clock of the plan, so that many are queued at once.
-fn give_all_clocks(random: &mut Random, plan: &Plan, builder: &mut Builder) {
+pub(crate) fn give_all_clocks(random: &mut Random, plan: &Plan, builder: &mut Builder) {
     for name in 0..plan.clocks {
         builder.give(&create(random, plan, name as u8));
     }
 }
 
-fn next(random: &mut Random, plan: &Plan, builder: &Builder) -> Command {
+pub(crate) fn next(random: &mut Random, plan: &Plan, builder: &Builder) -> Command {
     let (applied, queue) = (builder.state.applied_length, &builder.state.scheduler.queue);
     if random.chance(plan.undo) && (applied > 0 || random.chance(10)) {
         return Command::Undo;
@@ -133,23 +148,14 @@ fn next(random: &mut Random, plan: &Plan, builder: &Builder) -> Command {
         return Command::Deliver;
     }
     let name = name(random, plan, builder);
-    match &builder.state.clocks[usize::from(name)] {
+    match builder.view(name, plan.style) {
         None if random.chance(95) => create(random, plan, name),
         Some(_) if random.chance(2) => create(random, plan, name),
         None => Command::Pause {
             clock: name,
             now: builder.now,
         },
-        Some(clock) => {
-            let view = View {
-                name,
-                clock,
-                style: plan.style,
-                now: builder.now,
-                due: builder.due(),
-            };
-            aimed(random, plan, &view)
-        }
+        Some(view) => aimed(random, plan, &view),
     }
 }
 

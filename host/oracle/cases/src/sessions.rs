@@ -27,6 +27,7 @@ pub struct Session {
 }
 
 /// What the batch run returns and leaves.
+#[derive(Clone, Debug, PartialEq)]
 pub struct Outcome {
     pub number: u8,
     pub answers: Vec<u8>,
@@ -41,13 +42,20 @@ pub struct Step {
     pub answer: Answer,
 }
 
+/// A batch run: commands, stream, journal, answers, result; the number that ended it.
+pub type Run = fn(&[u8], &[u8], &mut [u8], &mut [u8], &mut [u8]) -> u8;
+
 impl Session {
     pub fn expected(&self) -> Outcome {
+        self.through(batch::run)
+    }
+
+    pub fn through(&self, run: Run) -> Outcome {
         let mut answers = vec![ANSWERS_BEFORE; self.answers];
         let mut journal = vec![JOURNAL_BEFORE; self.journal];
         let mut result = vec![RESULT_BEFORE; self.result];
         let (commands, stream) = (&self.commands, &self.stream);
-        let number = batch::run(commands, stream, &mut journal, &mut answers, &mut result);
+        let number = run(commands, stream, &mut journal, &mut answers, &mut result);
         Outcome {
             number,
             answers,

@@ -1,10 +1,10 @@
 //! The batch run (document 01's run call): a whole list of commands given to a newly opened engine.
 
-use crate::answer::ANSWER_BYTES;
+use crate::answer::{ANSWER_BYTES, Answer};
 use crate::command::width;
 use crate::execute::execute;
 use crate::refusal::Refusal;
-use crate::state::open;
+use crate::state::{State, open};
 use kairo_ecs_rng::THRESHOLD_BYTES;
 
 /// Commands answered u64, bytes read u64.
@@ -19,10 +19,25 @@ pub fn run(
     answers: &mut [u8],
     result: &mut [u8],
 ) -> u8 {
+    run_with(execute, commands, stream, journal, answers, result)
+}
+
+/// What answers one input: state, journal, stream, input.
+pub type Execute = fn(&mut State, &mut [u8], &[u8], &[u8]) -> Answer;
+
+/// The batch run over any way to answer one input.
+pub fn run_with(
+    execute: Execute,
+    commands: &[u8],
+    stream: &[u8],
+    journal: &mut [u8],
+    answers: &mut [u8],
+    result: &mut [u8],
+) -> u8 {
     if !stream.len().is_multiple_of(THRESHOLD_BYTES) || result.len() != RESULT_BYTES {
         return Refusal::InvalidBuffers.number();
     }
-    let progress = answer_all(commands, stream, journal, answers);
+    let progress = answer_all(execute, commands, stream, journal, answers);
     result[..8].copy_from_slice(&progress.answered.to_le_bytes());
     result[8..].copy_from_slice(&progress.read.to_le_bytes());
     progress.end
@@ -35,7 +50,13 @@ struct Progress {
     end: u8,
 }
 
-fn answer_all(commands: &[u8], stream: &[u8], journal: &mut [u8], answers: &mut [u8]) -> Progress {
+fn answer_all(
+    execute: Execute,
+    commands: &[u8],
+    stream: &[u8],
+    journal: &mut [u8],
+    answers: &mut [u8],
+) -> Progress {
     let mut state = open(journal);
     let mut progress = Progress::default();
     let mut room = answers.chunks_exact_mut(ANSWER_BYTES);

@@ -38,8 +38,10 @@ pub fn set_refusal(
     set: &Set,
     stream: &DeterministicStream,
 ) -> Result<(), Refusal> {
-    let draws = usize::from(draw_is_due(clock, set));
-    draw_refusal(stream, draws).map_or(Ok(()), Err)
+    match draw_refusal(stream, 1) {
+        Some(refusal) if draw_is_due(clock, set) => Err(refusal),
+        _ => Ok(()),
+    }
 }
 
 /// Whether the Rust would draw: tried on a copy of the clock and a stream of one threshold.

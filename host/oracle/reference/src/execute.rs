@@ -23,20 +23,47 @@ fn attempt(
     stream: &[u8],
     input: &[u8],
 ) -> Result<Answer, Refusal> {
-    let mut draws = DeterministicStream::new(stream, state.position);
-    validate(state, draws.len(), journal.len())?;
+    let thresholds = DeterministicStream::new(stream, 0).len();
+    validate(state, thresholds, journal.len())?;
     let command = Command::read(input)?;
-    field_refusal(&command).map_or(Ok(()), Err)?;
     if command == Command::Undo {
         return undo(state, journal, stream);
     }
-    clock_refusal(state, &command)?;
-    queue_refusal(state, &command)?;
-    journal_refusal(state, journal, &command)?;
-    draw_refusal(state, &draws, &command)?;
-    let answer = apply(state, &mut draws, &command);
+    append(state, journal, stream, &command, input)
+}
+
+/// Performs a command but UNDO on a valid state and copies its bytes into the free part of the journal.
+pub fn append(
+    state: &mut State,
+    journal: &mut [u8],
+    stream: &[u8],
+    command: &Command,
+    input: &[u8],
+) -> Result<Answer, Refusal> {
+    let start = state.applied_length as usize;
+    let answer = perform(state, journal.len(), stream, command)?;
+    let bytes = &input[..command.width()];
+    journal[start..][..bytes.len()].copy_from_slice(bytes);
+    Ok(answer)
+}
+
+/// What a command but UNDO does to a valid state, its applied length among it, and its refusals from 4 on.
+/// The journal's bytes are left to the caller.
+pub fn perform(
+    state: &mut State,
+    journal_length: usize,
+    stream: &[u8],
+    command: &Command,
+) -> Result<Answer, Refusal> {
+    let mut draws = DeterministicStream::new(stream, state.position);
+    field_refusal(command).map_or(Ok(()), Err)?;
+    clock_refusal(state, command)?;
+    queue_refusal(state, command)?;
+    journal_refusal(state, journal_length, command)?;
+    draw_refusal(state, &draws, command)?;
+    let answer = apply(state, &mut draws, command);
     state.position = draws.position();
-    append(state, journal, &input[..command.width()]);
+    state.applied_length += command.width() as u64;
     Ok(answer)
 }
 
@@ -62,8 +89,8 @@ fn queue_refusal(state: &State, command: &Command) -> Result<(), Refusal> {
 }
 
 /// By 14.
-fn journal_refusal(state: &State, journal: &[u8], command: &Command) -> Result<(), Refusal> {
-    let free = journal.len() as u64 - state.applied_length;
+fn journal_refusal(state: &State, journal_length: usize, command: &Command) -> Result<(), Refusal> {
+    let free = journal_length as u64 - state.applied_length;
     require(command.width() as u64 <= free, Refusal::JournalFull)
 }
 
@@ -99,13 +126,6 @@ fn deliver(state: &mut State) -> Answer {
     let request = state.scheduler.deliver().expect("a request in the queue");
     let owner = &mut state.clocks[usize::from(request.clock)];
     clock::deliver(owner.as_mut().expect("a clock that is present"), &request)
-}
-
-/// Copies the command into the free part of the journal.
-fn append(state: &mut State, journal: &mut [u8], command: &[u8]) {
-    let start = state.applied_length as usize;
-    journal[start..][..command.len()].copy_from_slice(command);
-    state.applied_length += command.len() as u64;
 }
 
 fn present(state: &State, name: u8) -> &SurvivalClock {

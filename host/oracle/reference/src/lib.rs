@@ -20,4 +20,5 @@ pub mod request;
 pub mod sampler;
 pub mod state;
 pub mod undo;
+pub mod unvalidated;
 pub mod validation;

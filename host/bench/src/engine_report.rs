@@ -1,0 +1,154 @@
+//! The benchmark of the engine: the batch run, opening, and one undo; both sides in one run, first held to the same bytes.
+
+use crate::engine_workloads::{self as workloads, EngineWorkload};
+use crate::timing::best;
+use cases::sessions::Run;
+use reference::batch::{self, RESULT_BYTES};
+use reference::unvalidated;
+use std::hint::black_box;
+
+/// The oracle as written, the Rust without what a run from opening never needs, Rattle.
+const SIDES: [Run; 3] = [batch::run, unvalidated::run, olgaemuri_sys::run];
+
+const OPENED_JOURNAL: usize = 1 << 20;
+const SESSION_COMMANDS: usize = 1000;
+/// UNDOs in a thousand commands.
+const SOME_UNDOS: u64 = 10;
+/// UNDO and the last command again, so often.
+const UNDO_PAIRS: usize = 8;
+
+const HEAD: &str = "
+The engine's batch run. All sides are given the same bytes and leave the same bytes; nothing is cleared between runs, and
+the journal of a run was written by the run before it.
+Oracle: document 01's rules over the Rust, as written: every state validated, UNDO with a journal of its own and a
+comparison of states. Rust: the same without these, which no run from opening needs; UNDO replays straight from the journal.
+Rattle: no state is validated (proved needless); UNDO compares states. ratio = the other's time / Rattle's.
+An undo's time is a run of the commands and 8 times UNDO and the last command, less a run of the commands alone, by 8.";
+
+pub fn print() {
+    println!("{HEAD}");
+    println!(
+        "{:<46}{:>11}{:>10}{:>10}{:>8}{:>7}",
+        "", "Oracle", "Rust", "Rattle", "Oracle/", "Rust/"
+    );
+    print_sessions();
+    print_opening();
+    print_undos();
+}
+
+fn print_sessions() {
+    let sessions = [
+        (
+            "mixed session, no UNDO",
+            workloads::mixed(SESSION_COMMANDS, 0),
+        ),
+        (
+            "mixed session, 1 UNDO in 100",
+            workloads::mixed(SESSION_COMMANDS, SOME_UNDOS),
+        ),
+    ];
+    for (name, workload) in sessions {
+        let times = checked_times(&workload).map(|ns| ns / workload.command_count() as f64);
+        row(&format!("{name}, ns per command"), times);
+        let [oracle, rust, rattle] = times.map(|ns| 1e9 / ns);
+        println!(
+            "{:<46}{oracle:>11.0}{rust:>10.0}{rattle:>10.0}",
+            "    commands per second"
+        );
+    }
+}
+
+/// An empty list of commands: the journal is filled with zero, and the result written. Beside it a memset of the journal alone.
+fn print_opening() {
+    let workload = EngineWorkload::opening(OPENED_JOURNAL);
+    hold_to_same_bytes(&workload);
+    let [oracle, rust, rattle] = SIDES;
+    let [oracle, rust, rattle, memset] = times([oracle, rust, rattle, memset], &workload);
+    row(
+        "opening a journal of 2^20 bytes, ns",
+        [oracle, rust, rattle],
+    );
+    println!(
+        "{:<46}{memset:>11.0}   Rattle / memset {:.2}",
+        "    memset of 2^20 bytes, ns",
+        rattle / memset
+    );
+}
+
+fn memset(_: &[u8], _: &[u8], journal: &mut [u8], _: &mut [u8], _: &mut [u8]) -> u8 {
+    journal.fill(0);
+    0
+}
+
+/// A run with the pairs less a run without them, for one pair.
+fn print_undos() {
+    for count in [100, 1000, 5000] {
+        let without = checked_times(&workloads::undone(count, 0));
+        let with = checked_times(&workloads::undone(count, UNDO_PAIRS));
+        let one = [0, 1, 2].map(|side| (with[side] - without[side]) / UNDO_PAIRS as f64);
+        row(&format!("one UNDO after {count} applied commands, ns"), one);
+    }
+}
+
+fn row(name: &str, [oracle, rust, rattle]: [f64; 3]) {
+    println!(
+        "{name:<46}{oracle:>11.0}{rust:>10.0}{rattle:>10.0}{:>8.2}{:>7.2}",
+        oracle / rattle,
+        rust / rattle
+    );
+}
+
+/// Every side ends at the list's end and leaves the same bytes.
+fn hold_to_same_bytes(workload: &EngineWorkload) {
+    let [oracle, rust, rattle] = SIDES.map(|side| {
+        let mut buffers = Buffers::new(workload);
+        assert_eq!(buffers.run(side, workload), 0, "a run to the list's end");
+        buffers
+    });
+    assert!(oracle == rust && oracle == rattle, "the sides differ");
+}
+
+fn checked_times(workload: &EngineWorkload) -> [f64; 3] {
+    hold_to_same_bytes(workload);
+    times(SIDES, workload)
+}
+
+/// Nanoseconds of a whole run, for each side.
+fn times<const N: usize>(sides: [Run; N], workload: &EngineWorkload) -> [f64; N] {
+    let mut runs = sides.map(|side| {
+        let mut buffers = Buffers::new(workload);
+        move || {
+            black_box(buffers.run(side, workload));
+        }
+    });
+    best(1, runs.each_mut().map(|run| run as &mut dyn FnMut()))
+}
+
+#[derive(PartialEq)]
+struct Buffers {
+    journal: Vec<u8>,
+    answers: Vec<u8>,
+    result: Vec<u8>,
+}
+
+impl Buffers {
+    fn new(workload: &EngineWorkload) -> Self {
+        let [journal, answers, result] =
+            [workload.journal, workload.answers, RESULT_BYTES].map(|length| vec![0xA5; length]);
+        Self {
+            journal,
+            answers,
+            result,
+        }
+    }
+
+    fn run(&mut self, side: Run, workload: &EngineWorkload) -> u8 {
+        side(
+            black_box(&workload.commands),
+            &workload.stream,
+            black_box(&mut self.journal),
+            &mut self.answers,
+            &mut self.result,
+        )
+    }
+}
