@@ -1,7 +1,8 @@
 //! Random evaluations and samples through both sides, up to the first difference.
 
+use crate::bare::{self, Sides};
 use crate::describe;
-use crate::formats::{self, EVALUATION_BYTES, Evaluate, POSITION_BYTES, SAMPLE_BYTES};
+use crate::formats::{self, EVALUATION_BYTES, POSITION_BYTES, SAMPLE_BYTES};
 use crate::probe;
 use cases::chosen;
 use cases::evaluations::EvaluationCase;
@@ -10,12 +11,6 @@ use cases::samples::SampleCase;
 
 /// What stands in a buffer before a call, so that a byte left out is seen.
 const FILLED: u8 = 0xA5;
-
-/// The second is compared on accepted cases.
-const CALLS: [(&str, Evaluate); 2] = [
-    ("probe_evaluate", probe::evaluate),
-    ("probe_evaluate_unchecked", probe::evaluate_unchecked),
-];
 
 /// The chosen cases, then as many random evaluations and samples as asked for.
 pub fn run(seed: u64, count: u64) -> Result<(), String> {
@@ -40,25 +35,33 @@ fn evaluation(case: &EvaluationCase) -> Result<(), String> {
     let mut hazard = Vec::new();
     case.hazard.encode(&mut hazard);
     let point = formats::point(case.t, case.w);
-    let calls = if answer.number == 0 {
-        &CALLS[..]
-    } else {
-        &CALLS[..1]
-    };
-    for (name, call) in calls {
-        let mut out = [FILLED; EVALUATION_BYTES];
-        let done = call(case.operation, &hazard, &point, &mut out);
-        if done != 1 || out != expected {
-            let sides = [expected, out].map(|bytes| describe::evaluation(&bytes));
-            return Err(difference(
-                name,
-                &describe::evaluation_case(case),
-                done,
-                sides,
-            ));
-        }
+    let mut out = [FILLED; EVALUATION_BYTES];
+    let done = probe::evaluate(case.operation, &hazard, &point, &mut out);
+    if done == 1 && out == expected {
+        return if answer.number == 0 {
+            bare_evaluation(case)
+        } else {
+            Ok(())
+        };
     }
-    Ok(())
+    let sides = [expected, out].map(|bytes| describe::evaluation(&bytes));
+    let case = describe::evaluation_case(case);
+    Err(difference("probe_evaluate", &case, done, sides))
+}
+
+/// An accepted case through the evaluations without checks.
+fn bare_evaluation(case: &EvaluationCase) -> Result<(), String> {
+    let sides = Sides::new(case.operation, &case.hazard);
+    let points = [(case.t, case.w)];
+    let (mut rust, mut rattle) = ([0.0], [0.0]);
+    sides.rust(&points, &mut rust);
+    sides.rattle(&points, &mut rattle);
+    if bare::same(rust[0], rattle[0]) {
+        return Ok(());
+    }
+    let case = describe::evaluation_case(case);
+    let sides = [rust[0], rattle[0]].map(|value| value.to_string());
+    Err(difference("an evaluation without checks", &case, 1, sides))
 }
 
 /// `left_over`: under 8 bytes after the last whole threshold.

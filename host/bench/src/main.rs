@@ -3,6 +3,7 @@
 
 #![deny(unsafe_code)]
 
+mod bare;
 mod compare;
 mod describe;
 mod engine_report;

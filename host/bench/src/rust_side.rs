@@ -18,15 +18,6 @@ pub fn evaluate(operation: u8, hazard: &[u8], points: &[u8], out: &mut [u8]) -> 
     })
 }
 
-/// The hazard is built once, then the Rust's own evaluation runs at each point.
-pub fn evaluate_unchecked(operation: u8, hazard: &[u8], points: &[u8], out: &mut [u8]) -> u64 {
-    let rate = Hazard::decode(hazard).build();
-    each_point(points, out, |t, w| {
-        let value = evaluation::evaluate_unchecked(operation, &rate, t, w);
-        Evaluation::of(Ok(value))
-    })
-}
-
 fn each_point(points: &[u8], out: &mut [u8], call: impl Fn(f64, f64) -> Evaluation) -> u64 {
     let points = points.chunks_exact(POINT_BYTES);
     let mut done = 0;

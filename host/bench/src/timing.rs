@@ -2,8 +2,8 @@
 
 use std::time::{Duration, Instant};
 
-pub const RUNS: usize = 15;
-const RUN_TIME: Duration = Duration::from_millis(10);
+pub const RUNS: usize = 150;
+const RUN_TIME: Duration = Duration::from_millis(1);
 
 /// Nanoseconds per call of each side. A batch makes `calls` calls.
 pub fn best<const N: usize>(calls: usize, mut sides: [&mut dyn FnMut(); N]) -> [f64; N] {
