@@ -154,7 +154,23 @@ pub extern "C" fn probe_evaluate(op: u8, hazard: &[u8], points: &[u8], out: &mut
     count as u64
 }
 
-// The three evaluations on numbers, without checks, for a driver that makes them one by one.
+// A checked evaluation on numbers; a NaN where it is refused or there is no wait.
+#[no_mangle]
+pub extern "C" fn probe_evaluate_numbers<'a>(
+    op: u8,
+    kind: u8,
+    first: f64,
+    count: u8,
+    ends: &'a [f64; 8],
+    rates: &'a [f64; 8],
+    t: f64,
+    w: f64,
+) -> f64 {
+    let e = evaluate(op, kind, first, count, ends, rates, t, w);
+    if e.found { e.value } else { 0.0 / 0.0 }
+}
+
+// The three evaluations on numbers, without checks.
 #[no_mangle]
 pub extern "C" fn probe_hazard_at<'a>(
     kind: u8,

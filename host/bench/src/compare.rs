@@ -1,8 +1,8 @@
 //! Random evaluations and samples through both sides, up to the first difference.
 
-use crate::bare::{self, Sides};
 use crate::describe;
 use crate::formats::{self, EVALUATION_BYTES, POSITION_BYTES, SAMPLE_BYTES};
+use crate::numbers::{self, SIDES, Sides};
 use crate::probe;
 use cases::chosen;
 use cases::evaluations::EvaluationCase;
@@ -39,7 +39,7 @@ fn evaluation(case: &EvaluationCase) -> Result<(), String> {
     let done = probe::evaluate(case.operation, &hazard, &point, &mut out);
     if done == 1 && out == expected {
         return if answer.number == 0 {
-            bare_evaluation(case)
+            on_numbers(case)
         } else {
             Ok(())
         };
@@ -49,19 +49,22 @@ fn evaluation(case: &EvaluationCase) -> Result<(), String> {
     Err(difference("probe_evaluate", &case, done, sides))
 }
 
-/// An accepted case through the evaluations without checks.
-fn bare_evaluation(case: &EvaluationCase) -> Result<(), String> {
+/// An accepted case through the evaluations on numbers.
+fn on_numbers(case: &EvaluationCase) -> Result<(), String> {
     let sides = Sides::new(case.operation, &case.hazard);
-    let points = [(case.t, case.w)];
-    let (mut rust, mut rattle) = ([0.0], [0.0]);
-    sides.rust(&points, &mut rust);
-    sides.rattle(&points, &mut rattle);
-    if bare::same(rust[0], rattle[0]) {
-        return Ok(());
+    let [rust, others @ ..] = SIDES.map(|side| {
+        let mut out = [0.0];
+        side(&sides, &[(case.t, case.w)], &mut out);
+        out[0]
+    });
+    match others.iter().find(|value| !numbers::same(rust, **value)) {
+        None => Ok(()),
+        Some(other) => {
+            let case = describe::evaluation_case(case);
+            let values = [rust, *other].map(|value| value.to_string());
+            Err(difference("an evaluation on numbers", &case, 1, values))
+        }
     }
-    let case = describe::evaluation_case(case);
-    let sides = [rust[0], rattle[0]].map(|value| value.to_string());
-    Err(difference("an evaluation without checks", &case, 1, sides))
 }
 
 /// `left_over`: under 8 bytes after the last whole threshold.

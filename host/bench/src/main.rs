@@ -3,12 +3,12 @@
 
 #![deny(unsafe_code)]
 
-mod bare;
 mod compare;
 mod describe;
 mod engine_report;
 mod engine_workloads;
 mod formats;
+mod numbers;
 mod probe;
 mod report;
 mod rust_side;

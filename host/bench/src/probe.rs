@@ -19,6 +19,17 @@ mod raw {
             out_len: usize,
         ) -> u64;
 
+        pub fn probe_evaluate_numbers(
+            operation: u8,
+            kind: u8,
+            first: f64,
+            count: u8,
+            ends: &[f64; PAIRS],
+            rates: &[f64; PAIRS],
+            t: f64,
+            w: f64,
+        ) -> f64;
+
         pub fn probe_hazard_at(
             kind: u8,
             first: f64,
@@ -76,11 +87,11 @@ pub fn evaluate(operation: u8, hazard: &[u8], points: &[u8], out: &mut [u8]) -> 
     }
 }
 
-/// A hazard's fields as the unchecked evaluations take them.
+/// A hazard's fields as numbers.
 pub struct Fields {
     kind: u8,
     first: f64,
-    count: u64,
+    count: u8,
     ends: [f64; PAIRS],
     rates: [f64; PAIRS],
 }
@@ -90,29 +101,45 @@ impl Fields {
         Self {
             kind: hazard.kind,
             first: hazard.first,
-            count: u64::from(hazard.count),
+            count: hazard.count,
             ends: hazard.pairs.map(|pair| pair.end),
             rates: hazard.pairs.map(|pair| pair.rate),
         }
     }
 }
 
-pub fn hazard_at(h: &Fields, t: f64) -> f64 {
+/// A checked evaluation; a NaN where it is refused or there is no wait.
+pub fn evaluate_numbers(operation: u8, h: &Fields, t: f64, w: f64) -> f64 {
     // SAFETY: numbers, and references to arrays of the length that the function takes.
-    unsafe { raw::probe_hazard_at(h.kind, h.first, h.count, &h.ends, &h.rates, t) }
+    unsafe {
+        raw::probe_evaluate_numbers(operation, h.kind, h.first, h.count, &h.ends, &h.rates, t, w)
+    }
+}
+
+pub fn hazard_at(h: &Fields, t: f64) -> f64 {
+    // SAFETY: as in `evaluate_numbers`.
+    unsafe { raw::probe_hazard_at(h.kind, h.first, u64::from(h.count), &h.ends, &h.rates, t) }
 }
 
 pub fn cumulative_hazard(h: &Fields, t: f64) -> f64 {
-    // SAFETY: as in `hazard_at`.
-    unsafe { raw::probe_cumulative_hazard(h.kind, h.first, h.count, &h.ends, &h.rates, t) }
+    // SAFETY: as in `evaluate_numbers`.
+    unsafe {
+        raw::probe_cumulative_hazard(h.kind, h.first, u64::from(h.count), &h.ends, &h.rates, t)
+    }
 }
 
 /// A NaN where there is no wait.
 pub fn invert_cumulative_hazard(h: &Fields, t_start: f64, target_w: f64) -> f64 {
-    // SAFETY: as in `hazard_at`.
+    // SAFETY: as in `evaluate_numbers`.
     unsafe {
         raw::probe_invert_cumulative_hazard(
-            h.kind, h.first, h.count, &h.ends, &h.rates, t_start, target_w,
+            h.kind,
+            h.first,
+            u64::from(h.count),
+            &h.ends,
+            &h.rates,
+            t_start,
+            target_w,
         )
     }
 }

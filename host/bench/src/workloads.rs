@@ -1,6 +1,5 @@
 //! What is timed: points and hazards for the evaluations, causes and thresholds for the sampler.
 
-use crate::formats;
 use cases::floats::{Style, positive};
 use cases::random::Random;
 use reference::hazard::{CONSTANT, GOMPERTZ, Hazard};
@@ -27,14 +26,6 @@ pub struct EvaluationWorkload {
     pub hazard: Hazard,
 }
 
-impl EvaluationWorkload {
-    pub fn encoded(&self) -> Vec<u8> {
-        let mut out = Vec::new();
-        self.hazard.encode(&mut out);
-        out
-    }
-}
-
 pub fn evaluations() -> [EvaluationWorkload; 3] {
     [
         ("constant", Hazard::single_rate(CONSTANT, 0.3)),
@@ -49,11 +40,6 @@ pub fn points() -> Vec<(f64, f64)> {
     let mut random = Random::new(SEED);
     let mut number = || positive(&mut random, Style::Moderate);
     (0..POINTS).map(|_| (number(), number())).collect()
-}
-
-pub fn encoded_points() -> Vec<u8> {
-    let point = |(t, w)| formats::point(t, w);
-    points().into_iter().flat_map(point).collect()
 }
 
 pub struct SampleWorkload {

@@ -1,16 +1,28 @@
-//! The evaluations alone, without checks: one driver calls either side at each point by a pointer, and each side makes one call that is not
-//! inlined: Rattle's across the C boundary, the Rust's to its method.
+//! The evaluations on numbers, with and without their checks: one driver calls either side at each point by a pointer, and each side makes one call
+//! that is not inlined: Rattle's across the C boundary, the Rust's to a function here.
 
 use crate::probe::{self, Fields};
 use kairo_ecs_rng::HazardRate;
-use reference::evaluation::OPERATIONS;
+use reference::evaluation::{self, OPERATIONS};
 use reference::hazard::Hazard;
 use std::hint::black_box;
 
-/// Hazard, t, w; a NaN where there is no wait.
+/// Hazard, t, w; a NaN where it is refused or there is no wait.
 type Call<H> = fn(&H, f64, f64) -> f64;
 
-/// By operation number.
+/// By operation number. The Rust side checks by document 01's rules, builds the Rust's hazard and calls it.
+const CHECKED_RUST: [Call<Hazard>; OPERATIONS.len()] = [
+    |hazard, t, w| checked(0, hazard, t, w),
+    |hazard, t, w| checked(1, hazard, t, w),
+    |hazard, t, w| checked(2, hazard, t, w),
+];
+
+const CHECKED_RATTLE: [Call<Fields>; OPERATIONS.len()] = [
+    |hazard, t, w| probe::evaluate_numbers(0, hazard, t, w),
+    |hazard, t, w| probe::evaluate_numbers(1, hazard, t, w),
+    |hazard, t, w| probe::evaluate_numbers(2, hazard, t, w),
+];
+
 const RUST: [Call<HazardRate>; OPERATIONS.len()] = [
     |hazard, t, _| hazard_at(hazard, t),
     |hazard, t, _| cumulative_hazard(hazard, t),
@@ -22,6 +34,12 @@ const RATTLE: [Call<Fields>; OPERATIONS.len()] = [
     |hazard, t, _| probe::cumulative_hazard(hazard, t),
     |hazard, t, w| probe::invert_cumulative_hazard(hazard, t, w),
 ];
+
+#[inline(never)]
+fn checked(operation: u8, hazard: &Hazard, t: f64, w: f64) -> f64 {
+    let answer = evaluation::evaluate(operation, hazard, t, w);
+    if answer.found { answer.value } else { f64::NAN }
+}
 
 #[inline(never)]
 fn hazard_at(hazard: &HazardRate, t: f64) -> f64 {
@@ -39,28 +57,30 @@ fn invert_cumulative_hazard(hazard: &HazardRate, t_start: f64, target_w: f64) ->
     wait.unwrap_or(f64::NAN)
 }
 
-/// Both sides of one evaluation.
+/// One evaluation on all four sides.
 pub struct Sides {
     operation: usize,
+    hazard: Hazard,
     rate: HazardRate,
     fields: Fields,
 }
+
+/// Rust and Rattle checked, Rust and Rattle unchecked.
+pub const SIDES: [fn(&Sides, &[(f64, f64)], &mut [f64]); 4] = [
+    |s, points, out| each_point(CHECKED_RUST[s.operation], &s.hazard, points, out),
+    |s, points, out| each_point(CHECKED_RATTLE[s.operation], &s.fields, points, out),
+    |s, points, out| each_point(RUST[s.operation], &s.rate, points, out),
+    |s, points, out| each_point(RATTLE[s.operation], &s.fields, points, out),
+];
 
 impl Sides {
     pub fn new(operation: u8, hazard: &Hazard) -> Self {
         Self {
             operation: usize::from(operation),
+            hazard: *hazard,
             rate: hazard.build(),
             fields: Fields::of(hazard),
         }
-    }
-
-    pub fn rust(&self, points: &[(f64, f64)], out: &mut [f64]) {
-        each_point(RUST[self.operation], &self.rate, points, out);
-    }
-
-    pub fn rattle(&self, points: &[(f64, f64)], out: &mut [f64]) {
-        each_point(RATTLE[self.operation], &self.fields, points, out);
     }
 }
 
