@@ -41,7 +41,7 @@ pub fn dump_state(state: &State) -> Vec<u8> {
     out
 }
 
-fn dump_queued(queued: &Queued, out: &mut Vec<u8>) {
+pub fn dump_queued(queued: &Queued, out: &mut Vec<u8>) {
     out.push(queued.clock);
     out.extend(queued.id.index.to_le_bytes());
     out.extend(queued.request.at.ticks().to_le_bytes());
