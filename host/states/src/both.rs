@@ -42,6 +42,11 @@ impl Both {
         })
     }
 
+    /// The same record and journal: what was changed is not part of the Rust's values.
+    pub fn is_same(&self, other: &Both) -> bool {
+        self.record == other.record && self.journal == other.journal
+    }
+
     /// One input: the answer, the journal, the whole state and the applied commands.
     pub fn give(&mut self, fields: &[Field], stream: &[u8], input: &[u8]) -> Outcome {
         let rattle = probe::execute(&mut self.record, stream, &mut self.journal, input);

@@ -1,7 +1,9 @@
 //! One field of a state's record, or one byte of the applied commands, changed at random.
 
-use crate::layout::{Field, Kind, is_used};
+use crate::layout::{Field, Kind, Part, is_used};
 use cases::random::Random;
+use reference::dump::QUEUED_BYTES;
+use reference::record::HEAD_BYTES;
 
 /// Extreme floats, those among them that state validation refuses.
 const FLOATS: [f64; 12] = [
@@ -19,16 +21,29 @@ const FLOATS: [f64; 12] = [
     f64::NAN,
 ];
 
-/// A used field and other bytes for it.
-pub fn tamper(random: &mut Random, fields: &[Field], record: &mut [u8]) -> Field {
-    loop {
-        let field = &fields[random.index(fields.len())];
-        if is_used(field.part, record) {
-            let bytes = other(random, field.kind, field.bytes(record));
-            record[field.at..][..bytes.len()].copy_from_slice(&bytes);
-            return field.clone();
-        }
+/// A change of a record, in words: one used field of the counts, the queue, a clock or a channel, or the order of the queue.
+pub fn tamper(random: &mut Random, fields: &[Field], record: &mut [u8]) -> String {
+    let wanted: fn(Part) -> bool = random.pick(&[
+        |part| part == Part::Counts,
+        |part| matches!(part, Part::Request(_)),
+        |part| matches!(part, Part::Clock(_)),
+        |part| matches!(part, Part::Channel(..)),
+    ]);
+    if random.chance(2) && is_used(Part::Request(1), record) {
+        let (first, second) = record[HEAD_BYTES..].split_at_mut(QUEUED_BYTES);
+        first.swap_with_slice(&mut second[..QUEUED_BYTES]);
+        return "order of the queue".to_string();
     }
+    let used = |f: &&Field| is_used(f.part, record);
+    let among = fields.iter().filter(|f| wanted(f.part)).filter(used);
+    let among: Vec<&Field> = among.collect();
+    let field = match among.len() {
+        0 => &fields[0],
+        length => among[random.index(length)],
+    };
+    let bytes = other(random, field.kind, field.bytes(record));
+    record[field.at..][..bytes.len()].copy_from_slice(&bytes);
+    field.words()
 }
 
 /// Other bytes of the same kind; near ones and far ones.
@@ -39,8 +54,7 @@ fn other(random: &mut Random, kind: Kind, bytes: &[u8]) -> Vec<u8> {
             vec![(bytes[0] + 1 + random.below(u64::from(choices) - 1) as u8) % choices]
         }
         Kind::Byte => vec![bytes[0].wrapping_add(random.pick(&[1, 255, 7, 16]))],
-        Kind::Word32 => near(random, bytes),
-        Kind::Word64 => near(random, bytes),
+        Kind::Word32 | Kind::Word64 => near(random, bytes),
         Kind::Float => random.pick(&FLOATS).to_le_bytes().to_vec(),
     }
 }

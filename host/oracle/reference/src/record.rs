@@ -53,10 +53,7 @@ pub fn decode(record: &[u8]) -> Option<State> {
     let queued = usize::try_from(head.u64()).ok().filter(|n| *n <= QUEUE)?;
     scheduler.queue = (0..queued).map(|_| queued_from(&mut head)).collect();
     let mut clocks = std::array::from_fn(|_| None);
-    for (clock, slot) in clocks
-        .iter_mut()
-        .zip(record[SLOTS_AT..].chunks(SLOT_BYTES))
-    {
+    for (clock, slot) in clocks.iter_mut().zip(record[SLOTS_AT..].chunks(SLOT_BYTES)) {
         if slot[0] == 1 {
             *clock = Some(clock_from(&slot[1..])?);
         }

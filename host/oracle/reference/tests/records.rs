@@ -20,7 +20,10 @@ fn layout_of_a_record() {
     assert_eq!((record.len(), STATE_BYTES, SLOTS_AT), (23280, 23280, 496));
     let counts = [2u64, 368, 1, 1].map(u64::to_le_bytes).concat();
     assert_eq!(record[..32], counts);
-    assert_eq!(record[32..49], [&[0; 9][..], &[40, 0, 0, 0, 0, 0, 0, 0]].concat());
+    assert_eq!(
+        record[32..49],
+        [&[0; 9][..], &[40, 0, 0, 0, 0, 0, 0, 0]].concat()
+    );
     assert_eq!(record[61..SLOTS_AT], [0; 435]);
     let clock = &record[SLOTS_AT..][..SLOT_BYTES];
     assert_eq!((clock[0], clock[32], clock[33]), (1, 2, 1));
@@ -58,7 +61,10 @@ fn what_the_rust_cannot_express() {
     assert!(changed(clock + 22, 3), "tie");
     assert!(changed(clock + 31, 9), "channel count");
     assert!(changed(clock + 32 + CHANNEL_BYTES, 1), "a cause twice");
-    assert!(changed(clock + 32 + CHANNEL_BYTES, 0), "causes that descend");
+    assert!(
+        changed(clock + 32 + CHANNEL_BYTES, 0),
+        "causes that descend"
+    );
     assert!(changed(clock + 32 + 8, 4), "kind");
     assert!(changed(clock + 32 + 17, 9), "pair count");
 }
