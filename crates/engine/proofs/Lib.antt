@@ -4,6 +4,7 @@ pub mod Asking
 pub mod Balance
 pub mod CommandLaws
 pub mod ComparisonLaws
+pub mod Conjunctions
 pub mod Demand3
 pub mod DistinctIndices
 pub mod EngineLaws
@@ -32,7 +33,12 @@ pub mod Replays
 pub mod RequestCounts
 pub mod RequestLists
 pub mod RequestOrder
+pub mod RunAnswers
 pub mod RunNumbers
+pub mod RunOpening
+pub mod RunStates
+pub mod RunStops
 pub mod RunTurns
+pub mod SlotLaws
 pub mod ValidationLaws
 pub mod Worked

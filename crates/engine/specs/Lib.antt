@@ -14,6 +14,7 @@ pub mod QueueCode
 pub mod Refusals
 pub mod ReplayCode
 pub mod Run
+pub mod RunCode
 pub mod Sessions
 pub mod State
 pub mod Validation

@@ -6,7 +6,7 @@ ghost use lib.ListN.{length};
 ghost use Rattle.engine.specs.State.{slotAt, withSlot};
 ghost use Rattle.engine.specs.Journal.{fails, replayAll, undo};
 ghost use Rattle.engine.specs.Instance.{engineOf};
-ghost use Rattle.engine.specs.ReplayCode.{wholeWidth, replayedOf};
+ghost use Rattle.engine.specs.ReplayCode.{wholeWidth, frontCommand, replayedOf};
 ghost use Rattle.engine.specs.ExecuteCode.{after, left};
 use crate::execute::Executed;
 use crate::state::ClockSlot;
@@ -25,6 +25,12 @@ pub struct Replay {
     pub clock: usize,
     pub slot: ClockSlot,
     pub progress: Progress,
+}
+
+// The command at the front of some bytes.
+pub struct FrontCommand {
+    pub width: usize,
+    pub clock: usize,
 }
 
 // There are sixteen places; past them is the empty slot.
@@ -69,7 +75,23 @@ fn command_width(bytes: &[u8]) -> usize
     if width <= bytes.len() { width } else { 0 }
 }
 
-fn failed(state: EngineState, slot: ClockSlot, progress: Progress) -> Replay
+// The command at the front of the bytes by its width and its clock's number. The width is 0 where there is no whole command, where it is an UNDO, and where its
+// clock is none of the sixteen, so that it is refused.
+fn front_command(progress: Progress, bytes: &[u8]) -> FrontCommand
+    ensures { λ r. ⌜ r ≡ frontCommand progress (now (bytes .entry)) ⌝ }
+{
+    let width = command_width(bytes);
+    if width == 0 {
+        return FrontCommand { width: 0, clock: 0 };
+    }
+    let clock = crate::execution::target(progress, &bytes[..width]);
+    if clock > 15 {
+        return FrontCommand { width: 0, clock: 0 };
+    }
+    FrontCommand { width, clock }
+}
+
+fn failed_replay(state: EngineState, slot: ClockSlot, progress: Progress) -> Replay
     ensures { λ r. ⌜ (r .ok ≡ false) × (r .last ≡ 0) ⌝ }
 {
     Replay {
@@ -94,35 +116,28 @@ fn replay_all(stream: &[u8], journal_length: usize, bytes: &[u8]) -> Replay
     let mut last: usize = 0;
     let mut at: usize = 0;
     while at < bytes.len() {
-        let width = command_width(&bytes[at..]);
-        if width == 0 {
-            return failed(state, slot, progress);
+        let front = front_command(state.progress, &bytes[at..]);
+        if front.width == 0 {
+            return failed_replay(state, slot, progress);
         }
-        let end = at + width;
-        let target = crate::execution::target(state.progress, &bytes[at..end]);
-        if target > 15 {
-            return failed(state, slot, progress);
-        }
+        let end = at + front.width;
+        let command = &bytes[at..end];
+        let target = front.clock;
         let old = state.slots[target];
-        let outcome = crate::execution::perform_on(
-            old,
-            state.progress,
-            stream,
-            journal_length,
-            &bytes[at..end],
-        );
+        let before = state.progress;
+        let outcome = crate::execution::perform_on(old, before, stream, journal_length, command);
         if outcome.number != 0 {
-            return failed(state, slot, progress);
+            return failed_replay(state, slot, progress);
         }
         clock = target;
         slot = old;
-        progress = state.progress;
+        progress = before;
         last = at;
+        at = end;
         let moved = outcome.slot;
         state.slots[target] = moved;
         let next = outcome.progress;
         state.progress = next;
-        at = end;
     }
     Replay {
         ok: true,
