@@ -12,7 +12,8 @@ joined-both e p q = e ∙ ap₂ joined p q
 
 -- a code that is no command's has no width
 pub no-width : (k : ℕ) → (k ≡ commands.create → ⊥) → (k ≡ commands.set → ⊥) → (k ≡ commands.remove → ⊥)
-    → (k ≡ commands.reschedule → ⊥) → (k ≡ commands.pause → ⊥) → (k ≡ commands.resume → ⊥) → (k ≡ commands.deliver → ⊥) → (k ≡ commands.undo → ⊥) → widthOf k ≡ 0
+    → (k ≡ commands.reschedule → ⊥) → (k ≡ commands.pause → ⊥) → (k ≡ commands.resume → ⊥)
+    → (k ≡ commands.deliver → ⊥) → (k ≡ commands.undo → ⊥) → widthOf k ≡ 0
 unfolding widthOf
 no-width k h₁ h₂ h₃ h₄ h₅ h₆ h₇ h₈ =
     rw (

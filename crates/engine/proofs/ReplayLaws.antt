@@ -202,7 +202,9 @@ module _ (p : Progress) (i : Bytes) where
   front-way : FrontWay (frontCommand p i)
   front-way =
       either-way (eqb (wholeWidth i) 0)
-      (λ z. subst FrontWay (sym (front-none (wholeWidth i) refl (eqb-true _ _ z))) ((λ h. absurd (omega arith)), (λ h. inl (eqb-true _ _ z))))
+      (λ z.
+      subst FrontWay (sym (front-none (wholeWidth i) refl (eqb-true _ _ z)))
+      ((λ h. absurd (omega arith)), (λ h. inl (eqb-true _ _ z))))
       (λ z.
       let pos : 0 < wholeWidth i = omega (arith, eqb-false (wholeWidth i) 0 z) in
       either-way (ltb 15 (clockAt (wholeWidth i)))

@@ -18,8 +18,8 @@ module _ (stream : Bytes) (slot : ClockSlot) (p : Progress) (j answers : Bytes) 
   did : onSlotOf o ≡ performOn stream (length j) slot p c
   did = ap (λ (x : Applied). x .outcome) e
 
-  by-answer : {d : OnSlot} → performOn stream (length j) slot p c ≡ d → {written : Bytes} → written ≡ withAnswer answers place (slotAnswer d)
-      → answeredOn o k written ≡ answerOn stream slot p j answers place c
+  by-answer : {d : OnSlot} → performOn stream (length j) slot p c ≡ d → {written : Bytes}
+      → written ≡ withAnswer answers place (slotAnswer d) → answeredOn o k written ≡ answerOn stream slot p j answers place c
   by-answer q {written} h =
       let f : written ≡ withAnswer answers place (slotAnswer (performOn stream (length j) slot p c)) =
       h ∙ ap (λ (d : OnSlot). withAnswer answers place (slotAnswer d)) (sym q) in

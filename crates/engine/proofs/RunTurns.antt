@@ -279,7 +279,8 @@ module _ (bytes stream : Bytes) (n size : ℕ) (all : Ran) where
         → written ≡ withAnswer answers (32 * count) (y .answer) → length k ≡ n → length written ≡ size
         → Running k written result (y .state) (count + 1) (at + w)
     next-undo u y {k} {written} e q lk lw =
-        let f : left y k ≡ after stream n (undo E s j) = e ∙ ap (λ (m : ℕ). after stream m (undo (engineOf stream m) s j)) (r .same-journal) in
+        let f : left y k ≡ after stream n (undo E s j) =
+        e ∙ ap (λ (m : ℕ). after stream m (undo (engineOf stream m) s j)) (r .same-journal) in
         let ek : k ≡ undo E s j .journal = ap (λ (a : After). a .journal) f in
         let ea : y .answer ≡ answerOf (undo E s j .reply) = ap (λ (a : After). a .answer) f in
         let h =
@@ -352,8 +353,8 @@ module _ (bytes stream : Bytes) (n size : ℕ) (all : Ran) where
             subst (λ (b : Bytes). Running b written result next (count + 1) (at + w)) (sym ek) h
 
 -- at opening, with all places of the journal zero
-pub running-begins : (bytes stream : Bytes) (n : ℕ) (answers result : Bytes) {s : EngineState} → s ≡ openedState → {j : Bytes} → j ≡ replicate n 0
-    → n < 2 ^ 63 → length result ≡ 16
+pub running-begins : (bytes stream : Bytes) (n : ℕ) (answers result : Bytes) {s : EngineState} → s ≡ openedState
+    → {j : Bytes} → j ≡ replicate n 0 → n < 2 ^ 63 → length result ≡ 16
     → Running bytes stream n (length answers) (openedRun bytes stream n answers) j answers result s 0 0
 running-begins bytes stream n answers result {s} es {j} ej bound width =
     subst (λ (x : EngineState). Opened x j) (sym es) (subst (Opened openedState) (sym ej) opens)

@@ -42,7 +42,8 @@ pub(crate) fn apply_on(
     command: &[u8],
 ) -> SlotOutcome
     requires { ⌜ Appliable progress (now journal) ⌝ }
-    ensures { λ r. ⌜ appliedOn r (now (journal .exit)) ≡ applyOn (now (stream .entry)) slot progress (now (journal .entry)) (now (command .entry)) ⌝ }
+    ensures { λ r. ⌜ appliedOn r (now (journal .exit))
+        ≡ applyOn (now (stream .entry)) slot progress (now (journal .entry)) (now (command .entry)) ⌝ }
 {
     let outcome = crate::execution::perform_on(slot, progress, stream, journal.len(), command);
     if outcome.number != 0 {
@@ -56,7 +57,10 @@ pub(crate) fn apply_on(
 // A command but UNDO, cut to its width.
 fn apply(state: EngineState, stream: &[u8], journal: &mut [u8], command: &[u8]) -> Executed
     requires { ⌜ validState (now stream) (length (now journal)) state ≡ true ⌝ }
-    ensures { λ r. ⌜ left r (now (journal .exit)) ≡ after (now (stream .entry)) (length (now (journal .entry))) (act (engineOf (now (stream .entry)) (length (now (journal .entry)))) state (now (journal .entry)) (apply (now (command .entry)))) ⌝ }
+    ensures { λ r. ⌜ left r (now (journal .exit))
+        ≡ after (now (stream .entry)) (length (now (journal .entry)))
+        (act (engineOf (now (stream .entry)) (length (now (journal .entry)))) state (now (journal .entry))
+        (apply (now (command .entry)))) ⌝ }
 {
     let target = crate::execution::target(state.progress, command);
     let slot = crate::replay::slot_at(state, target);
@@ -74,7 +78,10 @@ fn apply(state: EngineState, stream: &[u8], journal: &mut [u8], command: &[u8]) 
 }
 
 pub fn execute(state: EngineState, stream: &[u8], journal: &mut [u8], input: &[u8]) -> Executed
-    ensures { λ r. ⌜ left r (now (journal .exit)) ≡ after (now (stream .entry)) (length (now (journal .entry))) (execute (engineOf (now (stream .entry)) (length (now (journal .entry)))) state (now (journal .entry)) (now (input .entry))) ⌝ }
+    ensures { λ r. ⌜ left r (now (journal .exit))
+        ≡ after (now (stream .entry)) (length (now (journal .entry)))
+        (execute (engineOf (now (stream .entry)) (length (now (journal .entry)))) state (now (journal .entry))
+        (now (input .entry))) ⌝ }
 {
     if !crate::validation::valid_state(state, stream, journal.len()) {
         return refuse(state, hazards::refusals::INVALID_STATE);

@@ -75,8 +75,8 @@ fn command_width(bytes: &[u8]) -> usize
     if width <= bytes.len() { width } else { 0 }
 }
 
-// The command at the front of the bytes by its width and its clock's number. The width is 0 where there is no whole command, where it is an UNDO, and where its
-// clock is none of the sixteen, so that it is refused.
+// The command at the front of the bytes by its width and its clock's number. The width is 0 where there is no whole command, where it is an
+// UNDO, and where its clock is none of the sixteen, so that it is refused.
 fn front_command(progress: Progress, bytes: &[u8]) -> FrontCommand
     ensures { λ r. ⌜ r ≡ frontCommand progress (now (bytes .entry)) ⌝ }
 {
@@ -107,7 +107,8 @@ fn failed_replay(state: EngineState, slot: ClockSlot, progress: Progress) -> Rep
 // Replays commands from opening. A refused command or an UNDO among them ends it.
 fn replay_all(stream: &[u8], journal_length: usize, bytes: &[u8]) -> Replay
     requires { ⌜ «journal_length» < 2 ^ 63 ⌝ }
-    ensures { λ r. ⌜ (replayedOf (now (stream .entry)) «journal_length» r ≡ replayAll (engineOf (now (stream .entry)) «journal_length») (now (bytes .entry))) × (r .last ≤ length (now (bytes .entry))) ⌝ }
+    ensures { λ r. ⌜ (replayedOf (now (stream .entry)) «journal_length» r
+        ≡ replayAll (engineOf (now (stream .entry)) «journal_length») (now (bytes .entry))) × (r .last ≤ length (now (bytes .entry))) ⌝ }
 {
     let mut state = crate::opening::opened_state();
     let mut slot = crate::opening::empty_slot();
@@ -151,7 +152,9 @@ fn replay_all(stream: &[u8], journal_length: usize, bytes: &[u8]) -> Replay
 
 pub(crate) fn undo(state: EngineState, stream: &[u8], journal: &mut [u8]) -> Executed
     requires { ⌜ state .progress .«applied_length» ≤ length (now journal) ⌝ }
-    ensures { λ r. ⌜ left r (now (journal .exit)) ≡ after (now (stream .entry)) (length (now (journal .entry))) (undo (engineOf (now (stream .entry)) (length (now (journal .entry)))) state (now (journal .entry))) ⌝ }
+    ensures { λ r. ⌜ left r (now (journal .exit))
+        ≡ after (now (stream .entry)) (length (now (journal .entry)))
+        (undo (engineOf (now (stream .entry)) (length (now (journal .entry)))) state (now (journal .entry))) ⌝ }
 {
     let applied = state.progress.applied_length;
     if applied == 0 {

@@ -53,10 +53,12 @@ fn end_number(input: &[u8]) -> u8
     0
 }
 
-// What ends the run before an input is executed: 17 where its answer has no room, 2 or 3, which is answered and counted; else 0, and nothing is written.
+// What ends the run before an input is executed: 17 where its answer has no room, or 2 or 3, which is answered and counted; else 0, and
+// nothing is written.
 fn end_run(input: &[u8], answers: &mut [u8], result: &mut [u8], answered: usize, read: usize) -> u8
     requires { ⌜ (32 * answered ≤ length (now answers)) × (length (now result) ≡ 16) ⌝ }
-    ensures { λ r. ⌜ stop r (now (answers .exit)) (now (result .exit)) ≡ stopAt (now (input .entry)) (now (answers .entry)) (now (result .entry)) answered read ⌝ }
+    ensures { λ r. ⌜ stop r (now (answers .exit)) (now (result .exit))
+        ≡ stopAt (now (input .entry)) (now (answers .entry)) (now (result .entry)) answered read ⌝ }
 {
     let place = 32 * answered;
     if answers.len() - place < 32 {
@@ -82,7 +84,8 @@ fn answer_command(
     command: &[u8],
 ) -> SlotOutcome
     requires { ⌜ Appliable progress (now journal) ⌝ }
-    ensures { λ r. ⌜ answeredOn r (now (journal .exit)) (now (answers .exit)) ≡ answerOn (now (stream .entry)) slot progress (now (journal .entry)) (now (answers .entry)) place (now (command .entry)) ⌝ }
+    ensures { λ r. ⌜ answeredOn r (now (journal .exit)) (now (answers .exit))
+        ≡ answerOn (now (stream .entry)) slot progress (now (journal .entry)) (now (answers .entry)) place (now (command .entry)) ⌝ }
 {
     let outcome = crate::execute::apply_on(slot, progress, stream, journal, command);
     if outcome.number != 0 {
@@ -103,7 +106,8 @@ fn run_commands(
     result: &mut [u8],
 ) -> u8
     requires { ⌜ (now journal ≡ replicate (length (now journal)) 0) × (length (now result) ≡ 16) ⌝ }
-    ensures { λ r. ⌜ ran r (now (journal .exit)) (now (answers .exit)) (now (result .exit)) ≡ openedRun (now (commands .entry)) (now (stream .entry)) (length (now (journal .entry))) (now (answers .entry)) ⌝ }
+    ensures { λ r. ⌜ ran r (now (journal .exit)) (now (answers .exit)) (now (result .exit))
+        ≡ openedRun (now (commands .entry)) (now (stream .entry)) (length (now (journal .entry))) (now (answers .entry)) ⌝ }
 {
     let mut state = crate::opening::opened_state();
     let mut answered: usize = 0;
@@ -152,7 +156,8 @@ pub extern "C" fn run(
     answers: &mut [u8],
     result: &mut [u8],
 ) -> u8
-    ensures { λ r. ⌜ ran r (now (journal .exit)) (now (answers .exit)) (now (result .exit)) ≡ runOf (now (commands .entry)) (now (stream .entry)) (now (journal .entry)) (now (answers .entry)) (now (result .entry)) ⌝ }
+    ensures { λ r. ⌜ ran r (now (journal .exit)) (now (answers .exit)) (now (result .exit))
+        ≡ runOf (now (commands .entry)) (now (stream .entry)) (now (journal .entry)) (now (answers .entry)) (now (result .entry)) ⌝ }
 {
     if !are_usable(stream, result) {
         return BAD_BUFFERS;

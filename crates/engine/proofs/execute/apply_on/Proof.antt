@@ -38,7 +38,8 @@ returns-2 c =
     let m = c .before .before .before .before .before .before in
     let a = start m .args in
     applied-copied (a .stream .now) (a .slot) (a .progress) (a .journal .now) (a .command .now) (m .perform-on .result)
-    (m .perform-on .ensures) (c .before .before .before .before .if1 .left) (c .before .before .copy-into .last .0) (c .before .before .copy-into .ensures)
+    (m .perform-on .ensures) (c .before .before .before .before .if1 .left) (c .before .before .copy-into .last .0)
+    (c .before .before .copy-into .ensures)
 
 pub apply-on-spec : {M : Type 1} → statement M
 apply-on-spec =

@@ -49,7 +49,8 @@ returns-3 c =
     let f : ℕ → FrontCommand = λ k. record { width = w; clock = k } in
     ap f named
     ∙ sym
-    (front-here (a .progress) (a .bytes .now) w (m .command-width .ensures) (c .before .before .before .if1 .left) (omega (arith, named, c .if2 .left)))
+    (front-here (a .progress) (a .bytes .now) w (m .command-width .ensures) (c .before .before .before .if1 .left)
+    (omega (arith, named, c .if2 .left)))
 
 pub front-command-spec : {M : Type 1} → statement M
 front-command-spec =

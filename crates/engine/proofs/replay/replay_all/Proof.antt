@@ -75,7 +75,8 @@ returns c =
     let e =
     no-command (a .stream .now) (a .journal-length) (a .bytes .now) (l .state) (l .inv .3) (l .at) (more m) (m .front-command .result)
     (m .front-command .ensures) _ (l .last) (c .before .if1 .taken) in
-    (is-failed _ _ (c .failed-replay .result) (c .failed-replay .ensures .0) (sym e ∙ l .inv .0), omega (arith, c .failed-replay .ensures .1))
+    let f = c .failed-replay .ensures in
+    (is-failed _ _ (c .failed-replay .result) (f .0) (sym e ∙ l .inv .0), omega (arith, f .1))
 
 -- ---- there is a command
 
@@ -145,8 +146,10 @@ returns-2 c =
     let old = getD-any (l .state .slots) (m .front-command .result .clock) _ emptySlot (omega arith) in
     let e =
     is-refused (a .stream .now) (a .journal-length) (a .bytes .now) (l .state) (l .inv .3) (l .at) (more m) (m .front-command .result)
-    (m .front-command .ensures) (pos (known p)) (p .perform-on .result) _ old (p .perform-on .ensures) _ (l .last) (c .before .if2 .taken) in
-    (is-failed _ _ (c .failed-replay2 .result) (c .failed-replay2 .ensures .0) (sym e ∙ l .inv .0), omega (arith, c .failed-replay2 .ensures .1))
+    (m .front-command .ensures) (pos (known p)) (p .perform-on .result) _ old (p .perform-on .ensures) _ (l .last)
+    (c .before .if2 .taken) in
+    let f = c .failed-replay2 .ensures in
+    (is-failed _ _ (c .failed-replay2 .result) (f .0) (sym e ∙ l .inv .0), omega (arith, f .1))
 
 mul-moved : tie.Need-mul-moved Inv-loop μ-loop
 mul-moved c = let b = below (known (c .before .before .before)) in omega arith
@@ -184,7 +187,8 @@ returns-3 : tie.Need-returns-3 Inv-loop μ-loop
 returns-3 c =
     let l = c .before in
     let a = l .before .before .before .before .before .before .args in
-    let e = replay-ends (a .stream .now) (a .journal-length) (a .bytes .now) (l .loop .state) _ (l .loop .last) (l .loop .at) (omega arith) in
+    let e =
+    replay-ends (a .stream .now) (a .journal-length) (a .bytes .now) (l .loop .state) _ (l .loop .last) (l .loop .at) (omega arith) in
     (sym e ∙ l .loop .inv .0, l .loop .inv .2)
 
 pub replay-all-spec : {M : Type 1} → statement M

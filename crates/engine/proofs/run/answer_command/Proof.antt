@@ -30,7 +30,8 @@ returns c =
     let a = start m .args in
     answered-refused (a .stream .now) (a .slot) (a .progress) (a .journal .now) (a .answers .now) (a .place) (a .command .now)
     (m .apply-on .result) (m .apply-on .ensures) (c .before .before .before .before .before .if1 .taken)
-    (c .before .before .put-answer .ensures ∙ ap (withAnswer (a .answers .now) (a .place)) (c .before .before .before .before .no-event .ensures))
+    (c .before .before .put-answer .ensures
+    ∙ ap (withAnswer (a .answers .now) (a .place)) (c .before .before .before .before .no-event .ensures))
 
 put-answer-requires-2 : tie.Need-put-answer-requires-2
 put-answer-requires-2 c κs = search needs

@@ -15,7 +15,8 @@ width-requires : tie.Need-width-requires
 width-requires c κs = search needs
 
 returns-2 : tie.Need-returns-2
-returns-2 c = end-none (c .before .before .before .before .before .args .input .now) (omega arith) (omega (arith, c .before .width .ensures))
+returns-2 c =
+    end-none (c .before .before .before .before .before .args .input .now) (omega arith) (omega (arith, c .before .width .ensures))
 
 returns-3 : tie.Need-returns-3
 returns-3 c =

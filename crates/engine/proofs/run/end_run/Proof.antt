@@ -63,9 +63,11 @@ returns-2 c =
     let m = c .before .before .before .before .before .before .before .before .before .before in
     let a = start m .args in
     let number : ℕ = m .end-number .result in
-    let put = c .before .before .before .before .before .before .put-answer .ensures ∙ ap (withAnswer (a .answers .now) (32 * a .answered)) (c .before .before .before .before .before .before .before .no-event .ensures) in
-    ap (stop number (c .before .before .before .before .before .before .put-answer .last .0)) (c .before .before .finish2 .ensures)
-    ∙ ap (λ (x : List ℕ). stop number x (bytesOf 8 (a .answered + 1) ++ bytesOf 8 (a .read))) put
+    let put = c .before .before .before .before .before .before in
+    let refusal = put .before .no-event .ensures in
+    ap (stop number (put .put-answer .last .0)) (c .before .before .finish2 .ensures)
+    ∙ ap (λ (x : List ℕ). stop number x (bytesOf 8 (a .answered + 1) ++ bytesOf 8 (a .read)))
+    (put .put-answer .ensures ∙ ap (withAnswer (a .answers .now) (32 * a .answered)) refusal)
     ∙ stop-number (a .input .now) (a .answers .now) (a .result .now) (a .answered) (a .read) (room m) number (m .end-number .ensures)
     (c .before .before .before .before .before .before .before .before .before .if2 .taken)
 

@@ -22,8 +22,8 @@ use Rattle.engine.proofs.run.run_commands.Tie as tie
 
 abbrev Inv-loop : tie.InvT-loop
 Inv-loop commands stream journal₀ answers₀ result₀ state₀ answered₀ at₀ journal answers result state answered at =
-    Running commands stream (length journal₀) (length answers₀) (openedRun commands stream (length journal₀) answers₀) journal answers result
-    state answered at
+    Running commands stream (length journal₀) (length answers₀) (openedRun commands stream (length journal₀) answers₀) journal answers
+    result state answered at
 
 abbrev μ-loop : tie.MeasureT-loop
 μ-loop commands stream journal₀ answers₀ result₀ state₀ answered₀ at₀ journal answers result state answered at =
@@ -57,7 +57,10 @@ end-run-requires c κs = let l = c .before .before .before .before .loop in (l .
 abbrev turn : tie.After-end-run Inv-loop μ-loop → tie.At-loop Inv-loop μ-loop
 turn c = c .before .before .before .before .before
 
-more : (c : tie.After-end-run Inv-loop μ-loop) → turn c .loop .at < length (turn c .before .before .before .before .before .before .before .args .commands .now)
+abbrev begin : tie.After-end-run Inv-loop μ-loop → tie.Start Inv-loop μ-loop
+begin c = turn c .before .before .before .before .before .before .before
+
+more : (c : tie.After-end-run Inv-loop μ-loop) → turn c .loop .at < length (begin c .args .commands .now)
 more c = c .before .before .before .before .loop-test .taken
 
 same-length : tie.Need-same-length Inv-loop μ-loop
@@ -80,12 +83,13 @@ abbrev ended : tie.Else1 Inv-loop μ-loop → tie.After-end-run Inv-loop μ-loop
 ended c = c .before .before .before .before .before
 
 abbrev start : tie.Else1 Inv-loop μ-loop → tie.Start Inv-loop μ-loop
-start c = turn (ended c) .before .before .before .before .before .before .before
+start c = begin (ended c)
 
 input : (c : tie.Else1 Inv-loop μ-loop)
     → Input (start c .args .commands .now) (start c .args .stream .now) (length (start c .args .journal .now))
     (length (start c .args .answers .now))
-    (openedRun (start c .args .commands .now) (start c .args .stream .now) (length (start c .args .journal .now)) (start c .args .answers .now))
+    (openedRun (start c .args .commands .now) (start c .args .stream .now) (length (start c .args .journal .now))
+    (start c .args .answers .now))
     (turn (ended c) .loop .journal) (ended c .end-run .last .1 .0) (ended c .end-run .last .1 .1 .0) (turn (ended c) .loop .state)
     (turn (ended c) .loop .answered) (turn (ended c) .loop .at)
 input c = run-goes-on _ _ _ _ _ (turn (ended c) .loop .inv) (more (ended c)) (ended c .end-run .ensures) (c .if1 .left)
@@ -143,8 +147,10 @@ loop-again : tie.Need-loop-again Inv-loop μ-loop
 loop-again c =
     let w = c .before .before .before .before .before .before .before .before .before .before in
     let l = turn (ended (known w)) .loop in
-    next-undo _ _ _ _ _ (input (known w)) (w .width .result) (wide w) (code-is w ∙ c .before .before .before .before .before .before .before .before .before .if2 .taken) (c .before .before .before .before .before .before .before .undo .result)
-    (c .before .before .before .before .before .before .before .undo .ensures) (c .before .before .put-answer .ensures) (omega (arith, l .inv .same-journal)) (omega (arith, l .inv .same-answers))
+    let u = c .before .before .before .before .before .before .before .undo in
+    next-undo _ _ _ _ _ (input (known w)) (w .width .result) (wide w)
+    (code-is w ∙ c .before .before .before .before .before .before .before .before .before .if2 .taken) (u .result) (u .ensures)
+    (c .before .before .put-answer .ensures) (omega (arith, l .inv .same-journal)) (omega (arith, l .inv .same-answers))
 
 -- ---- another command
 
