@@ -134,9 +134,9 @@ module _ (n : ℕ) (slot : ClockSlot) (p : Progress) (c : List ℕ) (method : Su
     pub not-rescheduled : (number ≡ 0 → ⊥) → refused number ≡ unlessFaulty (rescheduleFaults c) (onClock slot methodOn)
     not-rescheduled = not-done (rescheduleFaults c) slot methodOn (e ∙ ap (refusalOf (slot .present)) f)
 
-    pub rescheduled : number ≡ 0 → {r : Rescheduled} {t : Float} {s : Censor} → r ≡ method (slot .clock) t s (p .«request_count»)
+    pub rescheduled-there : number ≡ 0 → {r : Rescheduled} {t : Float} {s : Censor} → r ≡ method (slot .clock) t s (p .«request_count»)
         → t ≡ nowOf c → s ≡ censorOf c → afterReschedule n p c r ≡ unlessFaulty (rescheduleFaults c) (onClock slot methodOn)
-    rescheduled z q et es =
+    rescheduled-there z q et es =
         ap (afterReschedule n p c) (q ∙ ap₂ (λ (t : Float) (s : Censor). method (slot .clock) t s (p .«request_count»)) et es)
         ∙ there (rescheduleFaults c) slot methodOn (e ∙ ap (refusalOf (slot .present)) f) z
 

@@ -3,7 +3,7 @@ use mathlib.Core.Path.{_∙_}
 use borrow.Author.Needs.{needs}
 use Rattle.clocks.specs.Scheduling as scheduling
 use Rattle.engine.specs.Execution.{performReschedule}
-use Rattle.engine.proofs.ExecutionCases.{not-rescheduled, rescheduled}
+use Rattle.engine.proofs.ExecutionCases.{not-rescheduled, rescheduled-there}
 use Rattle.engine.proofs.execution.perform_reschedule.Statement.{statement}
 use Rattle.engine.proofs.execution.perform_reschedule.Tie as tie
 
@@ -45,7 +45,7 @@ returns-2 c =
     let m = l .before .before in
     let a = m .before .before .args in
     c .after-reschedule .ensures
-    ∙ rescheduled (a .journal-length) (a .slot) (a .progress) (a .command .now) scheduling.reschedule (l .before .refusal-of .ensures)
+    ∙ rescheduled-there (a .journal-length) (a .slot) (a .progress) (a .command .now) scheduling.reschedule (l .before .refusal-of .ensures)
     (m .reschedule-faults .ensures) (l .if1 .left) (c .before .reschedule .ensures) (k .before .f64-at .ensures) (k .censor-of .ensures)
 
 pub perform-reschedule-spec : {M : Type 1} → statement M
