@@ -1,6 +1,6 @@
 -- Answer, state and journal after an input, by what the code does with it; and what a valid state says of its progress.
 use mathlib.Core.Path.{_≡_, refl, sym, ap, _∙_}
-use mathlib.Core.Bool.{true, false}
+use mathlib.Core.Bool.{Bool, true, false, true≢false}
 use mathlib.Core.List.{List, _++_}
 use Prim.Native.Nat.{ℕ, _+_, _-_, _≤_, _<_}
 use native.Mathlib.Omega.{arith}
@@ -30,6 +30,7 @@ use Rattle.engine.specs.declared.state.ClockSlot.{ClockSlot}
 use Rattle.engine.specs.declared.state.Progress.{Progress}
 use Rattle.engine.specs.declared.state.EngineState.{EngineState}
 use Rattle.engine.proofs.Asking.{undo-reverts}
+use Rattle.engine.proofs.ComparisonLaws.{state-same}
 use Rattle.engine.proofs.Conjunctions.{both-true}
 use Rattle.engine.proofs.JournalBytes.{restOf, zeroed-part, pasted-part}
 use Rattle.engine.proofs.PartLaws.{copied-whole, cleared-whole}
@@ -63,6 +64,15 @@ pub left-refused : (stream : List ℕ) (n : ℕ) (r : Executed) (s : EngineState
     → (r .answer ≡ noEvent number) × (r .state ≡ s) → o ≡ unchanged (engineOf stream n) s j number → left r j ≡ after stream n o
 left-refused stream n r s j e q = rw q (λ i. record { answer = e .0 i; state = e .1 i; journal = j })
 
+-- the parts of a replay
+abbrev doesEnd : (stream : List ℕ) (n : ℕ) → Replayed (engineOf stream n) → Bool
+doesEnd stream n fails = false
+doesEnd stream n (ends t before last) = true
+
+abbrev endState : (stream : List ℕ) (n : ℕ) → EngineState → Replayed (engineOf stream n) → EngineState
+endState stream n d fails = d
+endState stream n d (ends t before last) = t
+
 -- a replay by its flag
 module _ (stream : List ℕ) (n : ℕ) (r : Replay) {x : Replayed (engineOf stream n)} (e : replayedOf stream n r ≡ x) where
   pub replay-failed : r .ok ≡ false → x ≡ fails
@@ -71,11 +81,19 @@ module _ (stream : List ℕ) (n : ℕ) (r : Replay) {x : Replayed (engineOf stre
   pub replay-ended : r .ok ≡ true → x ≡ ends (r .state) (beforeLast r) (r .last)
   replay-ended q = sym e ∙ rw q
 
--- the last command reverted, and its bytes cleared in the part of the journal from its place on
-module _ (stream : List ℕ) (s : EngineState) (j z : Bytes) (last : ℕ) where
-  abbrev k : ℕ
-  k = s .progress .«applied_length»
+  -- one that is known to end in s
+  pub replay-own : (s before : EngineState) (last : ℕ) → x ≡ ends s before last
+      → (x ≡ ends (r .state) (beforeLast r) (r .last)) × (sameState (r .state) s ≡ true)
+  replay-own s before last q = go (r .ok) refl
+    where
+      go : (b : Bool) → r .ok ≡ b → (x ≡ ends (r .state) (beforeLast r) (r .last)) × (sameState (r .state) s ≡ true)
+      go true h =
+          let p = replay-ended h in
+          (p, ap (λ (t : EngineState). sameState t s) (ap (endState stream n s) (sym p ∙ q)) ∙ state-same s)
+      go false h = absurd (true≢false (sym (ap (doesEnd stream n) (sym (replay-failed h) ∙ q))))
 
+-- the last command reverted, and its bytes cleared in the part of the journal from its place on
+module _ (stream : List ℕ) (j z : Bytes) (last k : ℕ) where
   pub cleared-journal : last ≤ k → k ≤ length j → z ≡ clearedFront (take (length j - last) (drop last j)) (k - last)
       → take last j ++ (z ++ drop (length j - last) (drop last j)) ≡ cleared (engineOf stream (length j)) j last k
   cleared-journal h₁ h₂ q =

@@ -1,15 +1,17 @@
--- The states that a batch run reaches: each is one of an engine in use, so it is good.
-use mathlib.Core.Path.{_≡_, subst}
+-- The states that a batch run reaches: each is one of an engine in use, so it is good, and the replay of its applied commands ends in it.
+use mathlib.Core.Path.{_≡_, sym, subst}
 use mathlib.Core.List.{List, [], _∷_}
-use Prim.Native.Nat.{ℕ}
-use lib.ListN.{replicate}
+use Prim.Native.Nat.{ℕ, _<_}
+use native.Mathlib.Omega.{arith}
+use lib.ListN.{length, replicate, take}
 use Rattle.engine.specs.State.{openedState}
-use Rattle.engine.specs.Journal.{Bytes, Engine, Outcome, execute}
+use Rattle.engine.specs.Journal.{Bytes, Engine, Outcome, concat, init, ends, replayAll, execute}
 use Rattle.engine.specs.Sessions.{Session, appliedAfter, feed, feedAll, newSession}
 use Rattle.engine.specs.Instance.{engineOf}
 use Rattle.engine.specs.Good.{Good}
+use Rattle.engine.specs.ReplayCode.{OwnReplay}
 use Rattle.engine.specs.declared.state.EngineState.{EngineState}
-use Rattle.engine.proofs.Applied.{Inv, inv-open, inv-all}
+use Rattle.engine.proofs.Applied.{Inv, inv-open, inv-all, AppliedReplay, applied-replay}
 use Rattle.engine.proofs.Reached.{good-replay}
 use Rattle.engine.proofs.EngineLaws.{engine-laws}
 use Rattle.engine.proofs.GoodKept.{engine-sound}
@@ -44,3 +46,18 @@ module _ (stream : Bytes) (n : ℕ) where
     reached-good =
         good-replay E (Good stream n) (engine-sound stream n) openedState (r .applied) s (r .inv .whole) (r .inv .ran)
         (engine-sound stream n .opens)
+
+    abbrev lastPlace : ℕ
+    lastPlace = length (concat (init (r .applied)))
+
+    pub reached-replays : length j ≡ n → 0 < s .progress .«applied_length» → OwnReplay stream s j
+    reached-replays l p =
+        let d : AppliedReplay E n (engine-laws stream n) session =
+        applied-replay E n (engine-laws stream n) session (r .inv) (omega (arith, r .inv .counted)) in
+        record {
+          before = d .rest;
+          last = lastPlace;
+          ending =
+              subst (λ (m : ℕ). replayAll (engineOf stream m) (take (s .progress .«applied_length») j) ≡ ends s (d .rest) lastPlace)
+              (sym l) (d .scans);
+        }

@@ -31,6 +31,10 @@ pub record After : Type 0 where
 abbrev pub left : Executed → Bytes → After
 left r journal = record { answer = r .answer; state = r .state; journal = journal }
 
+-- an answer that is a number and zero elsewhere, and the state
+abbrev pub onlyNumber : ℕ → EngineState → Executed
+onlyNumber number s = record { answer = noEvent number; state = s }
+
 abbrev pub after : (stream : List ℕ) (n : ℕ) → Outcome (engineOf stream n) → After
 after stream n o = record { answer = answerOf (o .reply); state = o .state; journal = o .journal }
 

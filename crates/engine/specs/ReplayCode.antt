@@ -1,4 +1,5 @@
 -- What the replay's answers in the code mean, and the whole command at the front of some bytes with its clock.
+use mathlib.Core.Path.{_≡_}
 use mathlib.Core.Bool.{cond}
 use mathlib.Core.List.{List}
 use Prim.Native.Nat.{ℕ, _≤_}
@@ -7,7 +8,7 @@ use lib.ListN.{length, take}
 use Rattle.engine.specs.Commands.{widthOf}
 use Rattle.engine.specs.Commands as commands
 use Rattle.engine.specs.State.{withSlot}
-use Rattle.engine.specs.Journal.{Bytes, Replayed, fails, ends, code}
+use Rattle.engine.specs.Journal.{Bytes, Replayed, fails, ends, replayAll, code}
 use Rattle.engine.specs.Execution.{target}
 use Rattle.engine.specs.Instance.{engineOf}
 use Rattle.engine.specs.declared.replay.FrontCommand.{FrontCommand}
@@ -37,3 +38,9 @@ beforeLast r = withSlot (r .state) (r .clock) (r .slot) (r .progress)
 
 abbrev pub replayedOf : (stream : List ℕ) (n : ℕ) → Replay → Replayed (engineOf stream n)
 replayedOf stream n r = cond (r .ok) (ends (r .state) (beforeLast r) (r .last)) fails
+
+-- the replay of a state's applied commands ends in it
+pub record OwnReplay (stream : List ℕ) (s : EngineState) (j : Bytes) : Type 0 where
+  pub before : EngineState
+  pub last : ℕ
+  pub ending : replayAll (engineOf stream (length j)) (take (s .progress .«applied_length») j) ≡ ends s before last

@@ -1,13 +1,14 @@
 // The replay of applied commands from opening, and UNDO. The state stays in one local; what the last command changed is kept beside it.
 ghost use mathlib.Core.Path.{_≡_};
 ghost use mathlib.Core.Bool.{false};
-ghost use Prim.Native.Nat.{_≤_, _<_, _^_};
+ghost use mathlib.Core.List.{List};
+ghost use Prim.Native.Nat.{ℕ, _≤_, _<_, _^_};
 ghost use lib.ListN.{length};
 ghost use Rattle.engine.specs.State.{slotAt, withSlot};
-ghost use Rattle.engine.specs.Journal.{fails, replayAll, undo};
+ghost use Rattle.engine.specs.Journal.{fails, replayAll, cleared, undo};
 ghost use Rattle.engine.specs.Instance.{engineOf};
-ghost use Rattle.engine.specs.ReplayCode.{wholeWidth, frontCommand, replayedOf};
-ghost use Rattle.engine.specs.ExecuteCode.{after, left};
+ghost use Rattle.engine.specs.ReplayCode.{beforeLast, OwnReplay, wholeWidth, frontCommand, replayedOf};
+ghost use Rattle.engine.specs.ExecuteCode.{after, left, onlyNumber};
 use crate::execute::Executed;
 use crate::state::ClockSlot;
 use crate::state::EngineState;
@@ -150,6 +151,34 @@ fn replay_all(stream: &[u8], journal_length: usize, bytes: &[u8]) -> Replay
     }
 }
 
+// What UNDO leaves after a replay: the last command's bytes cleared, its clock's slot and the progress as before it.
+fn restored(end: Replay, journal: &mut [u8], applied: usize) -> EngineState
+    requires { ⌜ (end .last ≤ applied) × (applied ≤ length (now journal)) ⌝ }
+    ensures { λ r. ⌜ (r ≡ beforeLast end)
+        × ((stream : List ℕ) → now (journal .exit)
+        ≡ cleared (engineOf stream (length (now (journal .entry)))) (now (journal .entry)) (end .last) applied) ⌝ }
+{
+    let last = end.last;
+    crate::journal::clear(&mut journal[last..], applied - last);
+    let all = end.state;
+    let slot = end.slot;
+    let progress = end.progress;
+    with_slot(all, end.clock, slot, progress)
+}
+
+// UNDO in a state that ends the replay of its own applied commands, as a reached one does: nothing is compared.
+pub(crate) fn revert(stream: &[u8], journal: &mut [u8], applied: usize) -> EngineState
+    requires { ⌜ applied ≤ length (now journal) ⌝ }
+    ensures { λ r. ⌜ ((s : EngineState) → s .progress .«applied_length» ≡ applied → 0 < applied
+        → OwnReplay (now (stream .entry)) s (now (journal .entry))
+        → left (onlyNumber 0 r) (now (journal .exit))
+        ≡ after (now (stream .entry)) (length (now (journal .entry)))
+        (undo (engineOf (now (stream .entry)) (length (now (journal .entry)))) s (now (journal .entry)))) ⌝ }
+{
+    let end = replay_all(stream, journal.len(), &journal[..applied]);
+    restored(end, journal, applied)
+}
+
 pub(crate) fn undo(state: EngineState, stream: &[u8], journal: &mut [u8]) -> Executed
     requires { ⌜ state .progress .«applied_length» ≤ length (now journal) ⌝ }
     ensures { λ r. ⌜ left r (now (journal .exit))
@@ -168,12 +197,8 @@ pub(crate) fn undo(state: EngineState, stream: &[u8], journal: &mut [u8]) -> Exe
     if !crate::comparison::same_state(all, state) {
         return crate::execute::refuse(state, REPLAY_FAILS);
     }
-    let last = end.last;
-    crate::journal::clear(&mut journal[last..], applied - last);
-    let slot = end.slot;
-    let progress = end.progress;
     Executed {
         answer: hazards::answers::no_event(0),
-        state: with_slot(all, end.clock, slot, progress),
+        state: restored(end, journal, applied),
     }
 }

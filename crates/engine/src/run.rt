@@ -1,11 +1,12 @@
 // The batch run (document 01: run call): it opens an engine and answers command after command. The state stays in one local.
 ghost use mathlib.Core.Path.{_≡_};
-ghost use mathlib.Core.Bool.{_&&_};
+ghost use mathlib.Core.Bool.{cond, _&&_};
 ghost use mathlib.Core.List.{_++_};
 ghost use Prim.Native.Nat.{_*_, _%_, _≤_};
 ghost use lib.Dec.{eqb};
 ghost use lib.ListN.{length, replicate};
 ghost use Rattle.hazards.specs.Fields.{bytesOf};
+ghost use Rattle.engine.specs.Refusals.{nothingApplied};
 ghost use Rattle.engine.specs.Run.{ran, endNumber, runOf};
 ghost use Rattle.engine.specs.ExecuteCode.{Appliable};
 ghost use Rattle.engine.specs.RunCode.{stop, stopAt, answeredOn, answerOn, openedRun};
@@ -97,6 +98,17 @@ fn answer_command(
     outcome
 }
 
+// UNDO is refused where nothing is applied; a reached state meets no other refusal.
+fn undo_number(applied: usize) -> u8
+    ensures { λ r. ⌜ r ≡ cond (eqb applied 0) nothingApplied 0 ⌝ }
+{
+    if applied == 0 {
+        crate::replay::NOTHING_APPLIED
+    } else {
+        0
+    }
+}
+
 // The commands, one after another, from opening. A state that is reached from opening needs no validation.
 fn run_commands(
     commands: &[u8],
@@ -123,9 +135,12 @@ fn run_commands(
         at = start + crate::commands::width(code);
         answered = answered + 1;
         if code == crate::commands::UNDO {
-            let undone = crate::replay::undo(state, stream, journal);
-            state = undone.state;
-            hazards::answers::put_answer(answers, place, undone.answer);
+            let applied = state.progress.applied_length;
+            let answer = hazards::answers::no_event(undo_number(applied));
+            hazards::answers::put_answer(answers, place, answer);
+            if applied != 0 {
+                state = crate::replay::revert(stream, journal, applied);
+            }
             continue;
         }
         let command = &commands[start..at];

@@ -10,7 +10,7 @@ use Rattle.engine.specs.Journal.{Engine, ends, replayAll}
 use Rattle.engine.specs.Instance.{engineOf}
 use Rattle.engine.specs.ReplayCode.{beforeLast}
 use Rattle.engine.proofs.Asking.{undo-nothing, undo-fails, undo-other}
-use Rattle.engine.proofs.ExecuteLaws.{left-refused, replay-failed, replay-ended, cleared-journal, reverted-left}
+use Rattle.engine.proofs.ExecuteLaws.{left-refused, replay-failed, replay-ended, reverted-left}
 use Rattle.engine.proofs.replay.undo.Statement.{statement}
 use Rattle.engine.proofs.replay.undo.Tie as tie
 
@@ -103,43 +103,25 @@ returns-3 c =
 abbrev replayed-same : tie.Else3 → tie.After-replay-all
 replayed-same c = replayed (c .before .before .before)
 
-sub-clear : tie.Need-sub-clear
-sub-clear c = let l = within (replayed-same c) in omega (arith, start (replayed-same c) .pre)
-
-part-clear-start : tie.Need-part-clear-start
-part-clear-start c = let l = within (replayed-same c) in omega (arith, start (replayed-same c) .pre)
-
-part-clear-end : tie.Need-part-clear-end
-part-clear-end c = search needs
-
-sub-clear-2 : tie.Need-sub-clear-2
-sub-clear-2 c = let l = within (replayed-same (c .before)) in omega (arith, start (replayed-same (c .before)) .pre)
-
-clear-requires : tie.Need-clear-requires
-clear-requires c κs = search needs
-
 no-event-requires : tie.Need-no-event-requires
 no-event-requires c κs = search needs
 
-with-slot-requires : tie.Need-with-slot-requires
-with-slot-requires c κs = search needs
+restored-requires : tie.Need-restored-requires
+restored-requires c κs =
+    let r = replayed-same (c .before .before) in (within r, start r .pre)
 
 same-length-3 : tie.Need-same-length-3
 same-length-3 c = search needs
 
 returns-4 : tie.Need-returns-4
 returns-4 c =
-    let k = c .before .before .before .before .before .before .before .before in
+    let k = c .before .before .before .before .before in
     let r = replayed-same k in
-    let m = start r in
-    let a = m .args in
-    let cleared = c .before .before .before .before .before .before .clear in
+    let a = start r .args in
     let d = sym (k .before .same-state .ensures) ∙ not-false _ (k .if3 .left) in
-    let z =
-    cleared-journal (a .stream .now) (a .state) (a .journal .now) (cleared .last .0) (r .replay-all .result .last) (within r) (m .pre)
-    (cleared .ensures) in
+    let left = c .before .before .restored .ensures in
     reverted-left (a .stream .now) (a .state) (a .journal .now) (r .replay-all .result) (ended (k .before .before .before)) d _
-    (c .before .no-event .ensures) _ (c .with-slot .ensures) _ z (pos r)
+    (c .before .before .before .before .no-event .ensures) _ (left .0) _ (left .1 (a .stream .now)) (pos r)
 
 pub undo-spec : {M : Type 1} → statement M
 undo-spec =
@@ -157,12 +139,7 @@ undo-spec =
     refuse-requires-3
     same-length-2
     returns-3
-    sub-clear
-    part-clear-start
-    part-clear-end
-    sub-clear-2
-    clear-requires
     no-event-requires
-    with-slot-requires
+    restored-requires
     same-length-3
     returns-4)

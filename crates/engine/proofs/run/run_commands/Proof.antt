@@ -1,19 +1,29 @@
 -- `run::run_commands` meets its contract: at each turn, what is left of the run gives what the whole run gives.
 use mathlib.Core.Logic.{⊎-elim}
 use mathlib.Core.List.{List}
-use mathlib.Core.Path.{_≡_, sym, ap, _∙_}
+use mathlib.Core.Path.{_≡_, refl, sym, ap, _∙_}
+use mathlib.Core.Bool.{Bool, cond}
 use Prim.Native.Nat.{ℕ, _+_, _-_, _<_, _≤_, _^_}
 use native.Mathlib.Omega.{arith}
 use borrow.Author.Needs.{needs}
+use borrow.Author.Tests.{eq-eqb, ne-eqb}
+use lib.Dec.{eqb}
 use lib.ListN.{length, getD, drop}
+use Rattle.hazards.specs.Answers.{noEvent, withAnswer}
+use Rattle.engine.specs.Refusals.{nothingApplied}
 use Rattle.engine.specs.Commands as commands
 use Rattle.engine.specs.Commands.{widthOf}
 use Rattle.engine.specs.State.{emptySlot, slotAt}
 use Rattle.engine.specs.Journal.{code}
+use Rattle.engine.specs.Instance.{engineOf}
 use Rattle.engine.specs.Good.{Good}
+use Rattle.engine.specs.ExecuteCode.{onlyNumber}
 use Rattle.engine.specs.Run.{ran}
 use Rattle.engine.specs.RunCode.{openedRun}
+use Rattle.engine.proofs.Asking.{undo-nothing}
 use Rattle.engine.proofs.EveryPlace.{getD-any}
+use Rattle.engine.proofs.ExecuteLaws.{left-refused}
+use Rattle.engine.proofs.RunStates.{reached-replays}
 use Rattle.engine.proofs.SlotLaws.{slot-past}
 use Rattle.engine.proofs.RunTurns.{Running, Input, code-at, running-begins, running-good, running-ends, run-stops, run-goes-on}
 use Rattle.engine.proofs.RunTurns.{input-fits, next-undo, next-refused, next-below, next-performed}
@@ -133,24 +143,67 @@ add-answered c = omega arith
 
 -- ---- UNDO
 
-undo-requires : tie.Need-undo-requires Inv-loop μ-loop
-undo-requires c κs =
-    let k = known (c .before .before) in omega (arith, good k .applied, turn (ended k) .loop .inv .same-journal)
+undo-number-requires : tie.Need-undo-number-requires Inv-loop μ-loop
+undo-number-requires c κs = search needs
+
+no-event-requires : tie.Need-no-event-requires Inv-loop μ-loop
+no-event-requires c κs = search needs
 
 put-answer-requires : tie.Need-put-answer-requires Inv-loop μ-loop
 put-answer-requires c κs = search needs
 
+revert-requires : tie.Need-revert-requires Inv-loop μ-loop
+revert-requires c κs =
+    let k = known (c .before .before .before .before .before .before .before .before .before) in
+    omega (arith, good k .applied, turn (ended k) .loop .inv .same-journal)
+
+-- the width of an UNDO that is answered, and the number of its answer
+abbrev undone : tie.After-put-answer Inv-loop μ-loop → tie.After-width Inv-loop μ-loop
+undone c = c .before .before .before .before .before
+
+undo-answer : (c : tie.After-put-answer Inv-loop μ-loop) (number : ℕ)
+    → cond (eqb (turn (ended (known (undone c))) .loop .state .progress .«applied_length») 0) nothingApplied 0 ≡ number
+    → c .before .before .no-event .result ≡ noEvent number
+undo-answer c number e = c .before .before .no-event .ensures ∙ ap noEvent (c .before .before .before .undo-number .ensures ∙ e)
+
+abbrev by-test : Bool → ℕ
+by-test b = cond b nothingApplied 0
+
 loop-less : tie.Need-loop-less Inv-loop μ-loop
-loop-less c = let f = fits (c .before .before .before .before .before .before .before .before .before .before) in omega (arith, f .0, f .1)
+loop-less c = let f = fits (undone (c .before .before .before .before .before .before .before)) in omega (arith, f .0, f .1)
 
 loop-again : tie.Need-loop-again Inv-loop μ-loop
 loop-again c =
-    let w = c .before .before .before .before .before .before .before .before .before .before in
+    let put = c .before .before .before .before .before .before .before in
+    let w = undone put in
+    let a = start (known w) .args in
     let l = turn (ended (known w)) .loop in
-    let u = c .before .before .before .before .before .before .before .undo in
-    next-undo _ _ _ _ _ (input (known w)) (w .width .result) (wide w)
-    (code-is w ∙ c .before .before .before .before .before .before .before .before .before .if2 .taken) (u .result) (u .ensures)
-    (c .before .before .put-answer .ensures) (omega (arith, l .inv .same-journal)) (omega (arith, l .inv .same-answers))
+    let some = c .before .before .before .before .if3 .taken in
+    let pos : 0 < l .state .progress .«applied_length» = omega (arith, some) in
+    let own = reached-replays (a .stream .now) _ (l .state) (l .journal) (l .inv .reached) (l .inv .same-journal) pos in
+    let reverted = c .before .before .revert in
+    next-undo _ _ _ _ _ (input (known w)) (w .width .result) (wide w) (code-is w ∙ put .before .before .before .before .if2 .taken)
+    (onlyNumber 0 (reverted .result)) (reverted .ensures (l .state) refl pos own)
+    (put .put-answer .ensures ∙ ap (withAnswer _ _) (undo-answer put 0 (ap by-test (ne-eqb _ 0 some))))
+    (omega (arith, l .inv .same-journal)) (omega (arith, l .inv .same-answers))
+
+loop-less-2 : tie.Need-loop-less-2 Inv-loop μ-loop
+loop-less-2 c = let f = fits (undone (c .before .before .before)) in omega (arith, f .0, f .1)
+
+loop-again-2 : tie.Need-loop-again-2 Inv-loop μ-loop
+loop-again-2 c =
+    let put = c .before .before .before in
+    let w = undone put in
+    let a = start (known w) .args in
+    let l = turn (ended (known w)) .loop in
+    let n = length (l .journal) in
+    next-undo _ _ _ _ _ (input (known w)) (w .width .result) (wide w) (code-is w ∙ put .before .before .before .before .if2 .taken)
+    (onlyNumber nothingApplied (l .state))
+    (left-refused (a .stream .now) n (onlyNumber nothingApplied (l .state)) (l .state) (l .journal) (refl, refl)
+    (undo-nothing (engineOf (a .stream .now) n) (l .state) (l .journal) (omega (arith, c .if3 .left))))
+    (put .put-answer .ensures
+    ∙ ap (withAnswer _ _) (undo-answer put nothingApplied (ap by-test (eq-eqb _ 0 (c .if3 .left)))))
+    (omega (arith, l .inv .same-journal)) (omega (arith, l .inv .same-answers))
 
 -- ---- another command
 
@@ -198,13 +251,13 @@ other : (c : tie.After-answer-command Inv-loop μ-loop)
 other c q = c .before .before .before .before .before .before .before .if2 .left (sym (code-is (widthed c)) ∙ q)
 
 slot-is : (c : tie.After-answer-command Inv-loop μ-loop)
-    → c .before .before .before .if3 .slot ≡ slotAt (turn (ended (known (widthed c))) .loop .state) (targeted c .target .result)
+    → c .before .before .before .if4 .slot ≡ slotAt (turn (ended (known (widthed c))) .loop .state) (targeted c .target .result)
 slot-is c =
     let s = turn (ended (known (widthed c))) .loop .state in
     let t : ℕ = targeted c .target .result in
     let sixteen = good (known (widthed c)) .slots in
     ⊎-elim (λ w. w .2 ∙ getD-any (s .slots) t _ emptySlot (omega (arith, w .0 .taken)))
-    (λ w. w .2 ∙ w .1 .ensures ∙ slot-past s t (omega (arith, w .0 .left))) (c .before .before .before .if3 .came)
+    (λ w. w .2 ∙ w .1 .ensures ∙ slot-past s t (omega (arith, w .0 .left))) (c .before .before .before .if4 .came)
 
 -- an accepted command is about one of the sixteen
 below : (c : tie.After-moved Inv-loop μ-loop) → targeted (c .before .before .before .before .before .before .before) .target .result < 16
@@ -212,7 +265,7 @@ below c =
     let m = c .before .before .before .before .before .before .before in
     let w = widthed m in
     next-below _ _ _ _ _ (input (known w)) (w .width .result) (wide w) (other m) (m .answer-command .result) (targeted m .target .result)
-    (targeted m .target .ensures) _ (slot-is m) (m .answer-command .ensures) (c .before .if4 .taken)
+    (targeted m .target .ensures) _ (slot-is m) (m .answer-command .ensures) (c .before .if5 .taken)
 
 mul-moved : tie.Need-mul-moved Inv-loop μ-loop
 mul-moved c = let b = below c in omega arith
@@ -220,29 +273,29 @@ mul-moved c = let b = below c in omega arith
 element-set-from-moved : tie.Need-element-set-from-moved Inv-loop μ-loop
 element-set-from-moved c = let b = below c in omega arith
 
-loop-less-2 : tie.Need-loop-less-2 Inv-loop μ-loop
-loop-less-2 c = let f = fits (widthed (c .before .before .before .before .before .before .before .before)) in omega (arith, f .0, f .1)
+loop-less-3 : tie.Need-loop-less-3 Inv-loop μ-loop
+loop-less-3 c = let f = fits (widthed (c .before .before .before .before .before .before .before .before)) in omega (arith, f .0, f .1)
 
-loop-again-2 : tie.Need-loop-again-2 Inv-loop μ-loop
-loop-again-2 c =
+loop-again-3 : tie.Need-loop-again-3 Inv-loop μ-loop
+loop-again-3 c =
     let m = c .before .before .before .before .before .before .before .before in
     let w = widthed m in
     let l = turn (ended (known w)) .loop in
     next-performed _ _ _ _ _ (input (known w)) (w .width .result) (wide w) (other m)
     (m .answer-command .result) (targeted m .target .result) (targeted m .target .ensures) _ (slot-is m) (m .answer-command .ensures)
-    (c .before .before .if4 .taken) (omega (arith, l .inv .same-journal)) (omega (arith, l .inv .same-answers))
+    (c .before .before .if5 .taken) (omega (arith, l .inv .same-journal)) (omega (arith, l .inv .same-answers))
 
-loop-less-3 : tie.Need-loop-less-3 Inv-loop μ-loop
-loop-less-3 c = let f = fits (widthed (c .before .before .before .before .before .before)) in omega (arith, f .0, f .1)
+loop-less-4 : tie.Need-loop-less-4 Inv-loop μ-loop
+loop-less-4 c = let f = fits (widthed (c .before .before .before .before .before .before)) in omega (arith, f .0, f .1)
 
-loop-again-3 : tie.Need-loop-again-3 Inv-loop μ-loop
-loop-again-3 c =
+loop-again-4 : tie.Need-loop-again-4 Inv-loop μ-loop
+loop-again-4 c =
     let m = c .before .before .before .before .before .before in
     let w = widthed m in
     let l = turn (ended (known w)) .loop in
     next-refused _ _ _ _ _ (input (known w)) (w .width .result) (wide w) (other m)
     (m .answer-command .result) (targeted m .target .result) (targeted m .target .ensures) _ (slot-is m) (m .answer-command .ensures)
-    (c .if4 .left) (omega (arith, l .inv .same-journal)) (omega (arith, l .inv .same-answers))
+    (c .if5 .left) (omega (arith, l .inv .same-journal)) (omega (arith, l .inv .same-answers))
 
 -- ---- the end of the list
 
@@ -284,10 +337,14 @@ run-commands-spec =
     width-requires
     add-at
     add-answered
-    undo-requires
+    undo-number-requires
+    no-event-requires
     put-answer-requires
+    revert-requires
     loop-less
     loop-again
+    loop-less-2
+    loop-again-2
     sub-command
     part-command-start
     part-command-end
@@ -298,10 +355,10 @@ run-commands-spec =
     answer-command-requires
     mul-moved
     element-set-from-moved
-    loop-less-2
-    loop-again-2
     loop-less-3
     loop-again-3
+    loop-less-4
+    loop-again-4
     finish-requires
     same-length-4
     same-length-5
