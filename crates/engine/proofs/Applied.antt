@@ -134,12 +134,12 @@ module _ (E : Engine) (n : ℕ) (L : Laws E n) where
       go false = h
 
   -- the replay of the applied bytes
-  record AppliedReplay (u : Session E) : Type 0 where
-    rest : E .State
-    scans : replayAll E (take (E .appliedLength (u .state)) (u .journal)) ≡ ends (u .state) rest (length (concat (init (u .applied))))
-    ran : replay E (some (E .opened)) (init (u .applied)) ≡ some rest
+  pub record AppliedReplay (u : Session E) : Type 0 where
+    pub rest : E .State
+    pub scans : replayAll E (take (E .appliedLength (u .state)) (u .journal)) ≡ ends (u .state) rest (length (concat (init (u .applied))))
+    pub ran : replay E (some (E .opened)) (init (u .applied)) ≡ some rest
 
-  applied-replay : (u : Session E) → Inv u → 0 < length (concat (u .applied)) → AppliedReplay u
+  pub applied-replay : (u : Session E) → Inv u → 0 < length (concat (u .applied)) → AppliedReplay u
   unfolding replayAll
   applied-replay u h p =
       let bytes : take (E .appliedLength (u .state)) (u .journal) ≡ concat (u .applied) =

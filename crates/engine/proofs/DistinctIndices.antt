@@ -10,6 +10,7 @@ use Rattle.clocks.proofs.Cases.{either-way}
 use Rattle.engine.specs.Queue.{keepIf, isThere}
 use Rattle.engine.specs.Validation.{distinct}
 use Rattle.engine.specs.declared.state.Request.{Request}
+use Rattle.engine.proofs.Conjunctions.{both-true}
 use Rattle.engine.proofs.RequestLists.{In, in-keep, in-append}
 
 -- ---- whether a request with an index is there
@@ -31,10 +32,6 @@ not-there index (x ∷ xs) h = rw (ne-eqb (x .index) index (h x (inl refl))) (no
 record Distinct (x : Request) (xs : List Request) : Type 0 where
   first : isThere (x .index) xs ≡ false
   rest : distinct xs ≡ true
-
-both-true : (a b : Bool) → (a && b) ≡ true → (a ≡ true) × (b ≡ true)
-both-true true b e = (refl, e)
-both-true false b e = absurd (true≢false (sym e))
 
 distinct-first : (x : Request) (xs : List Request) → distinct (x ∷ xs) ≡ true → Distinct x xs
 unfolding distinct

@@ -1,6 +1,6 @@
 -- A test of every place below n: one place more, and one that fails.
 use mathlib.Core.Path.{_≡_, refl}
-use mathlib.Core.Bool.{Bool, true, false, _&&_}
+use mathlib.Core.Bool.{Bool, true, false}
 use mathlib.Core.List.{List, [], _∷_}
 use Prim.Native.Nat.{ℕ, zero, suc, _+_, _<_}
 use native.Mathlib.Numerals.{add-one}
@@ -10,10 +10,7 @@ use lib.Dec.{eqb}
 use lib.ListN.{length, getD}
 use Rattle.clocks.proofs.Cases.{either-way}
 use Rattle.engine.specs.Comparison.{everyBelow}
-
-and-false : (b : Bool) → (b && false) ≡ false
-and-false true = refl
-and-false false = refl
+use Rattle.engine.proofs.Conjunctions.{and-false}
 
 module _ (test : ℕ → Bool) where
   pub every-none : everyBelow 0 test ≡ true

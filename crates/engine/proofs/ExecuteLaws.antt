@@ -1,6 +1,6 @@
 -- Answer, state and journal after an input, by what the code does with it; and what a valid state says of its progress.
 use mathlib.Core.Path.{_≡_, refl, sym, ap, _∙_}
-use mathlib.Core.Bool.{Bool, true, false, cond, _&&_, true≢false}
+use mathlib.Core.Bool.{Bool, true, false, true≢false}
 use mathlib.Core.List.{List, _++_}
 use Prim.Native.Nat.{ℕ, _+_, _-_, _≤_, _<_}
 use native.Mathlib.Omega.{arith}
@@ -12,17 +12,17 @@ use Rattle.hazards.specs.Answers.{noEvent}
 use Rattle.hazards.specs.Lists.{all}
 use Rattle.hazards.specs.Draws.{streamLength}
 use Rattle.hazards.specs.declared.answers.Answer.{Answer}
-use Rattle.engine.specs.State.{slotAt, withSlot, queuedRequests}
-use Rattle.engine.specs.Validation.{validSlot, validRequest, distinct, validQueue, validProgress, validState}
-use Rattle.engine.specs.Execution.{performOn, target}
+use Rattle.engine.specs.State.{slotAt, withSlot}
+use Rattle.engine.specs.Validation.{validSlot, validQueue, validProgress, validState}
+use Rattle.engine.specs.Execution.{OnSlot, performOn, target}
 use Rattle.engine.specs.ExecutionCode.{onSlotOf}
-use Rattle.engine.specs.Journal.{Bytes, Engine, Outcome, Replayed, fails, ends, replayAll, unchanged, cleared, undo, act, apply, write, rejected, performed}
-use Rattle.engine.specs.Journal.{code, cut, classify, execute}
+use Rattle.engine.specs.Journal.{Bytes, Engine, Outcome, Replayed, fails, ends, replayAll, unchanged, cleared, undo}
+use Rattle.engine.specs.Journal.{act, apply, write, code, cut, classify, execute}
 use Rattle.engine.specs.Instance.{engineOf}
 use Rattle.engine.specs.Comparison.{sameState}
 use Rattle.engine.specs.Parts.{copiedInto, clearedFront}
 use Rattle.engine.specs.ReplayCode.{beforeLast, replayedOf}
-use Rattle.engine.specs.ExecuteCode.{After, after, left}
+use Rattle.engine.specs.ExecuteCode.{after, left, Applied, appliedOn, journalAfter, applyOn}
 use Rattle.engine.specs.declared.execute.Executed.{Executed}
 use Rattle.engine.specs.declared.execution.SlotOutcome.{SlotOutcome}
 use Rattle.engine.specs.declared.replay.Replay.{Replay}
@@ -30,16 +30,13 @@ use Rattle.engine.specs.declared.state.ClockSlot.{ClockSlot}
 use Rattle.engine.specs.declared.state.Progress.{Progress}
 use Rattle.engine.specs.declared.state.EngineState.{EngineState}
 use Rattle.engine.proofs.Asking.{undo-reverts}
-use Rattle.engine.proofs.EngineLaws.{engine-laws}
-use Rattle.engine.proofs.JournalBytes.{zeroed-part, pasted-part}
+use Rattle.engine.proofs.ComparisonLaws.{state-same}
+use Rattle.engine.proofs.Conjunctions.{both-true}
+use Rattle.engine.proofs.JournalBytes.{restOf, zeroed-part, pasted-part}
 use Rattle.engine.proofs.PartLaws.{copied-whole, cleared-whole}
-use Rattle.engine.proofs.ReplayLaws.{outcome-done, outcome-refused, stored-performed, stored-rejected}
+use Rattle.engine.proofs.SlotLaws.{outcome-done, outcome-refused, done-fits, rejects, performs}
 
 -- ---- a valid state
-
-both : (a b : Bool) → (a && b) ≡ true → (a ≡ true) × (b ≡ true)
-both true b e = (refl, e)
-both false b e = absurd (true≢false (sym e))
 
 pub record Within (n : ℕ) (p : Progress) : Type 0 where
   pub queued : p .queued ≤ 16
@@ -50,12 +47,12 @@ pub valid-within : (stream : List ℕ) (n : ℕ) (s : EngineState) → validStat
 unfolding validState validQueue validProgress
 valid-within stream n s v =
     let p = s .progress in
-    let q = both (all validSlot (s .slots)) _ v in
-    let r = both (validQueue s) (validProgress stream n p) (q .1) in
-    let t = both (leb (p .position) (streamLength stream)) _ (r .1) in
-    let u = both (leb (p .«applied_length») n) _ (t .1) in
+    let q = both-true (all validSlot (s .slots)) _ v in
+    let r = both-true (validQueue s) (validProgress stream n p) (q .1) in
+    let t = both-true (leb (p .position) (streamLength stream)) _ (r .1) in
+    let u = both-true (leb (p .«applied_length») n) _ (t .1) in
     record {
-      queued = leb-true (p .queued) 16 (both (leb (p .queued) 16) _ (r .0) .0);
+      queued = leb-true (p .queued) 16 (both-true (leb (p .queued) 16) _ (r .0) .0);
       applied = leb-true (p .«applied_length») n (u .0);
       requests = leb-true (p .«request_count») (p .«applied_length») (u .1);
     }
@@ -67,6 +64,15 @@ pub left-refused : (stream : List ℕ) (n : ℕ) (r : Executed) (s : EngineState
     → (r .answer ≡ noEvent number) × (r .state ≡ s) → o ≡ unchanged (engineOf stream n) s j number → left r j ≡ after stream n o
 left-refused stream n r s j e q = rw q (λ i. record { answer = e .0 i; state = e .1 i; journal = j })
 
+-- the parts of a replay
+abbrev doesEnd : (stream : List ℕ) (n : ℕ) → Replayed (engineOf stream n) → Bool
+doesEnd stream n fails = false
+doesEnd stream n (ends t before last) = true
+
+abbrev endState : (stream : List ℕ) (n : ℕ) → EngineState → Replayed (engineOf stream n) → EngineState
+endState stream n d fails = d
+endState stream n d (ends t before last) = t
+
 -- a replay by its flag
 module _ (stream : List ℕ) (n : ℕ) (r : Replay) {x : Replayed (engineOf stream n)} (e : replayedOf stream n r ≡ x) where
   pub replay-failed : r .ok ≡ false → x ≡ fails
@@ -75,11 +81,19 @@ module _ (stream : List ℕ) (n : ℕ) (r : Replay) {x : Replayed (engineOf stre
   pub replay-ended : r .ok ≡ true → x ≡ ends (r .state) (beforeLast r) (r .last)
   replay-ended q = sym e ∙ rw q
 
--- the last command reverted, and its bytes cleared in the part of the journal from its place on
-module _ (stream : List ℕ) (s : EngineState) (j z : Bytes) (last : ℕ) where
-  abbrev k : ℕ
-  k = s .progress .«applied_length»
+  -- one that is known to end in s
+  pub replay-own : (s before : EngineState) (last : ℕ) → x ≡ ends s before last
+      → (x ≡ ends (r .state) (beforeLast r) (r .last)) × (sameState (r .state) s ≡ true)
+  replay-own s before last q = go (r .ok) refl
+    where
+      go : (b : Bool) → r .ok ≡ b → (x ≡ ends (r .state) (beforeLast r) (r .last)) × (sameState (r .state) s ≡ true)
+      go true h =
+          let p = replay-ended h in
+          (p, ap (λ (t : EngineState). sameState t s) (ap (endState stream n s) (sym p ∙ q)) ∙ state-same s)
+      go false h = absurd (true≢false (sym (ap (doesEnd stream n) (sym (replay-failed h) ∙ q))))
 
+-- the last command reverted, and its bytes cleared in the part of the journal from its place on
+module _ (stream : List ℕ) (j z : Bytes) (last k : ℕ) where
   pub cleared-journal : last ≤ k → k ≤ length j → z ≡ clearedFront (take (length j - last) (drop last j)) (k - last)
       → take last j ++ (z ++ drop (length j - last) (drop last j)) ≡ cleared (engineOf stream (length j)) j last k
   cleared-journal h₁ h₂ q =
@@ -96,41 +110,55 @@ reverted-left stream s j r e d a ea t et x ex pos =
     rw (undo-reverts (engineOf stream (length j)) s j pos (r .state) (beforeLast r) (r .last) e d)
     (λ i. record { answer = ea i; state = et i; journal = ex i })
 
+-- ---- a command on the slot of its clock
+
+module _ (stream : List ℕ) (slot : ClockSlot) (p : Progress) (j c : Bytes) (o : SlotOutcome)
+    (did : onSlotOf o ≡ performOn stream (length j) slot p c) where
+  leaves : {d : OnSlot} → performOn stream (length j) slot p c ≡ d → (k : Bytes) → k ≡ journalAfter p j c d
+      → appliedOn o k ≡ applyOn stream slot p j c
+  leaves e k q =
+      let r : k ≡ journalAfter p j c (performOn stream (length j) slot p c) = q ∙ ap (journalAfter p j c) (sym e) in
+      λ i. record { outcome = did i; journal = r i }
+
+  pub applied-refused : (o .number ≡ 0 → ⊥) → appliedOn o j ≡ applyOn stream slot p j c
+  applied-refused z = leaves (outcome-refused o did z) j refl
+
+  abbrev applied-end : ℕ
+  applied-end = p .«applied_length»
+
+  -- copied into the part of the journal from the applied commands' end on
+  pub applied-copied : o .number ≡ 0 → (y : Bytes) → y ≡ copiedInto (restOf j applied-end) c
+      → appliedOn o (take applied-end j ++ (y ++ drop (length j - applied-end) (drop applied-end j))) ≡ applyOn stream slot p j c
+  applied-copied z y q =
+      let d = outcome-done o did z in
+      let room : applied-end + length c ≤ length j = done-fits stream (length j) slot p c (o .slot) (o .progress) (o .answer) d in
+      let l : length c ≤ length (restOf j applied-end) = simp (length-take, length-drop) (omega arith) in
+      leaves d _ (pasted-part j y c applied-end (omega arith) (q ∙ copied-whole (restOf j applied-end) c l))
+
 -- ---- a command on a valid state
 
 module _ (stream : List ℕ) (s : EngineState) (j c : Bytes) (o : SlotOutcome) (t : ℕ) (named : t ≡ target (s .progress) c)
-    (old : ClockSlot) (there : old ≡ slotAt s t) (did : onSlotOf o ≡ performOn stream (length j) old (s .progress) c) where
+    (old : ClockSlot) (there : old ≡ slotAt s t) (k : Bytes) (e : appliedOn o k ≡ applyOn stream old (s .progress) j c) where
   abbrev E : Engine
   E = engineOf stream (length j)
 
-  on-slot : onSlotOf o ≡ performOn stream (length j) (slotAt s (target (s .progress) c)) (s .progress) c
-  on-slot = rw (← named, ← there) did
+  did : onSlotOf o ≡ performOn stream (length j) old (s .progress) c
+  did = ap (λ (x : Applied). x .outcome) e
 
-  pub apply-refused : (o .number ≡ 0 → ⊥) → act E s j (apply c) ≡ unchanged E s j (o .number)
-  apply-refused z = ap (write E s j c) (stored-rejected stream (length j) s c (o .number) (outcome-refused o _ on-slot z))
+  journal-is : {d : OnSlot} → performOn stream (length j) old (s .progress) c ≡ d → k ≡ journalAfter (s .progress) j c d
+  journal-is q = ap (λ (x : Applied). x .journal) e ∙ ap (journalAfter (s .progress) j c) q
 
-  module _ (z : o .number ≡ 0) where
-    performs : E .perform s c ≡ performed (withSlot s t (o .slot) (o .progress)) (o .answer)
-    performs =
-        rw (← named) at (stored-performed stream (length j) s c (o .slot) (o .progress) (o .answer) (outcome-done o _ on-slot z))
+  pub refused-left : (o .number ≡ 0 → ⊥) → (r : Executed) → (r .answer ≡ noEvent (o .number)) × (r .state ≡ s)
+      → left r k ≡ after stream (length j) (act E s j (apply c))
+  refused-left z r q =
+      ap (left r) (journal-is (outcome-refused o did z))
+      ∙ left-refused stream (length j) r s j q (ap (write E s j c) (rejects stream (length j) s c o t named old there did z))
 
-    has-room : s .progress .«applied_length» + length c ≤ length j
-    has-room = engine-laws stream (length j) .fits s (withSlot s t (o .slot) (o .progress)) c (o .answer) performs
-
-    -- copied into the part of the journal from the applied commands' end on
-    pub copied-journal : (y : Bytes)
-        → y ≡ copiedInto (take (length j - s .progress .«applied_length») (drop (s .progress .«applied_length») j)) c
-        → take (s .progress .«applied_length») j ++ (y ++ drop (length j - s .progress .«applied_length») (drop (s .progress .«applied_length») j))
-        ≡ paste j (s .progress .«applied_length») c (length c)
-    copied-journal y q =
-        let room = has-room in
-        let f = s .progress .«applied_length» in
-        let l : length c ≤ length (take (length j - f) (drop f j)) = simp (length-take, length-drop) (omega arith) in
-        pasted-part j y c f (omega arith) (q ∙ copied-whole (take (length j - f) (drop f j)) c l)
-
-    pub applied-left : (t′ : EngineState) → t′ ≡ withSlot s t (o .slot) (o .progress) → (x : Bytes) → x ≡ paste j (s .progress .«applied_length») c (length c)
-        → left (record { answer = o .answer; state = t′ }) x ≡ after stream (length j) (act E s j (apply c))
-    applied-left t′ et x ex = rw performs (λ i. record { answer = o .answer; state = et i; journal = ex i })
+  pub applied-left : o .number ≡ 0 → (u : EngineState) → u ≡ withSlot s t (o .slot) (o .progress)
+      → left (record { answer = o .answer; state = u }) k ≡ after stream (length j) (act E s j (apply c))
+  applied-left z u eu =
+      let ek : k ≡ paste j (s .progress .«applied_length») c (length c) = journal-is (outcome-done o did z) in
+      rw (performs stream (length j) s c o t named old there did z) (λ i. record { answer = o .answer; state = eu i; journal = ek i })
 
 -- a command of which its own bytes are asked for
 pub executes : (E : Engine) (s : E .State) (j i : Bytes) (w : ℕ) → w ≡ E .width (code i) → classify E s i ≡ apply (cut E i)

@@ -6,6 +6,7 @@ use mathlib.Core.Option.{Option, none, some}
 use Prim.Native.Nat.{ℕ, _+_, _-_, _<_, _≤_, _^_}
 use native.Mathlib.Omega.{arith}
 use lib.Dec.{eqb, leb}
+use lib.Ieee.{Float}
 use lib.ListN.{length, length-take}
 use borrow.Author.Tests.{leb-true, leb-false, le-leb, lt-leb, eqb-false, eq-eqb, ne-eqb}
 use Rattle.hazards.specs.Answers.{noEvent}
@@ -18,6 +19,7 @@ use Rattle.clocks.specs.Scheduling as scheduling
 use Rattle.clocks.specs.Setting.{setChannel}
 use Rattle.clocks.specs.declared.clocks.ScheduledEvent.{ScheduledEvent}
 use Rattle.clocks.specs.declared.clocks.SurvivalClock.{SurvivalClock}
+use Rattle.clocks.specs.declared.scheduling.Censor.{Censor}
 use Rattle.clocks.specs.declared.scheduling.Dispatched.{Dispatched}
 use Rattle.clocks.specs.declared.scheduling.Paused.{Paused}
 use Rattle.clocks.specs.declared.scheduling.Rescheduled.{Rescheduled}
@@ -27,7 +29,8 @@ use Rattle.engine.specs.Refusals.{clockPresent, clockAbsent, queueEmpty,
 use Rattle.engine.specs.Queue.{nextRequest, without, isThere}
 use Rattle.engine.specs.QueueCode.{pickOf}
 use Rattle.engine.specs.State.{queuedRequests, withQueue, withRequest, withPosition, applied}
-use Rattle.engine.specs.Execution.{OnSlot, refused, done, byteAt, clockOf, createFaults, causeFaults, createdClock, settingOf}
+use Rattle.engine.specs.Execution.{OnSlot, refused, done, byteAt, clockOf, createFaults, causeFaults, rescheduleFaults}
+use Rattle.engine.specs.Execution.{createdClock, settingOf}
 use Rattle.engine.specs.Execution.{nowOf, censorOf, unlessFull, unlessFaulty, onClock, holding, plain, isWithdrawn, withdraw}
 use Rattle.engine.specs.Execution.{requestOf, eventAnswer, withdrawnAnswer, clockOfRequest, target}
 use Rattle.engine.specs.Execution.{afterSet, afterReschedule, afterPause, delivered, performCreate, performSet, performRemove}
@@ -76,12 +79,6 @@ module _ (n : ℕ) (p : Progress) (c : List ℕ) where
   removeOn k =
       unlessFull n p c (done (holding (removeChannel k (fieldAt 4 c commands.causeField))) (applied (length c) p) plain)
 
-  abbrev pub rescheduleOn : SurvivalClock → OnSlot
-  rescheduleOn k = afterReschedule n p c (scheduling.reschedule k (nowOf c) (censorOf c) (p .«request_count»))
-
-  abbrev pub resumeOn : SurvivalClock → OnSlot
-  resumeOn k = afterReschedule n p c (scheduling.resume k (nowOf c) (censorOf c) (p .«request_count»))
-
   abbrev pub pauseOn : SurvivalClock → OnSlot
   pauseOn k = afterPause n p c (scheduling.pause k (nowOf c))
 
@@ -127,6 +124,21 @@ module _ (f : Faults) (slot : ClockSlot) (d : SurvivalClock → OnSlot) {number 
 
   pub there : number ≡ 0 → d (slot .clock) ≡ unlessFaulty f (onClock slot d)
   there h = by-clock (d (slot .clock)) number (numberOf f) (eqb (numberOf f) 0) (slot .present) refl e h
+
+-- ---- RESCHEDULE and RESUME, by the method that they call
+module _ (n : ℕ) (slot : ClockSlot) (p : Progress) (c : List ℕ) (method : SurvivalClock → Float → Censor → ℕ → Rescheduled) where
+  abbrev methodOn : SurvivalClock → OnSlot
+  methodOn k = afterReschedule n p c (method k (nowOf c) (censorOf c) (p .«request_count»))
+
+  module _ {number : ℕ} {faults : Faults} (e : number ≡ refusalOf (slot .present) faults) (f : faults ≡ rescheduleFaults c) where
+    pub not-rescheduled : (number ≡ 0 → ⊥) → refused number ≡ unlessFaulty (rescheduleFaults c) (onClock slot methodOn)
+    not-rescheduled = not-done (rescheduleFaults c) slot methodOn (e ∙ ap (refusalOf (slot .present)) f)
+
+    pub rescheduled-there : number ≡ 0 → {r : Rescheduled} {t : Float} {s : Censor} → r ≡ method (slot .clock) t s (p .«request_count»)
+        → t ≡ nowOf c → s ≡ censorOf c → afterReschedule n p c r ≡ unlessFaulty (rescheduleFaults c) (onClock slot methodOn)
+    rescheduled-there z q et es =
+        ap (afterReschedule n p c) (q ∙ ap₂ (λ (t : Float) (s : Censor). method (slot .clock) t s (p .«request_count»)) et es)
+        ∙ there (rescheduleFaults c) slot methodOn (e ∙ ap (refusalOf (slot .present)) f) z
 
 -- ---- 14
 module _ (n : ℕ) (p : Progress) (c : List ℕ) (d : OnSlot) where

@@ -3,10 +3,9 @@
 use mathlib.Core.Path.{_≡_, refl, sym, _∙_, ap, subst}
 use mathlib.Core.Bool.{true}
 use mathlib.Core.List.{List}
-use mathlib.Core.Option.{some}
 use Prim.Native.Nat.{ℕ, _<_}
 use native.Mathlib.Omega.{arith}
-use borrow.Author.Tests.{eqb-true, eqb-false, eq-eqb, ne-eqb}
+use borrow.Author.Tests.{eqb-true, eqb-false}
 use lib.Dec.{eqb}
 use lib.ListN.{length}
 use Rattle.hazards.specs.Fields.{fieldAt}
@@ -19,9 +18,7 @@ use Rattle.clocks.proofs.SettingOutcomes.{set-within}
 use Rattle.clocks.proofs.RequestLaws.{new-scheduled, set-rest, remove-rest, reschedule-requests, resume-requests}
 use Rattle.clocks.proofs.RequestLaws.{pause-withdraws, pause-names-nothing, pause-leaves, pause-withdraws-nothing}
 use Rattle.engine.specs.Commands as commands
-use Rattle.engine.specs.Commands.{widthOf}
-use Rattle.engine.specs.Queue.{nextRequest}
-use Rattle.engine.specs.State.{openedState, slotAt, withSlot, queuedRequests}
+use Rattle.engine.specs.State.{openedState, slotAt, withSlot}
 use Rattle.engine.specs.Journal.{Whole, code, performed}
 use Rattle.engine.specs.Sessions.{Sound}
 use Rattle.engine.specs.Execution.{done, clockOf, nowOf, censorOf, settingOf, createdClock, performOn, target, perform}
@@ -30,43 +27,18 @@ use Rattle.engine.specs.Instance.{engineOf, requestsOf}
 use Rattle.engine.specs.Good.{Good}
 use Rattle.engine.specs.declared.state.ClockSlot.{ClockSlot}
 use Rattle.engine.specs.declared.state.Progress.{Progress}
-use Rattle.engine.specs.declared.state.Request.{Request}
 use Rattle.engine.specs.declared.state.EngineState.{EngineState}
 use Rattle.engine.proofs.AcceptedFields.{create-accepted, set-accepted, cause-accepted, reschedule-accepted, pause-accepted}
-use Rattle.engine.proofs.PerformedWays.{NoOther, performed-way, done-on}
+use Rattle.engine.proofs.PerformedWays.{performed-way, done-on}
+use Rattle.engine.proofs.PerformedTargets.{only-deliver, target-delivered}
+use Rattle.engine.proofs.ExecutionCases.{target-named}
 use Rattle.engine.proofs.GoodSteps.{Step, clock-sound, create-step, channels-step, reschedule-step, pause-step, idle-step}
 use Rattle.engine.proofs.GoodDeliveries.{Delivery, deliver-step}
 use Rattle.engine.proofs.GoodValid.{opened-good, good-valid}
 
--- a code that is no command's has no width
-pub no-width : (k : ℕ) → (k ≡ commands.create → ⊥) → (k ≡ commands.set → ⊥) → (k ≡ commands.remove → ⊥) → (k ≡ commands.reschedule → ⊥)
-    → (k ≡ commands.pause → ⊥) → (k ≡ commands.resume → ⊥) → (k ≡ commands.deliver → ⊥) → (k ≡ commands.undo → ⊥) → widthOf k ≡ 0
-unfolding widthOf
-no-width k h₁ h₂ h₃ h₄ h₅ h₆ h₇ h₈ =
-    rw (
-      ne-eqb k commands.create h₁,
-      ne-eqb k commands.set h₂,
-      ne-eqb k commands.remove h₃,
-      ne-eqb k commands.reschedule h₄,
-      ne-eqb k commands.pause h₅,
-      ne-eqb k commands.resume h₆,
-      ne-eqb k commands.deliver h₇,
-      ne-eqb k commands.undo h₈,
-    )
-
 module _ (stream : List ℕ) (n : ℕ) (s : EngineState) (c : List ℕ) where
   abbrev p : Progress
   p = s .progress
-
-  -- ---- the clock that a command is about
-
-  target-named : (code c ≡ commands.deliver → ⊥) → target p c ≡ clockOf c
-  unfolding target
-  target-named h = rw (ne-eqb (code c) commands.deliver h)
-
-  pub target-delivered : (r : Request) → code c ≡ commands.deliver → nextRequest (queuedRequests p) ≡ some r → target p c ≡ r .clock
-  unfolding target
-  target-delivered r h e = rw (eq-eqb (code c) commands.deliver h, e)
 
   module _ (g : Good stream n s) where
     -- ---- a command but DELIVER
@@ -109,7 +81,7 @@ module _ (stream : List ℕ) (n : ℕ) (s : EngineState) (c : List ℕ) where
         reschedule-step stream n s g c (h .clock) pos room _ (resume-requests (old .clock) (nowOf c) (censorOf c) (p .«request_count»))
         (resume-sound (old .clock) (sound (h .clock) present) (nowOf c) (censorOf c) (p .«request_count») (h .now)
         (λ e. h .censor)) present)
-        (λ k r e room. absurd (no-other k)) slot p′ a did
+        (λ k r e room. absurd (only-deliver stream n old p c k whole other)) slot p′ a did
       where
         old : ClockSlot
         old = slotAt s (clockOf c)
@@ -120,14 +92,6 @@ module _ (stream : List ℕ) (n : ℕ) (s : EngineState) (c : List ℕ) where
         sound : clockOf c < 16 → old .present ≡ true → SoundClock (old .clock)
         sound below present = clock-sound stream n s g (clockOf c) below present
 
-        no-other : NoOther stream n old p c → ⊥
-        no-other k =
-            let w =
-            no-width (code c) (k .not-create) (k .not-set) (k .not-remove) (k .not-reschedule) (k .not-pause) (k .not-resume) other
-            (whole .other) in
-            let l : length c ≡ widthOf (code c) = whole .len in
-            omega arith
-
     pub record Named (t : EngineState) (a : Answer) : Type 0 where
       pub good : Good stream n t
       pub queues : Queues (engineOf stream n) (requestsOf stream n) s t c a
@@ -136,7 +100,7 @@ module _ (stream : List ℕ) (n : ℕ) (s : EngineState) (c : List ℕ) where
         → perform stream n s c ≡ performed t a → Named t a
     named-kept whole other t a e =
         let d = done-on stream n s t c a e in
-        let i = target-named other in
+        let i = sym (target-named p c other) in
         let did = subst (λ (j : ℕ). performOn stream n (slotAt s j) p c ≡ done (d .slot) (d .progress) a) i (d .did) in
         let stores = d .stores ∙ ap (λ (j : ℕ). withSlot s j (d .slot) (d .progress)) i in
         let step = named-step whole other (d .slot) (d .progress) a did in
@@ -154,7 +118,7 @@ module _ (stream : List ℕ) (n : ℕ) (s : EngineState) (c : List ℕ) where
         (λ o f h room. absurd (omega arith))
         (λ o f h room. absurd (omega arith)) (λ o f h room. absurd (omega arith)) (λ o f h room. absurd (omega arith))
         (λ o f h room. absurd (omega arith)) (λ o f h room. absurd (omega arith))
-        (λ o r earliest room. rw (target-delivered r k earliest) (deliver-step stream n s g c room r earliest))
+        (λ o r earliest room. rw (target-delivered p c r k earliest) (deliver-step stream n s g c room r earliest))
         (d .slot) (d .progress) a (d .did))
 
 -- ---- what the generic halves ask for

@@ -79,6 +79,16 @@ paste-part j s k =
     ∙ ap (λ (l : Bytes). take k j ++ s ++ l) (drop-drop (length s) k j)
     ∙ ap (λ (l : Bytes). take k j ++ l ++ drop (k + length s) j) (sym (take-length s))
 
+-- the parts that are lent: from k to the end, and w bytes from k on
+abbrev pub restOf : Bytes → ℕ → Bytes
+restOf j k = take (length j - k) (drop k j)
+
+abbrev pub partOf : Bytes → ℕ → ℕ → Bytes
+partOf j k w = take (k + w - k) (drop k j)
+
+pub part-of : (j : Bytes) (k w : ℕ) → partOf j k w ≡ take w (drop k j)
+part-of j k w = let e : k + w - k ≡ w = omega arith in ap (λ (m : ℕ). take m (drop k j)) e
+
 -- a part from k to the end is all that is behind k
 pub part-all : (j : Bytes) (k : ℕ) → take (length j - k) (drop k j) ≡ drop k j
 part-all j k = take-all (length j - k) (drop k j) (omega (arith, length-drop k j))

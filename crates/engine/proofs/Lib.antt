@@ -5,6 +5,7 @@ pub mod Balance
 pub mod CommandLaws
 pub mod ComparisonLaws
 pub mod Computed
+pub mod Conjunctions
 pub mod Demand3
 pub mod DistinctIndices
 pub mod EngineLaws
@@ -34,7 +35,12 @@ pub mod RequestCounts
 pub mod RequestLists
 pub mod RequestOrder
 pub mod Rows
+pub mod RunAnswers
 pub mod RunNumbers
+pub mod RunOpening
+pub mod RunStates
+pub mod RunStops
 pub mod RunTurns
+pub mod SlotLaws
 pub mod ValidationLaws
 pub mod Worked

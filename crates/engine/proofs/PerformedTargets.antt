@@ -1,10 +1,10 @@
--- A command that is performed on a good state is about one of the sixteen places.
-use mathlib.Core.Path.{_≡_, subst}
+-- The clock that a command is about: one that is performed on a good state is about one of the sixteen places.
+use mathlib.Core.Path.{_≡_, sym, subst}
 use mathlib.Core.List.{List}
 use mathlib.Core.Option.{Option, some}
 use Prim.Native.Nat.{ℕ, _<_}
 use native.Mathlib.Omega.{arith}
-use borrow.Author.Tests.{eqb-true, eqb-false, eq-eqb, ne-eqb}
+use borrow.Author.Tests.{eqb-true, eqb-false, eq-eqb}
 use lib.Dec.{eqb}
 use lib.ListN.{length}
 use Rattle.hazards.specs.declared.answers.Answer.{Answer}
@@ -26,51 +26,49 @@ use Rattle.engine.proofs.Picks.{Best, next-best}
 use Rattle.engine.proofs.AcceptedFields.{create-accepted, set-accepted, cause-accepted, reschedule-accepted, pause-accepted}
 use Rattle.engine.proofs.PerformedWays.{NoOther, performed-way}
 use Rattle.engine.proofs.GoodQueues.{request-of}
+use Rattle.engine.proofs.CommandLaws.{no-width}
+use Rattle.engine.proofs.ExecutionCases.{target-named}
+
+-- a whole command that is none of the others is DELIVER
+pub only-deliver : (stream : List ℕ) (n : ℕ) (old : ClockSlot) (p : Progress) (c : List ℕ) → NoOther stream n old p c
+    → Whole (engineOf stream n) c → (code c ≡ commands.deliver → ⊥) → ⊥
+only-deliver stream n old p c k whole other =
+    let w =
+    no-width (code c) (k .not-create) (k .not-set) (k .not-remove) (k .not-reschedule) (k .not-pause) (k .not-resume) other
+    (whole .other) in
+    let l : length c ≡ widthOf (code c) = whole .len in
+    let h = whole .pos in
+    omega arith
+
+pub target-delivered : (p : Progress) (c : List ℕ) (r : Request) → code c ≡ commands.deliver
+    → nextRequest (queuedRequests p) ≡ some r → target p c ≡ r .clock
+unfolding target
+target-delivered p c r h e = rw (eq-eqb (code c) commands.deliver h, e)
 
 module _ (stream : List ℕ) (n : ℕ) (s : EngineState) (c : List ℕ) where
   abbrev p : Progress
   p = s .progress
 
-  module _ (old : ClockSlot) (k : NoOther stream n old p c) (whole : Whole (engineOf stream n) c) (other : code c ≡ commands.deliver → ⊥) where
-    -- a code that is no command's has no width
-    no-width : widthOf (code c) ≡ 0
-    unfolding widthOf
-    no-width =
-        rw (
-          ne-eqb (code c) commands.create (k .not-create),
-          ne-eqb (code c) commands.set (k .not-set),
-          ne-eqb (code c) commands.remove (k .not-remove),
-          ne-eqb (code c) commands.reschedule (k .not-reschedule),
-          ne-eqb (code c) commands.pause (k .not-pause),
-          ne-eqb (code c) commands.resume (k .not-resume),
-          ne-eqb (code c) commands.deliver other,
-          ne-eqb (code c) commands.undo (whole .other),
-        )
-
-    only-deliver : ⊥
-    only-deliver = let w = no-width in let l : length c ≡ widthOf (code c) = whole .len in let h = whole .pos in omega arith
-
   named : (code c ≡ commands.deliver → ⊥) → clockOf c < 16 → target p c < 16
-  unfolding target
-  named h below = rw (ne-eqb (code c) commands.deliver h) below
-
-  delivered : (r : Request) → code c ≡ commands.deliver → nextRequest (queuedRequests p) ≡ some r → r .clock < 16 → target p c < 16
-  unfolding target
-  delivered r h e below = rw (eq-eqb (code c) commands.deliver h, e) below
+  named h below = subst (λ (i : ℕ). i < 16) (target-named p c h) below
 
   pub target-below : Good stream n s → Whole (engineOf stream n) c → (slot : ClockSlot) (p′ : Progress) (a : Answer)
       → performOn stream n (slotAt s (target p c)) p c ≡ done slot p′ a → target p c < 16
   target-below g whole slot p′ a did =
-      performed-way stream n old p c (λ slot p′ a. target p c < 16) (λ k f h room. named (λ d. omega arith) (create-accepted c f .clock))
-      (λ k f h room. named (λ d. omega arith) (set-accepted c f .clock)) (λ k f h room. named (λ d. omega arith) (cause-accepted c f))
-      (λ k f h room. named (λ d. omega arith) (reschedule-accepted c f .clock)) (λ k f h room. named (λ d. omega arith) (pause-accepted c f .clock))
+      performed-way stream n old p c (λ slot p′ a. target p c < 16)
+      (λ k f h room. named (λ d. omega arith) (create-accepted c f .clock))
+      (λ k f h room. named (λ d. omega arith) (set-accepted c f .clock))
+      (λ k f h room. named (λ d. omega arith) (cause-accepted c f))
+      (λ k f h room. named (λ d. omega arith) (reschedule-accepted c f .clock))
+      (λ k f h room. named (λ d. omega arith) (pause-accepted c f .clock))
       (λ k f h room. named (λ d. omega arith) (reschedule-accepted c f .clock))
       (λ k r e room.
       either-way (eqb (code c) commands.deliver)
       (λ d.
-      let within : In r (queuedRequests p) = subst (λ (o : Option Request). Best o (λ y. In y (queuedRequests p))) e (next-best (queuedRequests p)) .0 in
-      delivered r (eqb-true _ _ d) e (request-of (g .queue) r within .clock))
-      (λ d. absurd (only-deliver old k whole (eqb-false _ _ d)))) slot p′ a did
+      let best = subst (λ (o : Option Request). Best o (λ y. In y (queuedRequests p))) e (next-best (queuedRequests p)) in
+      let within : In r (queuedRequests p) = best .0 in
+      subst (λ (i : ℕ). i < 16) (sym (target-delivered p c r (eqb-true _ _ d) e)) (request-of (g .queue) r within .clock))
+      (λ d. absurd (only-deliver stream n old p c k whole (eqb-false _ _ d)))) slot p′ a did
     where
       old : ClockSlot
       old = slotAt s (target p c)

@@ -1,28 +1,31 @@
--- One turn of the replay: the command at the front of the bytes, and what it leaves by its outcome on its clock's slot.
+-- One turn of the replay: the command at the front of the bytes with its clock, and what it leaves by its outcome on the slot of its clock.
+use mathlib.Core.Logic.{_⊎_, inl, inr, ⊎-elim}
 use mathlib.Core.Path.{_≡_, refl, sym, ap, _∙_, subst}
 use mathlib.Core.Bool.{Bool, true, false, cond}
-use mathlib.Core.List.{List, [], _∷_}
-use mathlib.Core.Option.{Option, none, some}
+use mathlib.Core.List.{List}
+use mathlib.Core.Option.{none, some}
 use Prim.Native.Nat.{ℕ, _+_, _-_, _<_, _≤_}
-use native.Mathlib.Omega.{arith}
-use borrow.Author.Tests.{eqb-true, eqb-false, leb-true, leb-false, lt-ltb, le-ltb, le-leb, lt-leb, eq-eqb, ne-eqb}
-use lib.Dec.{eqb, ltb, leb}
-use lib.ListN.{length, getD, take, drop, set, length-drop, drop-of-length-le}
 use native.Mathlib.Nat.{sub-zero}
-use lib.Seq.{length-take-le, set-set, set-getD}
+use native.Mathlib.Omega.{arith}
+use borrow.Author.Tests.{eqb-true, eqb-false, leb-true, leb-false, ltb-true, ltb-false}
+use borrow.Author.Tests.{lt-ltb, le-ltb, le-leb, lt-leb, eq-eqb, ne-eqb}
+use lib.Dec.{eqb, ltb, leb}
+use lib.ListN.{length, take, drop, length-drop, drop-of-length-le}
+use lib.Seq.{length-take-le}
 use Rattle.hazards.specs.declared.answers.Answer.{Answer}
 use Rattle.clocks.proofs.Cases.{either-way}
 use Rattle.engine.specs.Commands as commands
 use Rattle.engine.specs.Commands.{widthOf}
 use Rattle.engine.specs.State.{slotAt, withSlot, emptySlot, openedState}
-use Rattle.engine.specs.Journal.{Bytes, Engine, Performed, rejected, performed, Asked, reject, revert, apply, code, cut, classify, Whole, commandAt, widthAfter}
+use Rattle.engine.specs.Journal.{Bytes, Engine, rejected, performed, apply, code, cut, classify, Whole, commandAt, widthAfter}
 use Rattle.engine.specs.Journal.{Replayed, fails, ends, replayFrom, replayAll}
-use Rattle.engine.specs.Execution.{OnSlot, refused, done, performOn, target, perform, stored}
+use Rattle.engine.specs.Execution.{OnSlot, refused, done, performOn, target, perform}
 use Rattle.engine.specs.ExecutionCode.{onSlotOf}
 use Rattle.engine.specs.Validation.{validState}
 use Rattle.engine.specs.Instance.{engineOf}
 use Rattle.engine.specs.Good.{Good}
-use Rattle.engine.specs.ReplayCode.{wholeWidth, replayedOf}
+use Rattle.engine.specs.ReplayCode.{wholeWidth, noFront, frontCommand, replayedOf}
+use Rattle.engine.specs.declared.replay.FrontCommand.{FrontCommand}
 use Rattle.engine.specs.declared.replay.Replay.{Replay}
 use Rattle.engine.specs.declared.execution.SlotOutcome.{SlotOutcome}
 use Rattle.engine.specs.declared.state.ClockSlot.{ClockSlot}
@@ -30,16 +33,27 @@ use Rattle.engine.specs.declared.state.Progress.{Progress}
 use Rattle.engine.specs.declared.state.EngineState.{EngineState}
 use Rattle.engine.proofs.Asking.{asks-no-command, asks-part, asks-undo, asks-command, replay-fails, replay-turn}
 use Rattle.engine.proofs.Replays.{cut-whole, replay-end}
-use Rattle.engine.proofs.JournalBytes.{part-all}
+use Rattle.engine.proofs.JournalBytes.{restOf, partOf, part-all, part-of}
 use Rattle.engine.proofs.GoodKept.{engine-sound}
 use Rattle.engine.proofs.GoodValid.{good-valid}
 use Rattle.engine.proofs.PerformedTargets.{target-below}
+use Rattle.engine.proofs.SlotLaws.{stored-rejected, rejects, performs, put-back}
 
 -- ---- the whole command at the front of the bytes
 
 pub width-nothing : (i : Bytes) → length i ≤ 0 → wholeWidth i ≡ 0
 unfolding wholeWidth
 width-nothing i h = rw (le-ltb 0 (length i) h)
+
+pub width-within : (i : Bytes) → wholeWidth i ≤ length i
+unfolding wholeWidth
+width-within i = go (ltb 0 (length i)) (eqb (code i) commands.undo) (leb (widthOf (code i)) (length i)) refl
+  where
+    go : (a b c : Bool) → leb (widthOf (code i)) (length i) ≡ c → cond a (cond b 0 (cond c (widthOf (code i)) 0)) 0 ≤ length i
+    go false b c e = omega arith
+    go true true c e = omega arith
+    go true false true e = leb-true _ _ e
+    go true false false e = omega arith
 
 module _ (i : Bytes) (h : 0 < length i) where
   undo-wide : code i ≡ commands.undo → widthOf (code i) ≡ 1
@@ -97,39 +111,15 @@ module _ (i : Bytes) (h : 0 < length i) where
       v : validState stream n s ≡ true
       v = good-valid s stream n g
 
--- ---- a command on its clock's slot
-
-module _ (stream : List ℕ) (n : ℕ) (s : EngineState) (c : List ℕ) where
-  pub stored-performed : (slot : ClockSlot) (p : Progress) (a : Answer) → performOn stream n (slotAt s (target (s .progress) c)) (s .progress) c ≡ done slot p a
-      → perform stream n s c ≡ performed (withSlot s (target (s .progress) c) slot p) a
-  unfolding perform
-  stored-performed slot p a e = ap (stored s (target (s .progress) c)) e
-
-  pub stored-rejected : (number : ℕ) → performOn stream n (slotAt s (target (s .progress) c)) (s .progress) c ≡ refused number
-      → perform stream n s c ≡ rejected number
-  unfolding perform
-  stored-rejected number e = ap (stored s (target (s .progress) c)) e
-
--- the outcome in the code, by its number
-module _ (o : SlotOutcome) (d : OnSlot) (e : onSlotOf o ≡ d) where
-  pub outcome-done : o .number ≡ 0 → d ≡ done (o .slot) (o .progress) (o .answer)
-  outcome-done z = sym e ∙ rw (eq-eqb (o .number) 0 z)
-
-  pub outcome-refused : (o .number ≡ 0 → ⊥) → d ≡ refused (o .number)
-  outcome-refused z = sym e ∙ rw (ne-eqb (o .number) 0 z)
-
 -- a replay in the code that failed
-pub is-failed : (stream : List ℕ) (n : ℕ) (r : Replay) {x : Replayed (engineOf stream n)} → r .ok ≡ false → fails ≡ x → replayedOf stream n r ≡ x
+pub is-failed : (stream : List ℕ) (n : ℕ) (r : Replay) {x : Replayed (engineOf stream n)} → r .ok ≡ false → fails ≡ x
+    → replayedOf stream n r ≡ x
 is-failed stream n r e q = rw e q
-
--- with its slot and progress put back, a state is what it was
-pub put-back : (s : EngineState) (i : ℕ) (slot : ClockSlot) (p : Progress) → withSlot (withSlot s i slot p) i (slotAt s i) (s .progress) ≡ s
-put-back s i slot p =
-    ap (λ (l : List ClockSlot). record { slots = l; progress = s .progress }) (set-set (s .slots) i slot (slotAt s i) ∙ set-getD (s .slots) i emptySlot)
 
 -- ---- one turn
 
-module _ (stream : List ℕ) (n : ℕ) (s : EngineState) (g : Good stream n s) (i : Bytes) (h : 0 < length i) (w : ℕ) (e : w ≡ wholeWidth i) (pos : 0 < w) where
+module _ (stream : List ℕ) (n : ℕ) (s : EngineState) (g : Good stream n s) (i : Bytes) (h : 0 < length i) (w : ℕ)
+    (e : w ≡ wholeWidth i) (pos : 0 < w) where
   abbrev c : Bytes
   c = take w i
 
@@ -157,18 +147,17 @@ module _ (stream : List ℕ) (n : ℕ) (s : EngineState) (g : Good stream n s) (
   asks : classify (engineOf stream n) s i ≡ apply c
   asks = asks-command (engineOf stream n) s i (good-valid s stream n g) h wide long (f .other) ∙ ap apply is-cut
 
-  -- by the outcome on the slot of its clock
-  pub turn-fails : (number : ℕ) → performOn stream n (slotAt s (target (s .progress) c)) (s .progress) c ≡ refused number
+  -- by what the command does
+  pub turn-rejects : (number : ℕ) → perform stream n s c ≡ rejected number
       → commandAt (engineOf stream n) s (classify (engineOf stream n) s i) ≡ none
-  turn-fails number q =
-      ap (commandAt (engineOf stream n) s) asks ∙ ap (widthAfter (engineOf stream n) c) (stored-rejected stream n s c number q)
+  turn-rejects number q = ap (commandAt (engineOf stream n) s) asks ∙ ap (widthAfter (engineOf stream n) c) q
 
-  pub turn-done : (slot : ClockSlot) (p : Progress) (a : Answer) → performOn stream n (slotAt s (target (s .progress) c)) (s .progress) c ≡ done slot p a
-      → commandAt (engineOf stream n) s (classify (engineOf stream n) s i) ≡ some (withSlot s (target (s .progress) c) slot p, w)
-  turn-done slot p a q =
+  pub turn-performs : (t : EngineState) (a : Answer) → perform stream n s c ≡ performed t a
+      → commandAt (engineOf stream n) s (classify (engineOf stream n) s i) ≡ some (t, w)
+  turn-performs t a q =
       ap (commandAt (engineOf stream n) s) asks
-      ∙ ap (widthAfter (engineOf stream n) c) (stored-performed stream n s c slot p a q)
-      ∙ ap (λ (k : ℕ). some (withSlot s (target (s .progress) c) slot p, k)) command-length
+      ∙ ap (widthAfter (engineOf stream n) c) q
+      ∙ ap (λ (k : ℕ). some (t, k)) command-length
 
   -- a clock past the sixteen places is refused
   pub turn-past : 15 < target (s .progress) c → commandAt (engineOf stream n) s (classify (engineOf stream n) s i) ≡ none
@@ -176,16 +165,58 @@ module _ (stream : List ℕ) (n : ℕ) (s : EngineState) (g : Good stream n s) (
     where
       go : (d : OnSlot) → performOn stream n (slotAt s (target (s .progress) c)) (s .progress) c ≡ d
           → commandAt (engineOf stream n) s (classify (engineOf stream n) s i) ≡ none
-      go (refused number) q = turn-fails number q
+      go (refused number) q = turn-rejects number (stored-rejected stream n s c number q)
       go (done slot p a) q = let b = target-below stream n s c g front-whole slot p a q in absurd (omega arith)
 
+-- ---- the command at the front with its clock
+
+module _ (p : Progress) (i : Bytes) where
+  abbrev clockAt : ℕ → ℕ
+  clockAt w = target p (take w i)
+
+  module _ (w : ℕ) (e : w ≡ wholeWidth i) where
+    pub front-none : w ≡ 0 → frontCommand p i ≡ noFront
+    unfolding frontCommand
+    front-none z = rw (← e, z)
+
+    module _ (z : w ≡ 0 → ⊥) where
+      pub front-past : 15 < clockAt w → frontCommand p i ≡ noFront
+      unfolding frontCommand
+      front-past l = rw (← e, ne-eqb w 0 z, lt-ltb 15 (clockAt w) l)
+
+      pub front-here : clockAt w ≤ 15 → frontCommand p i ≡ record { width = w; clock = clockAt w }
+      unfolding frontCommand
+      front-here l = rw (← e, ne-eqb w 0 z, le-ltb 15 (clockAt w) l)
+
+  -- what its width says of it
+  pub record Here (f : FrontCommand) : Type 0 where
+    pub width : f .width ≡ wholeWidth i
+    pub clock : f .clock ≡ clockAt (f .width)
+    pub below : f .clock < 16
+
+  -- where there is none, no command is there or its clock is past the sixteen places
+  abbrev FrontWay : FrontCommand → Type 0
+  FrontWay f =
+      (0 < f .width → Here f) × (f .width ≡ 0 → (wholeWidth i ≡ 0) ⊎ ((0 < wholeWidth i) × (15 < clockAt (wholeWidth i))))
+
+  front-way : FrontWay (frontCommand p i)
+  front-way =
+      either-way (eqb (wholeWidth i) 0)
+      (λ z.
+      subst FrontWay (sym (front-none (wholeWidth i) refl (eqb-true _ _ z)))
+      ((λ h. absurd (omega arith)), (λ h. inl (eqb-true _ _ z))))
+      (λ z.
+      let pos : 0 < wholeWidth i = omega (arith, eqb-false (wholeWidth i) 0 z) in
+      either-way (ltb 15 (clockAt (wholeWidth i)))
+      (λ l.
+      let k : 15 < clockAt (wholeWidth i) = ltb-true _ _ l in
+      subst FrontWay (sym (front-past (wholeWidth i) refl (eqb-false _ _ z) k)) ((λ h. absurd (omega arith)), (λ h. inr (pos, k))))
+      (λ l.
+      let k : clockAt (wholeWidth i) ≤ 15 = ltb-false _ _ l in
+      subst FrontWay (sym (front-here (wholeWidth i) refl (eqb-false _ _ z) k))
+      ((λ h. record { width = refl; clock = refl; below = omega arith }), (λ h. absurd (omega arith)))))
+
 -- ---- the replay's loop at the place `at`, with the rest of the bytes lent to it
-
-abbrev pub restOf : Bytes → ℕ → Bytes
-restOf bytes at = take (length bytes - at) (drop at bytes)
-
-abbrev pub partOf : Bytes → ℕ → ℕ → Bytes
-partOf bytes at w = take (at + w - at) (drop at bytes)
 
 module _ (stream : List ℕ) (n : ℕ) (bytes : Bytes) where
   abbrev E : Engine
@@ -202,59 +233,63 @@ module _ (stream : List ℕ) (n : ℕ) (bytes : Bytes) where
   pub replay-ends : (s before : EngineState) (last at : ℕ) → length bytes ≤ at → replayRest s before last at ≡ ends s before last
   replay-ends s before last at h = rw (drop-of-length-le bytes h) (replay-end E (length bytes - at) s before last at)
 
-  module _ (s : EngineState) (g : Good stream n s) (at : ℕ) (l : at < length bytes) (w : ℕ) (e : w ≡ wholeWidth (restOf bytes at)) where
+  module _ (s : EngineState) (g : Good stream n s) (at : ℕ) (l : at < length bytes) (f : FrontCommand)
+      (e : f ≡ frontCommand (s .progress) (restOf bytes at)) where
     rest-pos : 0 < length (drop at bytes)
     rest-pos = omega (arith, length-drop at bytes)
 
-    width-is : w ≡ wholeWidth (drop at bytes)
-    width-is = e ∙ ap wholeWidth (part-all bytes at)
+    way : FrontWay (s .progress) (drop at bytes) f
+    way =
+        subst (FrontWay (s .progress) (drop at bytes)) (sym (e ∙ ap (frontCommand (s .progress)) (part-all bytes at)))
+        (front-way (s .progress) (drop at bytes))
 
-    pub no-command : (before : EngineState) (last : ℕ) → w ≡ 0 → replayRest s before last at ≡ fails
+    pub no-command : (before : EngineState) (last : ℕ) → f .width ≡ 0 → replayRest s before last at ≡ fails
     no-command before last z =
         replay-fails E (length bytes - at) s before last at (drop at bytes) rest-pos
-        (no-front (drop at bytes) rest-pos stream n s g (sym width-is ∙ z))
+        (⊎-elim (λ q. no-front (drop at bytes) rest-pos stream n s g q)
+        (λ q. turn-past stream n s g (drop at bytes) rest-pos (wholeWidth (drop at bytes)) refl (q .0) (q .1)) (way .1 z))
 
-    module _ (pos : 0 < w) where
-      pub command-fits : at + w ≤ length bytes
-      command-fits = omega (arith, length-drop at bytes, width-fits stream n s g (drop at bytes) rest-pos w width-is pos)
+    module _ (pos : 0 < f .width) where
+      abbrev front-bytes : Bytes
+      front-bytes = take (f .width) (drop at bytes)
 
-      is-part : take w (drop at bytes) ≡ partOf bytes at w
-      is-part = let k : w ≡ at + w - at = omega arith in ap (λ (m : ℕ). take m (drop at bytes)) k
+      pub command-here : Here (s .progress) (drop at bytes) f
+      command-here = way .0 pos
 
-      abbrev i : ℕ
-      i = target (s .progress) (partOf bytes at w)
-
-      pub past-places : (before : EngineState) (last : ℕ) → 15 < i → replayRest s before last at ≡ fails
-      past-places before last h =
-          replay-fails E (length bytes - at) s before last at (drop at bytes) rest-pos
-          (turn-past stream n s g (drop at bytes) rest-pos w width-is pos (rw is-part h))
+      pub command-fits : at + f .width ≤ length bytes
+      command-fits =
+          omega (arith, length-drop at bytes, width-fits stream n s g (drop at bytes) rest-pos (f .width) (command-here .width) pos)
 
       -- the outcome on the slot of its clock
-      module _ (o : SlotOutcome) (t : ℕ) (named : t ≡ i) (old : ClockSlot) (there : old ≡ slotAt s t)
-          (did : onSlotOf o ≡ performOn stream n old (s .progress) (partOf bytes at w)) where
-        on-slot : onSlotOf o ≡ performOn stream n (slotAt s (target (s .progress) (take w (drop at bytes)))) (s .progress) (take w (drop at bytes))
-        on-slot = rw (is-part, ← named, ← there) did
+      module _ (o : SlotOutcome) (old : ClockSlot) (there : old ≡ slotAt s (f .clock))
+          (did : onSlotOf o ≡ performOn stream n old (s .progress) (partOf bytes at (f .width))) where
+        does : onSlotOf o ≡ performOn stream n old (s .progress) front-bytes
+        does = did ∙ ap (performOn stream n old (s .progress)) (part-of bytes at (f .width))
 
         pub is-refused : (before : EngineState) (last : ℕ) → (o .number ≡ 0 → ⊥) → replayRest s before last at ≡ fails
         is-refused before last z =
             replay-fails E (length bytes - at) s before last at (drop at bytes) rest-pos
-            (turn-fails stream n s g (drop at bytes) rest-pos w width-is pos (o .number) (outcome-refused o _ on-slot z))
+            (turn-rejects stream n s g (drop at bytes) rest-pos (f .width) (command-here .width) pos (o .number)
+            (rejects stream n s front-bytes o (f .clock) (command-here .clock) old there does z))
 
         module _ (z : o .number ≡ 0) where
           abbrev next : EngineState
-          next = withSlot s t (o .slot) (o .progress)
+          next = withSlot s (f .clock) (o .slot) (o .progress)
 
-          is-target : target (s .progress) (take w (drop at bytes)) ≡ t
-          is-target = rw is-part (sym named)
+          did-perform : perform stream n s front-bytes ≡ performed next (o .answer)
+          did-perform = performs stream n s front-bytes o (f .clock) (command-here .clock) old there does z
 
           pub stays-good : Good stream n next
           stays-good =
-              let d = stored-performed stream n s (take w (drop at bytes)) (o .slot) (o .progress) (o .answer) (outcome-done o _ on-slot z) in
-              engine-sound stream n .keeps s next (take w (drop at bytes)) (o .answer)
-              (front-whole stream n s g (drop at bytes) rest-pos w width-is pos) g (rw is-target at d)
+              engine-sound stream n .keeps s next front-bytes (o .answer)
+              (front-whole stream n s g (drop at bytes) rest-pos (f .width) (command-here .width) pos) g did-perform
 
-          pub replays-on : (before : EngineState) (last : ℕ) → replayRest s before last at ≡ replayRest next (withSlot next t old (s .progress)) at (at + w)
+          pub replays-on : (before : EngineState) (last : ℕ)
+              → replayRest s before last at ≡ replayRest next (withSlot next (f .clock) old (s .progress)) at (at + f .width)
           replays-on before last =
-              let d = turn-done stream n s g (drop at bytes) rest-pos w width-is pos (o .slot) (o .progress) (o .answer) (outcome-done o _ on-slot z) in
-              replay-turn E bytes s before last at (next, w) l (rw is-target at d)
-              ∙ ap (λ (b : EngineState). replayRest next b at (at + w)) (sym (ap (λ (k : ClockSlot). withSlot next t k (s .progress)) there ∙ put-back s t (o .slot) (o .progress)))
+              replay-turn E bytes s before last at (next, f .width) l
+              (turn-performs stream n s g (drop at bytes) rest-pos (f .width) (command-here .width) pos next (o .answer) did-perform)
+              ∙ ap (λ (b : EngineState). replayRest next b at (at + f .width))
+              (sym
+              (ap (λ (k : ClockSlot). withSlot next (f .clock) k (s .progress)) there
+              ∙ put-back s (f .clock) (o .slot) (o .progress)))

@@ -20,11 +20,14 @@ use Rattle.engine.specs.Queue.{nextRequest}
 use Rattle.engine.specs.Comparison.{sameState}
 use Rattle.engine.specs.State.{slotAt, queuedRequests}
 use Rattle.engine.specs.Refusals.{nothingApplied, replayFails, journalFull}
-use Rattle.engine.specs.Journal.{Bytes, Performed, rejected, performed, Replayed, fails, ends, Outcome, reverted, cleared, undo, replayAll, revertTo, unchanged}
+use Rattle.engine.specs.Journal.{Bytes, Performed, rejected, performed, Replayed, fails, ends}
+use Rattle.engine.specs.Journal.{Outcome, reverted, cleared, undo, replayAll, revertTo, unchanged}
 use Rattle.engine.specs.Instance.{engineOf}
 use Rattle.engine.specs.ExecuteCode.{answerOf}
-use Rattle.engine.specs.Execution.{OnSlot, refused, done, byteAt, unlessFull, unlessFaulty, afterSet, settingOf, createFaults, setFaults, causeFaults, rescheduleFaults, pauseFaults}
-use Rattle.engine.specs.Execution.{performCreate, performSet, performRemove, performReschedule, performPause, performResume, delivered, performDeliver, performOn, target, stored, perform}
+use Rattle.engine.specs.Execution.{OnSlot, refused, done, byteAt, unlessFull, unlessFaulty, afterSet, settingOf}
+use Rattle.engine.specs.Execution.{createFaults, setFaults, causeFaults, rescheduleFaults, pauseFaults}
+use Rattle.engine.specs.Execution.{performCreate, performSet, performRemove, performReschedule, performPause, performResume}
+use Rattle.engine.specs.Execution.{delivered, performDeliver, performOn, target, stored, perform}
 use Rattle.engine.specs.Run.{endsRun}
 use Rattle.engine.specs.declared.state.ClockSlot.{ClockSlot}
 use Rattle.engine.specs.declared.state.Progress.{Progress}
@@ -90,7 +93,10 @@ module _ (stream : List ℕ) (n : ℕ) (slot : ClockSlot) (p : Progress) (c : Li
   set-on-goes : GoesOn (performSet stream n slot p c)
   unfolding performSet
   set-on-goes =
-      faulty-goes (setFaults c) _ (clock-goes slot _ (after-set-goes (setChannel (slot .clock) (settingOf c) stream (p .position)) (set-goes (slot .clock) (settingOf c) stream (p .position))))
+      faulty-goes (setFaults c) _
+      (clock-goes slot _
+      (after-set-goes (setChannel (slot .clock) (settingOf c) stream (p .position))
+      (set-goes (slot .clock) (settingOf c) stream (p .position))))
 
   remove-goes : GoesOn (performRemove n slot p c)
   unfolding performRemove
@@ -130,7 +136,8 @@ performedNumber (performed t a) = a .number
 pub perform-goes : (stream : List ℕ) (n : ℕ) (s : EngineState) (c : List ℕ) → endsRun (performedNumber (perform stream n s c)) ≡ false
 unfolding perform
 perform-goes stream n s c =
-    go (performOn stream n (slotAt s (target (s .progress) c)) (s .progress) c) (on-goes stream n (slotAt s (target (s .progress) c)) (s .progress) c)
+    go (performOn stream n (slotAt s (target (s .progress) c)) (s .progress) c)
+    (on-goes stream n (slotAt s (target (s .progress) c)) (s .progress) c)
   where
     go : (d : OnSlot) → GoesOn d → endsRun (performedNumber (stored s (target (s .progress) c) d)) ≡ false
     go (refused number) h = h

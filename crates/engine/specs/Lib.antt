@@ -15,6 +15,7 @@ pub mod Refusals
 pub mod ReplayCode
 pub mod Rows
 pub mod Run
+pub mod RunCode
 pub mod Sessions
 pub mod State
 pub mod Validation

@@ -1,6 +1,5 @@
 // Whether two states are the same in every field, used or not; floats by their bits, with all NaNs alike (document 01, refusal 13).
 ghost use mathlib.Core.Path.{_≡_};
-ghost use Rattle.hazards.specs.Checks.{ownRate};
 ghost use lib.ListN.{length, getD};
 ghost use Rattle.clocks.specs.Channels.{emptyChannel};
 ghost use Rattle.engine.specs.State.{emptySlot, emptyRequest};
@@ -69,21 +68,11 @@ pub fn kind_number(hazard: HazardRate) -> u8
     }
 }
 
-pub fn own_rate(hazard: HazardRate) -> f64
-    ensures { λ r. ⌜ r ≡ ownRate hazard ⌝ }
-{
-    match hazard {
-        HazardRate::Zero => 0.0,
-        HazardRate::Constant(rate) => rate,
-        HazardRate::Gompertz(eta) => eta,
-        HazardRate::Piecewise(trailing) => trailing,
-    }
-}
-
 fn same_hazard(a: HazardRate, b: HazardRate) -> bool
     ensures { λ r. ⌜ r ≡ sameHazard a b ⌝ }
 {
-    (kind_number(a) == kind_number(b)) & same_float(own_rate(a), own_rate(b))
+    let rate = hazards::checks::own_rate(a);
+    (kind_number(a) == kind_number(b)) & same_float(rate, hazards::checks::own_rate(b))
 }
 
 fn same_floats<'a, 'b>(a: &'a [f64; 8], b: &'b [f64; 8]) -> bool

@@ -6,8 +6,11 @@ ghost use Rattle.hazards.specs.Answers.{noEvent};
 ghost use Rattle.engine.specs.Journal.{Whole, act, apply, execute};
 ghost use Rattle.engine.specs.Validation.{validState};
 ghost use Rattle.engine.specs.Instance.{engineOf};
-ghost use Rattle.engine.specs.ExecuteCode.{after, left};
+ghost use Rattle.engine.specs.ExecuteCode.{after, left, Appliable, applyOn, appliedOn};
+use crate::execution::SlotOutcome;
+use crate::state::ClockSlot;
 use crate::state::EngineState;
+use crate::state::Progress;
 use hazards::answers::Answer;
 
 pub const NO_COMMAND: u8 = 2;
@@ -30,25 +33,41 @@ pub(crate) fn refuse(state: EngineState, number: u8) -> Executed
     }
 }
 
-// A command but UNDO, cut to its width; where it is accepted it is copied into the journal's free part.
+// A command but UNDO on the slot of its clock; where it is accepted it is copied into the journal's free part.
+pub(crate) fn apply_on(
+    slot: ClockSlot,
+    progress: Progress,
+    stream: &[u8],
+    journal: &mut [u8],
+    command: &[u8],
+) -> SlotOutcome
+    requires { ⌜ Appliable progress (now journal) ⌝ }
+    ensures { λ r. ⌜ appliedOn r (now (journal .exit))
+        ≡ applyOn (now (stream .entry)) slot progress (now (journal .entry)) (now (command .entry)) ⌝ }
+{
+    let outcome = crate::execution::perform_on(slot, progress, stream, journal.len(), command);
+    if outcome.number != 0 {
+        return outcome;
+    }
+    let free = progress.applied_length;
+    crate::journal::copy_into(&mut journal[free..], command);
+    outcome
+}
+
+// A command but UNDO, cut to its width.
 fn apply(state: EngineState, stream: &[u8], journal: &mut [u8], command: &[u8]) -> Executed
     requires { ⌜ validState (now stream) (length (now journal)) state ≡ true ⌝ }
-    ensures { λ r. ⌜ left r (now (journal .exit)) ≡ after (now (stream .entry)) (length (now (journal .entry))) (act (engineOf (now (stream .entry)) (length (now (journal .entry)))) state (now (journal .entry)) (apply (now (command .entry)))) ⌝ }
+    ensures { λ r. ⌜ left r (now (journal .exit))
+        ≡ after (now (stream .entry)) (length (now (journal .entry)))
+        (act (engineOf (now (stream .entry)) (length (now (journal .entry)))) state (now (journal .entry))
+        (apply (now (command .entry)))) ⌝ }
 {
     let target = crate::execution::target(state.progress, command);
     let slot = crate::replay::slot_at(state, target);
-    let outcome = crate::execution::perform_on(
-        slot,
-        state.progress,
-        stream,
-        journal.len(),
-        command,
-    );
+    let outcome = apply_on(slot, state.progress, stream, journal, command);
     if outcome.number != 0 {
         return refuse(state, outcome.number);
     }
-    let free = state.progress.applied_length;
-    crate::journal::copy_into(&mut journal[free..], command);
     let moved = outcome.slot;
     let progress = outcome.progress;
     let answer = outcome.answer;
@@ -59,7 +78,10 @@ fn apply(state: EngineState, stream: &[u8], journal: &mut [u8], command: &[u8]) 
 }
 
 pub fn execute(state: EngineState, stream: &[u8], journal: &mut [u8], input: &[u8]) -> Executed
-    ensures { λ r. ⌜ left r (now (journal .exit)) ≡ after (now (stream .entry)) (length (now (journal .entry))) (execute (engineOf (now (stream .entry)) (length (now (journal .entry)))) state (now (journal .entry)) (now (input .entry))) ⌝ }
+    ensures { λ r. ⌜ left r (now (journal .exit))
+        ≡ after (now (stream .entry)) (length (now (journal .entry)))
+        (execute (engineOf (now (stream .entry)) (length (now (journal .entry)))) state (now (journal .entry))
+        (now (input .entry))) ⌝ }
 {
     if !crate::validation::valid_state(state, stream, journal.len()) {
         return refuse(state, hazards::refusals::INVALID_STATE);

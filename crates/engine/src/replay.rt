@@ -1,13 +1,14 @@
 // The replay of applied commands from opening, and UNDO. The state stays in one local; what the last command changed is kept beside it.
 ghost use mathlib.Core.Path.{_≡_};
 ghost use mathlib.Core.Bool.{false};
-ghost use Prim.Native.Nat.{_≤_, _<_, _^_};
+ghost use mathlib.Core.List.{List};
+ghost use Prim.Native.Nat.{ℕ, _≤_, _<_, _^_};
 ghost use lib.ListN.{length};
 ghost use Rattle.engine.specs.State.{slotAt, withSlot};
-ghost use Rattle.engine.specs.Journal.{fails, replayAll, undo};
+ghost use Rattle.engine.specs.Journal.{fails, replayAll, cleared, undo};
 ghost use Rattle.engine.specs.Instance.{engineOf};
-ghost use Rattle.engine.specs.ReplayCode.{wholeWidth, replayedOf};
-ghost use Rattle.engine.specs.ExecuteCode.{after, left};
+ghost use Rattle.engine.specs.ReplayCode.{beforeLast, OwnReplay, wholeWidth, frontCommand, replayedOf};
+ghost use Rattle.engine.specs.ExecuteCode.{after, left, onlyNumber};
 use crate::execute::Executed;
 use crate::state::ClockSlot;
 use crate::state::EngineState;
@@ -25,6 +26,12 @@ pub struct Replay {
     pub clock: usize,
     pub slot: ClockSlot,
     pub progress: Progress,
+}
+
+// The command at the front of some bytes.
+pub struct FrontCommand {
+    pub width: usize,
+    pub clock: usize,
 }
 
 // There are sixteen places; past them is the empty slot.
@@ -69,7 +76,23 @@ fn command_width(bytes: &[u8]) -> usize
     if width <= bytes.len() { width } else { 0 }
 }
 
-fn failed(state: EngineState, slot: ClockSlot, progress: Progress) -> Replay
+// The command at the front of the bytes by its width and its clock's number. The width is 0 where there is no whole command, where it is an
+// UNDO, and where its clock is none of the sixteen, so that it is refused.
+fn front_command(progress: Progress, bytes: &[u8]) -> FrontCommand
+    ensures { λ r. ⌜ r ≡ frontCommand progress (now (bytes .entry)) ⌝ }
+{
+    let width = command_width(bytes);
+    if width == 0 {
+        return FrontCommand { width: 0, clock: 0 };
+    }
+    let clock = crate::execution::target(progress, &bytes[..width]);
+    if clock > 15 {
+        return FrontCommand { width: 0, clock: 0 };
+    }
+    FrontCommand { width, clock }
+}
+
+fn failed_replay(state: EngineState, slot: ClockSlot, progress: Progress) -> Replay
     ensures { λ r. ⌜ (r .ok ≡ false) × (r .last ≡ 0) ⌝ }
 {
     Replay {
@@ -85,7 +108,8 @@ fn failed(state: EngineState, slot: ClockSlot, progress: Progress) -> Replay
 // Replays commands from opening. A refused command or an UNDO among them ends it.
 fn replay_all(stream: &[u8], journal_length: usize, bytes: &[u8]) -> Replay
     requires { ⌜ «journal_length» < 2 ^ 63 ⌝ }
-    ensures { λ r. ⌜ (replayedOf (now (stream .entry)) «journal_length» r ≡ replayAll (engineOf (now (stream .entry)) «journal_length») (now (bytes .entry))) × (r .last ≤ length (now (bytes .entry))) ⌝ }
+    ensures { λ r. ⌜ (replayedOf (now (stream .entry)) «journal_length» r
+        ≡ replayAll (engineOf (now (stream .entry)) «journal_length») (now (bytes .entry))) × (r .last ≤ length (now (bytes .entry))) ⌝ }
 {
     let mut state = crate::opening::opened_state();
     let mut slot = crate::opening::empty_slot();
@@ -94,35 +118,28 @@ fn replay_all(stream: &[u8], journal_length: usize, bytes: &[u8]) -> Replay
     let mut last: usize = 0;
     let mut at: usize = 0;
     while at < bytes.len() {
-        let width = command_width(&bytes[at..]);
-        if width == 0 {
-            return failed(state, slot, progress);
+        let front = front_command(state.progress, &bytes[at..]);
+        if front.width == 0 {
+            return failed_replay(state, slot, progress);
         }
-        let end = at + width;
-        let target = crate::execution::target(state.progress, &bytes[at..end]);
-        if target > 15 {
-            return failed(state, slot, progress);
-        }
+        let end = at + front.width;
+        let command = &bytes[at..end];
+        let target = front.clock;
         let old = state.slots[target];
-        let outcome = crate::execution::perform_on(
-            old,
-            state.progress,
-            stream,
-            journal_length,
-            &bytes[at..end],
-        );
+        let before = state.progress;
+        let outcome = crate::execution::perform_on(old, before, stream, journal_length, command);
         if outcome.number != 0 {
-            return failed(state, slot, progress);
+            return failed_replay(state, slot, progress);
         }
         clock = target;
         slot = old;
-        progress = state.progress;
+        progress = before;
         last = at;
+        at = end;
         let moved = outcome.slot;
         state.slots[target] = moved;
         let next = outcome.progress;
         state.progress = next;
-        at = end;
     }
     Replay {
         ok: true,
@@ -134,9 +151,39 @@ fn replay_all(stream: &[u8], journal_length: usize, bytes: &[u8]) -> Replay
     }
 }
 
+// What UNDO leaves after a replay: the last command's bytes cleared, its clock's slot and the progress as before it.
+fn restored(end: Replay, journal: &mut [u8], applied: usize) -> EngineState
+    requires { ⌜ (end .last ≤ applied) × (applied ≤ length (now journal)) ⌝ }
+    ensures { λ r. ⌜ (r ≡ beforeLast end)
+        × ((stream : List ℕ) → now (journal .exit)
+        ≡ cleared (engineOf stream (length (now (journal .entry)))) (now (journal .entry)) (end .last) applied) ⌝ }
+{
+    let last = end.last;
+    crate::journal::clear(&mut journal[last..], applied - last);
+    let all = end.state;
+    let slot = end.slot;
+    let progress = end.progress;
+    with_slot(all, end.clock, slot, progress)
+}
+
+// UNDO in a state that ends the replay of its own applied commands, as a reached one does: nothing is compared.
+pub(crate) fn revert(stream: &[u8], journal: &mut [u8], applied: usize) -> EngineState
+    requires { ⌜ applied ≤ length (now journal) ⌝ }
+    ensures { λ r. ⌜ ((s : EngineState) → s .progress .«applied_length» ≡ applied → 0 < applied
+        → OwnReplay (now (stream .entry)) s (now (journal .entry))
+        → left (onlyNumber 0 r) (now (journal .exit))
+        ≡ after (now (stream .entry)) (length (now (journal .entry)))
+        (undo (engineOf (now (stream .entry)) (length (now (journal .entry)))) s (now (journal .entry)))) ⌝ }
+{
+    let end = replay_all(stream, journal.len(), &journal[..applied]);
+    restored(end, journal, applied)
+}
+
 pub(crate) fn undo(state: EngineState, stream: &[u8], journal: &mut [u8]) -> Executed
     requires { ⌜ state .progress .«applied_length» ≤ length (now journal) ⌝ }
-    ensures { λ r. ⌜ left r (now (journal .exit)) ≡ after (now (stream .entry)) (length (now (journal .entry))) (undo (engineOf (now (stream .entry)) (length (now (journal .entry)))) state (now (journal .entry))) ⌝ }
+    ensures { λ r. ⌜ left r (now (journal .exit))
+        ≡ after (now (stream .entry)) (length (now (journal .entry)))
+        (undo (engineOf (now (stream .entry)) (length (now (journal .entry)))) state (now (journal .entry))) ⌝ }
 {
     let applied = state.progress.applied_length;
     if applied == 0 {
@@ -150,12 +197,8 @@ pub(crate) fn undo(state: EngineState, stream: &[u8], journal: &mut [u8]) -> Exe
     if !crate::comparison::same_state(all, state) {
         return crate::execute::refuse(state, REPLAY_FAILS);
     }
-    let last = end.last;
-    crate::journal::clear(&mut journal[last..], applied - last);
-    let slot = end.slot;
-    let progress = end.progress;
     Executed {
         answer: hazards::answers::no_event(0),
-        state: with_slot(all, end.clock, slot, progress),
+        state: restored(end, journal, applied),
     }
 }

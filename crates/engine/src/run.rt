@@ -1,13 +1,18 @@
 // The batch run (document 01: run call): it opens an engine and answers command after command. The state stays in one local.
 ghost use mathlib.Core.Path.{_≡_};
-ghost use mathlib.Core.Bool.{_&&_};
+ghost use mathlib.Core.Bool.{cond, _&&_};
 ghost use mathlib.Core.List.{_++_};
-ghost use Prim.Native.Nat.{_%_};
+ghost use Prim.Native.Nat.{_*_, _%_, _≤_};
 ghost use lib.Dec.{eqb};
 ghost use lib.ListN.{length, replicate};
 ghost use Rattle.hazards.specs.Fields.{bytesOf};
-ghost use Rattle.engine.specs.State.{openedState};
-ghost use Rattle.engine.specs.Run.{ran, endNumber, runFrom, runOf};
+ghost use Rattle.engine.specs.Refusals.{nothingApplied};
+ghost use Rattle.engine.specs.Run.{ran, endNumber, runOf};
+ghost use Rattle.engine.specs.ExecuteCode.{Appliable};
+ghost use Rattle.engine.specs.RunCode.{stop, stopAt, answeredOn, answerOn, openedRun};
+use crate::execution::SlotOutcome;
+use crate::state::ClockSlot;
+use crate::state::Progress;
 
 pub const ANSWERS_FULL: u8 = 17;
 
@@ -49,6 +54,61 @@ fn end_number(input: &[u8]) -> u8
     0
 }
 
+// What ends the run before an input is executed: 17 where its answer has no room, or 2 or 3, which is answered and counted; else 0, and
+// nothing is written.
+fn end_run(input: &[u8], answers: &mut [u8], result: &mut [u8], answered: usize, read: usize) -> u8
+    requires { ⌜ (32 * answered ≤ length (now answers)) × (length (now result) ≡ 16) ⌝ }
+    ensures { λ r. ⌜ stop r (now (answers .exit)) (now (result .exit))
+        ≡ stopAt (now (input .entry)) (now (answers .entry)) (now (result .entry)) answered read ⌝ }
+{
+    let place = 32 * answered;
+    if answers.len() - place < 32 {
+        finish(result, answered, read);
+        return ANSWERS_FULL;
+    }
+    let number = end_number(input);
+    if number != 0 {
+        hazards::answers::put_answer(answers, place, hazards::answers::no_event(number));
+        finish(result, answered + 1, read);
+    }
+    number
+}
+
+// A command but UNDO on the slot of its clock, applied and answered at its place.
+fn answer_command(
+    slot: ClockSlot,
+    progress: Progress,
+    stream: &[u8],
+    journal: &mut [u8],
+    answers: &mut [u8],
+    place: usize,
+    command: &[u8],
+) -> SlotOutcome
+    requires { ⌜ Appliable progress (now journal) ⌝ }
+    ensures { λ r. ⌜ answeredOn r (now (journal .exit)) (now (answers .exit))
+        ≡ answerOn (now (stream .entry)) slot progress (now (journal .entry)) (now (answers .entry)) place (now (command .entry)) ⌝ }
+{
+    let outcome = crate::execute::apply_on(slot, progress, stream, journal, command);
+    if outcome.number != 0 {
+        let refusal = hazards::answers::no_event(outcome.number);
+        hazards::answers::put_answer(answers, place, refusal);
+        return outcome;
+    }
+    hazards::answers::put_answer(answers, place, outcome.answer);
+    outcome
+}
+
+// UNDO is refused where nothing is applied; a reached state meets no other refusal.
+fn undo_number(applied: usize) -> u8
+    ensures { λ r. ⌜ r ≡ cond (eqb applied 0) nothingApplied 0 ⌝ }
+{
+    if applied == 0 {
+        crate::replay::NOTHING_APPLIED
+    } else {
+        0
+    }
+}
+
 // The commands, one after another, from opening. A state that is reached from opening needs no validation.
 fn run_commands(
     commands: &[u8],
@@ -58,66 +118,46 @@ fn run_commands(
     result: &mut [u8],
 ) -> u8
     requires { ⌜ (now journal ≡ replicate (length (now journal)) 0) × (length (now result) ≡ 16) ⌝ }
-    ensures { λ r. ⌜ ran r (now (journal .exit)) (now (answers .exit)) (now (result .exit)) ≡ runFrom (length (now (commands .entry))) (now (stream .entry)) openedState (replicate (length (now (journal .entry))) 0) (now (answers .entry)) 0 0 (now (commands .entry)) ⌝ }
+    ensures { λ r. ⌜ ran r (now (journal .exit)) (now (answers .exit)) (now (result .exit))
+        ≡ openedRun (now (commands .entry)) (now (stream .entry)) (length (now (journal .entry))) (now (answers .entry)) ⌝ }
 {
     let mut state = crate::opening::opened_state();
     let mut answered: usize = 0;
     let mut at: usize = 0;
     while at < commands.len() {
-        let place = 32 * answered;
-        if answers.len() - place < 32 {
-            finish(result, answered, at);
-            return ANSWERS_FULL;
-        }
-        let number = end_number(&commands[at..]);
+        let number = end_run(&commands[at..], answers, result, answered, at);
         if number != 0 {
-            hazards::answers::put_answer(answers, place, hazards::answers::no_event(number));
-            finish(result, answered + 1, at);
             return number;
         }
-        let code = commands[at];
+        let place = 32 * answered;
         let start = at;
+        let code = commands[start];
         at = start + crate::commands::width(code);
         answered = answered + 1;
         if code == crate::commands::UNDO {
-            let undone = crate::replay::undo(state, stream, journal);
-            state = undone.state;
-            hazards::answers::put_answer(answers, place, undone.answer);
+            let applied = state.progress.applied_length;
+            let answer = hazards::answers::no_event(undo_number(applied));
+            hazards::answers::put_answer(answers, place, answer);
+            if applied != 0 {
+                state = crate::replay::revert(stream, journal, applied);
+            }
             continue;
         }
         let command = &commands[start..at];
-        let target = crate::execution::target(state.progress, command);
-        if target > 15 {
-            let outcome = crate::execution::perform_on(
-                crate::opening::empty_slot(),
-                state.progress,
-                stream,
-                journal.len(),
-                command,
-            );
-            let refusal = hazards::answers::no_event(outcome.number);
-            hazards::answers::put_answer(answers, place, refusal);
-            continue;
+        let before = state.progress;
+        let target = crate::execution::target(before, command);
+        let slot = if target < 16 {
+            state.slots[target]
+        } else {
+            crate::opening::empty_slot()
+        };
+        let outcome = answer_command(slot, before, stream, journal, answers, place, command);
+        if outcome.number == 0 {
+            let moved = outcome.slot;
+            state.slots[target] = moved;
+            let next = outcome.progress;
+            state.progress = next;
         }
-        let outcome = crate::execution::perform_on(
-            state.slots[target],
-            state.progress,
-            stream,
-            journal.len(),
-            command,
-        );
-        if outcome.number != 0 {
-            let refusal = hazards::answers::no_event(outcome.number);
-            hazards::answers::put_answer(answers, place, refusal);
-            continue;
-        }
-        let free = state.progress.applied_length;
-        crate::journal::copy_into(&mut journal[free..], command);
-        hazards::answers::put_answer(answers, place, outcome.answer);
-        let moved = outcome.slot;
-        state.slots[target] = moved;
-        let next = outcome.progress;
-        state.progress = next;
     }
     finish(result, answered, at);
     0
@@ -131,7 +171,8 @@ pub extern "C" fn run(
     answers: &mut [u8],
     result: &mut [u8],
 ) -> u8
-    ensures { λ r. ⌜ ran r (now (journal .exit)) (now (answers .exit)) (now (result .exit)) ≡ runOf (now (commands .entry)) (now (stream .entry)) (now (journal .entry)) (now (answers .entry)) (now (result .entry)) ⌝ }
+    ensures { λ r. ⌜ ran r (now (journal .exit)) (now (answers .exit)) (now (result .exit))
+        ≡ runOf (now (commands .entry)) (now (stream .entry)) (now (journal .entry)) (now (answers .entry)) (now (result .entry)) ⌝ }
 {
     if !are_usable(stream, result) {
         return BAD_BUFFERS;

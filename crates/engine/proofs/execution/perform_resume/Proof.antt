@@ -1,11 +1,9 @@
 -- `execution::perform_resume` meets its contract.
-use mathlib.Core.Path.{ap₂, _∙_, ap}
-use lib.Ieee.{Float}
+use mathlib.Core.Path.{_∙_}
 use borrow.Author.Needs.{needs}
 use Rattle.clocks.specs.Scheduling as scheduling
-use Rattle.clocks.specs.declared.scheduling.Censor.{Censor}
-use Rattle.engine.specs.Execution.{afterReschedule, rescheduleFaults, performResume}
-use Rattle.engine.proofs.ExecutionCases.{refusalOf, not-done, there, resumeOn}
+use Rattle.engine.specs.Execution.{performResume}
+use Rattle.engine.proofs.ExecutionCases.{not-rescheduled, rescheduled-there}
 use Rattle.engine.proofs.execution.perform_resume.Statement.{statement}
 use Rattle.engine.proofs.execution.perform_resume.Tie as tie
 
@@ -22,11 +20,10 @@ returns : tie.Need-returns
 unfolding performResume
 returns c =
     let k = c .before .before in
-    let l = k .before .before .before in
-    let a = l .args in
-    let e = k .refusal-of .ensures ∙ ap (refusalOf (a .slot .present)) (k .before .reschedule-faults .ensures) in
-    c .refuse .ensures ∙ not-done (rescheduleFaults (a .command .now)) (a .slot)
-    (resumeOn (a .journal-length) (a .progress) (a .command .now)) e (c .before .if1 .taken)
+    let a = k .before .before .before .args in
+    c .refuse .ensures
+    ∙ not-rescheduled (a .journal-length) (a .slot) (a .progress) (a .command .now) scheduling.resume (k .refusal-of .ensures)
+    (k .before .reschedule-faults .ensures) (c .before .if1 .taken)
 
 f64-at-requires : tie.Need-f64-at-requires
 f64-at-requires c κs = search needs
@@ -46,16 +43,10 @@ returns-2 c =
     let k = c .before .before in
     let l = k .before .before in
     let m = l .before .before in
-    let q = m .before .before in
-    let a = q .args in
-    let e = l .before .refusal-of .ensures ∙ ap (refusalOf (a .slot .present)) (m .reschedule-faults .ensures) in
+    let a = m .before .before .args in
     c .after-reschedule .ensures
-    ∙ ap (afterReschedule (a .journal-length) (a .progress) (a .command .now))
-    (c .before .resume .ensures
-    ∙ ap₂ (λ (t : Float) (s : Censor). scheduling.resume (a .slot .clock) t s (a .progress .«request_count»))
-    (k .before .f64-at .ensures) (k .censor-of .ensures))
-    ∙ there (rescheduleFaults (a .command .now)) (a .slot) (resumeOn (a .journal-length) (a .progress) (a .command .now)) e
-    (l .if1 .left)
+    ∙ rescheduled-there (a .journal-length) (a .slot) (a .progress) (a .command .now) scheduling.resume (l .before .refusal-of .ensures)
+    (m .reschedule-faults .ensures) (l .if1 .left) (c .before .resume .ensures) (k .before .f64-at .ensures) (k .censor-of .ensures)
 
 pub perform-resume-spec : {M : Type 1} → statement M
 perform-resume-spec =
