@@ -2,9 +2,8 @@
 
 use std::time::{Duration, Instant};
 
-pub const RUNS: usize = 75;
-/// Short beside the time that a scheduler gives to one process, so that some runs are undisturbed.
-const RUN_TIME: Duration = Duration::from_millis(2);
+pub const RUNS: usize = 150;
+const RUN_TIME: Duration = Duration::from_millis(1);
 
 /// Nanoseconds per call of each side. A batch makes `calls` calls.
 pub fn best<const N: usize>(calls: usize, mut sides: [&mut dyn FnMut(); N]) -> [f64; N] {
