@@ -1,6 +1,6 @@
 // Replays the fixed list of steps of single clocks, with the answer, the draw position and every field of the clock after each as the unchanged Rust
 // has them, and says how many steps there are and how many differ. The list's layout, and how it was made, are in host/README.md.
-mod dump;
+mod agreement;
 mod steps;
 
 ghost use Prim.Native.Nat.{_≤_};
@@ -30,7 +30,7 @@ fn replay(fd: i32, stream: &[u8]) -> Count {
         }
         played = steps::play(played, &case, stream);
         cases += 1;
-        differing += one_unless(dump::agrees(played, &case));
+        differing += one_unless(agreement::agrees(played, &case));
         left -= 1;
     }
     Count { cases, differing }

@@ -1,20 +1,16 @@
 // One step of a clock, decoded from its command's bytes.
-use clocks::clocks::EntityId;
-use clocks::clocks::HazardInterruptionPolicy;
-use clocks::clocks::ScheduledEvent;
 use clocks::clocks::SurvivalClock;
-use clocks::scheduling::Censor;
 use clocks::scheduling::RealizedEvent;
 use clocks::scheduling::Rescheduled;
-use clocks::setting::CauseSetting;
 use clocks::ticks::Ticks;
+use engine::commands::censor_of;
+use engine::commands::created_clock;
+use engine::commands::setting_of;
 use hazards::answers::Answer;
-use hazards::checks::HazardFields;
 use hazards::fields::f64_at;
 use hazards::fields::u8_at;
 use hazards::fields::u32_at;
 use hazards::fields::u64_at;
-use hazards::rates::Intervals;
 
 // A clock, the ticks of its pending request, and the answer and draw position of its last step.
 pub struct Played {
@@ -24,69 +20,13 @@ pub struct Played {
     pub position: usize,
 }
 
-fn policy_of(policy: u8) -> HazardInterruptionPolicy {
-    if policy == 0 {
-        return HazardInterruptionPolicy::Restart;
-    }
-    HazardInterruptionPolicy::RetainResidual
-}
-
-fn created(case: &[u8]) -> SurvivalClock {
-    let entity = EntityId {
-        index: u64_at(case, 21),
-        generation: u32_at(case, 29),
-    };
-    let policy = policy_of(u8_at(case, 10));
-    let tie = hazards::ties::tie_breaker(u8_at(case, 11));
-    SurvivalClock::new(
-        u64_at(case, 2),
-        u8_at(case, 20) == 1,
-        entity,
-        policy,
-        tie,
-        f64_at(case, 12),
-    )
-}
-
 pub fn start() -> Played {
-    let clock = created(b"");
+    let clock = created_clock(b"");
     Played {
         clock,
         ticks: Ticks { low: 0, high: 0 },
         answer: hazards::answers::no_event(0),
         position: 0,
-    }
-}
-
-fn setting_of(case: &[u8]) -> CauseSetting {
-    let ends = probe::floats_at(case, 28);
-    let rates = probe::floats_at(case, 36);
-    let fields = HazardFields {
-        kind: u8_at(case, 10),
-        first: f64_at(case, 11),
-        count: u8_at(case, 27),
-        ends,
-        rates,
-    };
-    let hazard = fields.hazard();
-    let intervals = Intervals {
-        ends,
-        rates,
-        count: u8_at(case, 27) as usize,
-    };
-    CauseSetting {
-        cause_id: u32_at(case, 2),
-        priority: u32_at(case, 6),
-        hazard,
-        intervals,
-        now: f64_at(case, 19),
-    }
-}
-
-fn censor_of(case: &[u8]) -> Censor {
-    Censor {
-        present: u8_at(case, 10) == 1,
-        time: f64_at(case, 11),
     }
 }
 
@@ -179,7 +119,7 @@ pub fn play(played: Played, case: &[u8], stream: &[u8]) -> Played {
     let now = f64_at(case, 2);
     let code = u8_at(case, 0);
     match code {
-        1 => idle(created(case), ticks, position),
+        1 => idle(created_clock(case), ticks, position),
         2 => after_set(clock, ticks, case, stream, position),
         3 => idle(clock.remove_channel(u32_at(case, 2)), ticks, position),
         4 => after_schedule(

@@ -7,7 +7,6 @@ pub mod EarliestTurns
 pub mod EventTimes
 pub mod Places
 pub mod RequestLaws
-pub mod Rows
 pub mod SchedulingCases
 pub mod SettingCases
 pub mod SettingOutcomes

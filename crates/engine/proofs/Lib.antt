@@ -4,6 +4,7 @@ pub mod Asking
 pub mod Balance
 pub mod CommandLaws
 pub mod ComparisonLaws
+pub mod Computed
 pub mod Demand3
 pub mod DistinctIndices
 pub mod EngineLaws
@@ -32,6 +33,7 @@ pub mod Replays
 pub mod RequestCounts
 pub mod RequestLists
 pub mod RequestOrder
+pub mod Rows
 pub mod RunNumbers
 pub mod RunTurns
 pub mod ValidationLaws

@@ -13,6 +13,7 @@ pub mod Queue
 pub mod QueueCode
 pub mod Refusals
 pub mod ReplayCode
+pub mod Rows
 pub mod Run
 pub mod Sessions
 pub mod State

@@ -103,7 +103,7 @@ pub fn setting_of(command: &[u8]) -> CauseSetting
     }
 }
 
-fn policy_of(policy: u8) -> HazardInterruptionPolicy
+pub fn policy_of(policy: u8) -> HazardInterruptionPolicy
     ensures { λ r. ⌜ r ≡ policyOf policy ⌝ }
 {
     if policy == 0 {

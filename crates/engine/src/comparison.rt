@@ -39,7 +39,7 @@ fn same_float(a: f64, b: f64) -> bool
     f64::to_bits(a) == f64::to_bits(b)
 }
 
-fn policy_number(policy: HazardInterruptionPolicy) -> u8
+pub fn policy_number(policy: HazardInterruptionPolicy) -> u8
     ensures { λ r. ⌜ r ≡ policyNumber policy ⌝ }
 {
     match policy {
@@ -48,7 +48,7 @@ fn policy_number(policy: HazardInterruptionPolicy) -> u8
     }
 }
 
-fn tie_number(tie: TieBreaker) -> u8
+pub fn tie_number(tie: TieBreaker) -> u8
     ensures { λ r. ⌜ r ≡ tieNumber tie ⌝ }
 {
     match tie {
@@ -58,7 +58,7 @@ fn tie_number(tie: TieBreaker) -> u8
     }
 }
 
-fn kind_number(hazard: HazardRate) -> u8
+pub fn kind_number(hazard: HazardRate) -> u8
     ensures { λ r. ⌜ r ≡ kindNumber hazard ⌝ }
 {
     match hazard {
@@ -69,7 +69,7 @@ fn kind_number(hazard: HazardRate) -> u8
     }
 }
 
-fn own_rate(hazard: HazardRate) -> f64
+pub fn own_rate(hazard: HazardRate) -> f64
     ensures { λ r. ⌜ r ≡ ownRate hazard ⌝ }
 {
     match hazard {

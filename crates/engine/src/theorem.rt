@@ -1,8 +1,13 @@
-// Demand 3 as the contract of a function that does nothing, so that the check's log names it.
+// Theorems as contracts of functions that do nothing, so that the check's log names them.
 ghost use Prim.Native.Nat.{ℕ};
 ghost use mathlib.Core.List.{List};
 ghost use Rattle.engine.specs.Demand3.{Demand3};
+ghost use Rattle.engine.specs.Rows.{TwelveRows};
 
 pub fn demand_3()
     ensures { λ _. ⌜ ((stream : List ℕ) (n : ℕ) (inputs : List (List ℕ)) → Demand3 stream n inputs) ⌝ }
+{}
+
+pub fn twelve_rows()
+    ensures { λ _. ⌜ TwelveRows ⌝ }
 {}

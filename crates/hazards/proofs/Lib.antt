@@ -14,8 +14,6 @@ pub mod OrderLaws
 pub mod Overwrite
 pub mod Pairs
 pub mod Patterns
-pub mod RowSeven
-pub mod Rows
 pub mod SamplerLaws
 pub mod Signed
 pub mod SignedOperations

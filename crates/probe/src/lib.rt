@@ -3,6 +3,8 @@
 ghost use Prim.Native.Nat.{_≤_};
 ghost use lib.ListN.{length};
 ghost use mathlib.Core.Path.{_≡_};
+ghost use Rattle.hazards.specs.Rates.{intervalsFrom, hazardAt, cumulativeHazard};
+ghost use Rattle.hazards.specs.Checks.{rateOfKind};
 use hazards::checks::HazardFields;
 use hazards::evaluations::Evaluation;
 use hazards::fields::f64_at;
@@ -11,7 +13,6 @@ use hazards::fields::put_u64;
 use hazards::fields::u8_at;
 use hazards::fields::u32_at;
 use hazards::fields::u64_at;
-use hazards::rates::HazardRate;
 use hazards::rates::Wait;
 use hazards::sampler::CompetingCause;
 use hazards::sampler::SampleSettings;
@@ -104,46 +105,6 @@ pub fn evaluate<'a>(
     hazards::evaluations::evaluate_inversion(kind, first, count, ends, rates, t, w)
 }
 
-// The same evaluation on a hazard that was checked before.
-fn evaluate_unchecked<'a>(
-    op: u8,
-    hazard: HazardRate,
-    ends: &'a [f64; 8],
-    rates: &'a [f64; 8],
-    count: usize,
-    t: f64,
-    w: f64,
-) -> Evaluation {
-    if op == 0 {
-        let value = hazards::rates::hazard_at(hazard, ends, rates, count, t);
-        return Evaluation {
-            number: 0,
-            found: true,
-            value,
-        };
-    }
-    if op == 1 {
-        let value = hazards::rates::cumulative_hazard(hazard, ends, rates, count, t);
-        return Evaluation {
-            number: 0,
-            found: true,
-            value,
-        };
-    }
-    match hazards::rates::invert_cumulative_hazard(hazard, ends, rates, count, t, w) {
-        Wait::After(value) => Evaluation {
-            number: 0,
-            found: true,
-            value,
-        },
-        Wait::Never => Evaluation {
-            number: 0,
-            found: false,
-            value: 0.0,
-        },
-    }
-}
-
 // The byte `found` in its place in a word.
 fn found_flag(found: bool) -> u64
     ensures { λ r. ⌜ r ≤ 256 ⌝ }
@@ -193,28 +154,70 @@ pub extern "C" fn probe_evaluate(op: u8, hazard: &[u8], points: &[u8], out: &mut
     count as u64
 }
 
-// The same without the checks.
+// A checked evaluation on numbers; a NaN where it is refused or there is no wait.
 #[no_mangle]
-pub extern "C" fn probe_evaluate_unchecked(
+pub extern "C" fn probe_evaluate_numbers<'a>(
     op: u8,
-    hazard: &[u8],
-    points: &[u8],
-    out: &mut [u8],
-) -> u64 {
-    let fields = hazard_fields(hazard, 0);
-    let hazard = fields.hazard();
-    let count = fields.count as usize;
-    let turns = lesser(points.len() / 16, out.len() / 16);
-    let mut i: usize = 0;
-    while i < turns {
-        let at = 16 * i;
-        let t = f64_at(points, at);
-        let w = f64_at(points, at + 8);
-        let e = evaluate_unchecked(op, hazard, &fields.ends, &fields.rates, count, t, w);
-        put_evaluation(out, at, e);
-        i += 1;
+    kind: u8,
+    first: f64,
+    count: u8,
+    ends: &'a [f64; 8],
+    rates: &'a [f64; 8],
+    t: f64,
+    w: f64,
+) -> f64 {
+    let e = evaluate(op, kind, first, count, ends, rates, t, w);
+    if e.found { e.value } else { 0.0 / 0.0 }
+}
+
+// The three evaluations on numbers, without checks.
+#[no_mangle]
+pub extern "C" fn probe_hazard_at<'a>(
+    kind: u8,
+    first: f64,
+    count: u64,
+    ends: &'a [f64; 8],
+    rates: &'a [f64; 8],
+    t: f64,
+) -> f64
+    ensures { λ r. ⌜ r ≡ hazardAt (rateOfKind kind first) (intervalsFrom (now (ends .entry)) (now (rates .entry)) count) t ⌝ }
+{
+    let hazard = hazards::checks::rate_of_kind(kind, first);
+    hazards::rates::hazard_at(hazard, ends, rates, count as usize, t)
+}
+
+#[no_mangle]
+pub extern "C" fn probe_cumulative_hazard<'a>(
+    kind: u8,
+    first: f64,
+    count: u64,
+    ends: &'a [f64; 8],
+    rates: &'a [f64; 8],
+    t: f64,
+) -> f64
+    ensures { λ r. ⌜ r ≡ cumulativeHazard (rateOfKind kind first) (intervalsFrom (now (ends .entry)) (now (rates .entry)) count) t ⌝ }
+{
+    let hazard = hazards::checks::rate_of_kind(kind, first);
+    hazards::rates::cumulative_hazard(hazard, ends, rates, count as usize, t)
+}
+
+// A NaN where there is no wait.
+#[no_mangle]
+pub extern "C" fn probe_invert_cumulative_hazard<'a>(
+    kind: u8,
+    first: f64,
+    count: u64,
+    ends: &'a [f64; 8],
+    rates: &'a [f64; 8],
+    t_start: f64,
+    target_w: f64,
+) -> f64 {
+    let hazard = hazards::checks::rate_of_kind(kind, first);
+    let pairs = count as usize;
+    match hazards::rates::invert_cumulative_hazard(hazard, ends, rates, pairs, t_start, target_w) {
+        Wait::After(value) => value,
+        Wait::Never => 0.0 / 0.0,
     }
-    turns as u64
 }
 
 // An answer of 32 bytes, then the position after it.

@@ -1,7 +1,8 @@
 //! Random evaluations and samples through both sides, up to the first difference.
 
 use crate::describe;
-use crate::formats::{self, EVALUATION_BYTES, Evaluate, POSITION_BYTES, SAMPLE_BYTES};
+use crate::formats::{self, EVALUATION_BYTES, POSITION_BYTES, SAMPLE_BYTES};
+use crate::numbers::{self, SIDES, Sides};
 use crate::probe;
 use cases::chosen;
 use cases::evaluations::EvaluationCase;
@@ -10,12 +11,6 @@ use cases::samples::SampleCase;
 
 /// What stands in a buffer before a call, so that a byte left out is seen.
 const FILLED: u8 = 0xA5;
-
-/// The second is compared on accepted cases.
-const CALLS: [(&str, Evaluate); 2] = [
-    ("probe_evaluate", probe::evaluate),
-    ("probe_evaluate_unchecked", probe::evaluate_unchecked),
-];
 
 /// The chosen cases, then as many random evaluations and samples as asked for.
 pub fn run(seed: u64, count: u64) -> Result<(), String> {
@@ -40,25 +35,36 @@ fn evaluation(case: &EvaluationCase) -> Result<(), String> {
     let mut hazard = Vec::new();
     case.hazard.encode(&mut hazard);
     let point = formats::point(case.t, case.w);
-    let calls = if answer.number == 0 {
-        &CALLS[..]
-    } else {
-        &CALLS[..1]
-    };
-    for (name, call) in calls {
-        let mut out = [FILLED; EVALUATION_BYTES];
-        let done = call(case.operation, &hazard, &point, &mut out);
-        if done != 1 || out != expected {
-            let sides = [expected, out].map(|bytes| describe::evaluation(&bytes));
-            return Err(difference(
-                name,
-                &describe::evaluation_case(case),
-                done,
-                sides,
-            ));
+    let mut out = [FILLED; EVALUATION_BYTES];
+    let done = probe::evaluate(case.operation, &hazard, &point, &mut out);
+    if done == 1 && out == expected {
+        return if answer.number == 0 {
+            on_numbers(case)
+        } else {
+            Ok(())
+        };
+    }
+    let sides = [expected, out].map(|bytes| describe::evaluation(&bytes));
+    let case = describe::evaluation_case(case);
+    Err(difference("probe_evaluate", &case, done, sides))
+}
+
+/// An accepted case through the evaluations on numbers.
+fn on_numbers(case: &EvaluationCase) -> Result<(), String> {
+    let sides = Sides::new(case.operation, &case.hazard);
+    let [rust, others @ ..] = SIDES.map(|side| {
+        let mut out = [0.0];
+        side(&sides, &[(case.t, case.w)], &mut out);
+        out[0]
+    });
+    match others.iter().find(|value| !numbers::same(rust, **value)) {
+        None => Ok(()),
+        Some(other) => {
+            let case = describe::evaluation_case(case);
+            let values = [rust, *other].map(|value| value.to_string());
+            Err(difference("an evaluation on numbers", &case, 1, values))
         }
     }
-    Ok(())
 }
 
 /// `left_over`: under 8 bytes after the last whole threshold.

@@ -12,8 +12,6 @@ pub const POSITION_BYTES: usize = 8;
 /// The answer of 32 bytes and the position after it.
 pub const SAMPLE_BYTES: usize = 40;
 
-/// Operation, hazard, points, room for the evaluations; how many were made.
-pub type Evaluate = fn(u8, &[u8], &[u8], &mut [u8]) -> u64;
 /// Request, thresholds, positions, room for the samples; how many were made.
 pub type Sample = fn(&[u8], &[u8], &[u8], &mut [u8]) -> u64;
 
@@ -22,11 +20,6 @@ pub fn point(t: f64, w: f64) -> [u8; POINT_BYTES] {
     out[..8].copy_from_slice(&t.to_le_bytes());
     out[8..].copy_from_slice(&w.to_le_bytes());
     out
-}
-
-pub fn read_point(bytes: &[u8]) -> (f64, f64) {
-    let mut reader = Reader(bytes);
-    (reader.f64(), reader.f64())
 }
 
 pub fn read_position(bytes: &[u8]) -> u64 {

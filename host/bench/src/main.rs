@@ -8,6 +8,7 @@ mod describe;
 mod engine_report;
 mod engine_workloads;
 mod formats;
+mod numbers;
 mod probe;
 mod report;
 mod rust_side;

@@ -3,7 +3,11 @@
 
 #![allow(unsafe_code)]
 
+use reference::hazard::{Hazard, PAIRS};
+
 mod raw {
+    use super::PAIRS;
+
     unsafe extern "C" {
         pub fn probe_evaluate(
             operation: u8,
@@ -15,15 +19,44 @@ mod raw {
             out_len: usize,
         ) -> u64;
 
-        pub fn probe_evaluate_unchecked(
+        pub fn probe_evaluate_numbers(
             operation: u8,
-            hazard: *const u8,
-            hazard_len: usize,
-            points: *const u8,
-            points_len: usize,
-            out: *mut u8,
-            out_len: usize,
-        ) -> u64;
+            kind: u8,
+            first: f64,
+            count: u8,
+            ends: &[f64; PAIRS],
+            rates: &[f64; PAIRS],
+            t: f64,
+            w: f64,
+        ) -> f64;
+
+        pub fn probe_hazard_at(
+            kind: u8,
+            first: f64,
+            count: u64,
+            ends: &[f64; PAIRS],
+            rates: &[f64; PAIRS],
+            t: f64,
+        ) -> f64;
+
+        pub fn probe_cumulative_hazard(
+            kind: u8,
+            first: f64,
+            count: u64,
+            ends: &[f64; PAIRS],
+            rates: &[f64; PAIRS],
+            t: f64,
+        ) -> f64;
+
+        pub fn probe_invert_cumulative_hazard(
+            kind: u8,
+            first: f64,
+            count: u64,
+            ends: &[f64; PAIRS],
+            rates: &[f64; PAIRS],
+            t_start: f64,
+            target_w: f64,
+        ) -> f64;
 
         pub fn probe_sample(
             request: *const u8,
@@ -54,18 +87,59 @@ pub fn evaluate(operation: u8, hazard: &[u8], points: &[u8], out: &mut [u8]) -> 
     }
 }
 
-/// The hazard is checked once, then evaluated at each point; returns how many were made.
-pub fn evaluate_unchecked(operation: u8, hazard: &[u8], points: &[u8], out: &mut [u8]) -> u64 {
-    // SAFETY: as in `evaluate`.
+/// A hazard's fields as numbers.
+pub struct Fields {
+    kind: u8,
+    first: f64,
+    count: u8,
+    ends: [f64; PAIRS],
+    rates: [f64; PAIRS],
+}
+
+impl Fields {
+    pub fn of(hazard: &Hazard) -> Self {
+        Self {
+            kind: hazard.kind,
+            first: hazard.first,
+            count: hazard.count,
+            ends: hazard.pairs.map(|pair| pair.end),
+            rates: hazard.pairs.map(|pair| pair.rate),
+        }
+    }
+}
+
+/// A checked evaluation; a NaN where it is refused or there is no wait.
+pub fn evaluate_numbers(operation: u8, h: &Fields, t: f64, w: f64) -> f64 {
+    // SAFETY: numbers, and references to arrays of the length that the function takes.
     unsafe {
-        raw::probe_evaluate_unchecked(
-            operation,
-            hazard.as_ptr(),
-            hazard.len(),
-            points.as_ptr(),
-            points.len(),
-            out.as_mut_ptr(),
-            out.len(),
+        raw::probe_evaluate_numbers(operation, h.kind, h.first, h.count, &h.ends, &h.rates, t, w)
+    }
+}
+
+pub fn hazard_at(h: &Fields, t: f64) -> f64 {
+    // SAFETY: as in `evaluate_numbers`.
+    unsafe { raw::probe_hazard_at(h.kind, h.first, u64::from(h.count), &h.ends, &h.rates, t) }
+}
+
+pub fn cumulative_hazard(h: &Fields, t: f64) -> f64 {
+    // SAFETY: as in `evaluate_numbers`.
+    unsafe {
+        raw::probe_cumulative_hazard(h.kind, h.first, u64::from(h.count), &h.ends, &h.rates, t)
+    }
+}
+
+/// A NaN where there is no wait.
+pub fn invert_cumulative_hazard(h: &Fields, t_start: f64, target_w: f64) -> f64 {
+    // SAFETY: as in `evaluate_numbers`.
+    unsafe {
+        raw::probe_invert_cumulative_hazard(
+            h.kind,
+            h.first,
+            u64::from(h.count),
+            &h.ends,
+            &h.rates,
+            t_start,
+            target_w,
         )
     }
 }

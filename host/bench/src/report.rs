@@ -1,11 +1,22 @@
-//! The benchmark: both sides in one run, first held to the same bytes, then timed.
+//! The benchmark of the evaluations and the sampler: both sides in one run, first held to the same answers, then timed.
 
-use crate::formats::{EVALUATION_BYTES, Evaluate, SAMPLE_BYTES, Sample};
+use crate::formats::{SAMPLE_BYTES, Sample};
+use crate::numbers::{self, SIDES, Sides};
 use crate::timing::{RUNS, best};
 use crate::workloads::{self, POINTS, POSITIONS};
 use crate::{probe, rust_side};
 use reference::evaluation::OPERATIONS;
+use reference::hazard::Hazard;
 use std::hint::black_box;
+
+const EVALUATIONS: &str = "
+Evaluations, on numbers, one driver for both sides. Checked: each call checks the fields, and the Rust
+side builds the Rust's hazard. Unchecked: the evaluation alone, on a hazard built beforehand.";
+
+const SAMPLER: &str = "
+Sampler, on records decoded beforehand. Checked: each call checks the records, and the Rust side builds
+the Rust's causes. Prebuilt: the Rust's bare sample_next on causes built beforehand, which checks
+nothing, beside Rattle's checked call.";
 
 pub fn print() {
     println!("ns per call, best of {RUNS} runs; ratio = Rust / Rattle, above 1: Rattle is faster");
@@ -14,10 +25,7 @@ pub fn print() {
 }
 
 fn print_evaluations() {
-    println!(
-        "\nEvaluations. Checked: fields are decoded and checked in every call, and the Rust's"
-    );
-    println!("hazard is built. Unchecked: once for all {POINTS} points.");
+    println!("{EVALUATIONS}");
     println!(
         "{:<25}{:<20}{:>9}{:>9}{:>7}{:>11}{:>9}{:>7}",
         "", "", "Rust", "Rattle", "ratio", "unch. Rust", "Rattle", "ratio"
@@ -36,9 +44,7 @@ fn print_evaluations() {
 }
 
 fn print_samples() {
-    println!(
-        "\nSampler. Prebuilt: the Rust's bare sample_next, causes built beforehand, no check."
-    );
+    println!("{SAMPLER}");
     println!(
         "{:<25}{:>9}{:>9}{:>7}{:>15}{:>7}",
         "causes", "Rust", "Rattle", "ratio", "prebuilt Rust", "ratio"
@@ -55,36 +61,28 @@ fn print_samples() {
 }
 
 /// Rust and Rattle checked, Rust and Rattle unchecked.
-fn evaluation_times(operation: u8, hazard: &[u8]) -> [f64; 4] {
+fn evaluation_times(operation: u8, hazard: &Hazard) -> [f64; 4] {
     let points = workloads::points();
-    let sides: [Evaluate; 4] = [
-        rust_side::evaluate,
-        probe::evaluate,
-        rust_side::evaluate_unchecked,
-        probe::evaluate_unchecked,
-    ];
-    let mut outs = sides.map(|side| {
-        let mut out = vec![0xA5; POINTS * EVALUATION_BYTES];
-        assert_eq!(side(operation, hazard, &points, &mut out), POINTS as u64);
+    let sides = Sides::new(operation, hazard);
+    let mut outs = SIDES.map(|side| {
+        let mut out = vec![0.0; POINTS];
+        side(&sides, &points, &mut out);
         out
     });
-    assert!(outs.iter().all(|out| *out == outs[0]), "the sides differ");
+    let same = |(x, y): (&f64, &f64)| numbers::same(*x, *y);
+    let agrees = |out: &Vec<f64>| out.iter().zip(&outs[0]).all(same);
+    assert!(outs.iter().all(agrees), "the sides differ");
     let [a, b, c, d] = outs.each_mut();
-    let batch = |side: Evaluate, out: &mut [u8]| {
-        side(
-            operation,
-            black_box(hazard),
-            black_box(&points),
-            black_box(out),
-        );
+    let batch = |side: usize, out: &mut [f64]| {
+        SIDES[side](black_box(&sides), black_box(&points), black_box(out));
     };
     best(
         POINTS,
         [
-            &mut || batch(sides[0], a),
-            &mut || batch(sides[1], b),
-            &mut || batch(sides[2], c),
-            &mut || batch(sides[3], d),
+            &mut || batch(0, a),
+            &mut || batch(1, b),
+            &mut || batch(2, c),
+            &mut || batch(3, d),
         ],
     )
 }
@@ -95,23 +93,19 @@ fn sample_times(request: &[u8]) -> [f64; 3] {
     let sides: [Sample; 3] = [rust_side::sample, probe::sample, rust_side::sample_prebuilt];
     let mut outs = sides.map(|side| {
         let mut out = vec![0xA5; POSITIONS * SAMPLE_BYTES];
-        assert_eq!(
-            side(request, &stream, &positions, &mut out),
-            POSITIONS as u64
-        );
+        let done = side(request, &stream, &positions, &mut out);
+        assert_eq!(done, POSITIONS as u64);
         out
     });
     assert!(outs.iter().all(|out| *out == outs[0]), "the sides differ");
     let [a, b, c] = outs.each_mut();
-    let batch = |side: Sample, out: &mut [u8]| {
-        side(black_box(request), &stream, &positions, black_box(out));
+    let batch = |side: usize, out: &mut [u8]| {
+        sides[side](black_box(request), &stream, &positions, black_box(out));
     };
     best(
         POSITIONS,
-        [
-            &mut || batch(sides[0], a),
-            &mut || batch(sides[1], b),
-            &mut || batch(sides[2], c),
-        ],
+        [&mut || batch(0, a), &mut || batch(1, b), &mut || {
+            batch(2, c)
+        }],
     )
 }

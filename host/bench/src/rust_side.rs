@@ -1,48 +1,17 @@
-//! The Rust side: the same work from the same bytes through the unchanged Rust.
+//! The Rust side of the sampler: the same work from the same bytes through the unchanged Rust.
 
-use crate::formats::{self, EVALUATION_BYTES, POINT_BYTES, POSITION_BYTES, SAMPLE_BYTES};
+use crate::formats::{self, POSITION_BYTES, SAMPLE_BYTES};
 use kairo_ecs_rng::DeterministicStream;
 use reference::answer::Answer;
-use reference::evaluation::{self, Evaluation};
-use reference::hazard::Hazard;
 use reference::request::Request;
 use reference::sampler;
 use std::hint::black_box;
 
-/// A whole call for each point: decode, check, build, evaluate. The hint keeps the compiler from
-/// doing the first three once for all points.
-pub fn evaluate(operation: u8, hazard: &[u8], points: &[u8], out: &mut [u8]) -> u64 {
-    each_point(points, out, |t, w| {
-        let hazard = Hazard::decode(black_box(hazard));
-        evaluation::evaluate(operation, &hazard, t, w)
-    })
-}
-
-/// The hazard is built once, then the Rust's own evaluation runs at each point.
-pub fn evaluate_unchecked(operation: u8, hazard: &[u8], points: &[u8], out: &mut [u8]) -> u64 {
-    let rate = Hazard::decode(hazard).build();
-    each_point(points, out, |t, w| {
-        let value = evaluation::evaluate_unchecked(operation, &rate, t, w);
-        Evaluation::of(Ok(value))
-    })
-}
-
-fn each_point(points: &[u8], out: &mut [u8], call: impl Fn(f64, f64) -> Evaluation) -> u64 {
-    let points = points.chunks_exact(POINT_BYTES);
-    let mut done = 0;
-    for (point, out) in points.zip(out.chunks_exact_mut(EVALUATION_BYTES)) {
-        let (t, w) = formats::read_point(point);
-        out.copy_from_slice(&formats::evaluation(&call(t, w)));
-        done += 1;
-    }
-    done
-}
-
-/// A whole call for each position: decode, check, build, sample.
+/// A whole call for each position: check, build, sample. The hint keeps the compiler from doing the first two once for all.
 pub fn sample(request: &[u8], stream: &[u8], positions: &[u8], out: &mut [u8]) -> u64 {
+    let request = Request::decode(request);
     each_position(positions, out, |position| {
-        let request = Request::decode(black_box(request));
-        sampler::sample(&request, stream, position)
+        sampler::sample(black_box(&request), stream, position)
     })
 }
 

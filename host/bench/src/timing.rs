@@ -3,6 +3,7 @@
 use std::time::{Duration, Instant};
 
 pub const RUNS: usize = 150;
+/// Short beside the time that a scheduler gives to one process, so that some runs are undisturbed.
 const RUN_TIME: Duration = Duration::from_millis(1);
 
 /// Nanoseconds per call of each side. A batch makes `calls` calls.

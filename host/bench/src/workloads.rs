@@ -1,6 +1,5 @@
 //! What is timed: points and hazards for the evaluations, causes and thresholds for the sampler.
 
-use crate::formats;
 use cases::floats::{Style, positive};
 use cases::random::Random;
 use reference::hazard::{CONSTANT, GOMPERTZ, Hazard};
@@ -24,7 +23,7 @@ const PAIRS: [(f64, f64); 8] = [
 
 pub struct EvaluationWorkload {
     pub name: &'static str,
-    pub hazard: Vec<u8>,
+    pub hazard: Hazard,
 }
 
 pub fn evaluations() -> [EvaluationWorkload; 3] {
@@ -33,25 +32,14 @@ pub fn evaluations() -> [EvaluationWorkload; 3] {
         ("gompertz", Hazard::single_rate(GOMPERTZ, 0.3)),
         ("piecewise, 8 pairs", Hazard::piecewise(&PAIRS, 0.2)),
     ]
-    .map(|(name, hazard)| EvaluationWorkload {
-        name,
-        hazard: encoded(&hazard),
-    })
-}
-
-fn encoded(hazard: &Hazard) -> Vec<u8> {
-    let mut out = Vec::new();
-    hazard.encode(&mut out);
-    out
+    .map(|(name, hazard)| EvaluationWorkload { name, hazard })
 }
 
 /// Times and w of moderate size, reaching every piece.
-pub fn points() -> Vec<u8> {
+pub fn points() -> Vec<(f64, f64)> {
     let mut random = Random::new(SEED);
     let mut number = || positive(&mut random, Style::Moderate);
-    (0..POINTS)
-        .flat_map(|_| formats::point(number(), number()))
-        .collect()
+    (0..POINTS).map(|_| (number(), number())).collect()
 }
 
 pub struct SampleWorkload {

@@ -19,17 +19,17 @@ pub fn same_state(a: &State, b: &State) -> bool {
     dump_state(a) == dump_state(b)
 }
 
-/// Draw position, applied length, request counter; the queue's length and its requests by index;
-/// then each clock: 1 and its bytes, or 0.
+/// Draw position, applied length, request counter; the queue's length and its requests, in the order
+/// of its places; then each clock: 1 and its bytes, or 0.
 pub fn dump_state(state: &State) -> Vec<u8> {
     let mut out = Vec::new();
     out.extend(state.position.to_le_bytes());
     out.extend(state.applied_length.to_le_bytes());
     out.extend(state.scheduler.requests_made.to_le_bytes());
     out.extend((state.scheduler.queue.len() as u64).to_le_bytes());
-    let mut queue = state.scheduler.queue.clone();
-    queue.sort_by_key(|queued| queued.id.index);
-    queue
+    state
+        .scheduler
+        .queue
         .iter()
         .for_each(|queued| dump_queued(queued, &mut out));
     for clock in &state.clocks {
@@ -41,7 +41,7 @@ pub fn dump_state(state: &State) -> Vec<u8> {
     out
 }
 
-fn dump_queued(queued: &Queued, out: &mut Vec<u8>) {
+pub fn dump_queued(queued: &Queued, out: &mut Vec<u8>) {
     out.push(queued.clock);
     out.extend(queued.id.index.to_le_bytes());
     out.extend(queued.request.at.ticks().to_le_bytes());

@@ -3,7 +3,6 @@
 use crate::fields::size_in_range;
 use crate::hazard::Hazard;
 use crate::refusal::{Refusal, first_failure};
-use kairo_ecs_rng::HazardRate;
 
 pub const HAZARD_AT: u8 = 0;
 pub const CUMULATIVE_HAZARD: u8 = 1;
@@ -85,13 +84,4 @@ pub fn evaluate(operation: u8, hazard: &Hazard, t: f64, w: f64) -> Evaluation {
         INVERT_CUMULATIVE_HAZARD => invert_cumulative_hazard(hazard, t, w),
         _ => panic!("no such operation: {operation}"),
     })
-}
-
-/// The Rust's evaluation as it stands, with no check and no change of a zero's sign.
-pub fn evaluate_unchecked(operation: u8, rate: &HazardRate, t: f64, w: f64) -> Option<f64> {
-    match operation {
-        HAZARD_AT => Some(rate.hazard_at(t)),
-        CUMULATIVE_HAZARD => Some(rate.cumulative_hazard(t)),
-        _ => rate.invert_cumulative_hazard(t, w),
-    }
 }

@@ -15,6 +15,7 @@ pub mod execute;
 pub mod fields;
 pub mod hazard;
 pub mod ledger;
+pub mod record;
 pub mod refusal;
 pub mod request;
 pub mod sampler;

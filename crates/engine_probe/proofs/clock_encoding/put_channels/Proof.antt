@@ -4,14 +4,14 @@ use mathlib.Core.Path.{_≡_}
 use lib.ListN.{length}
 use borrow.Author.Needs.{needs}
 use native.Mathlib.Omega.{arith}
-use Rattle.clock_answers.proofs.dump.put_channels.Statement.{statement}
-use Rattle.clock_answers.proofs.dump.put_channels.Tie as tie
+use Rattle.engine_probe.proofs.clock_encoding.put_channels.Statement.{statement}
+use Rattle.engine_probe.proofs.clock_encoding.put_channels.Tie as tie
 
 abbrev Inv-loop : tie.InvT-loop
-Inv-loop out₀ clock i₀ out i = (i ≤ 8) × (length out ≡ length out₀)
+Inv-loop out₀ at clock i₀ out i = (i ≤ 8) × (length out ≡ length out₀)
 
 abbrev μ-loop : tie.MeasureT-loop
-μ-loop out₀ clock i₀ out i = 8 - i
+μ-loop out₀ at clock i₀ out i = 8 - i
 
 loop-holds : tie.Need-loop-holds Inv-loop μ-loop
 loop-holds c = (search needs, search needs)

@@ -1,0 +1,61 @@
+-- `state` is safe and ends: four commands.
+use Prim.Native.Nat.{_≤_}
+use mathlib.Core.Path.{_≡_}
+use lib.ListN.{length}
+use borrow.Author.Needs.{needs}
+use native.Mathlib.Omega.{arith}
+use Rattle.session_answers.proofs.base.state.Statement.{statement}
+use Rattle.session_answers.proofs.base.state.Tie as tie
+
+abbrev Inv-loop : tie.InvT-loop
+Inv-loop commands stream journal₀ state₀ at₀ left₀ journal state at left = (length journal ≡ 400) × (left ≤ 4)
+
+abbrev μ-loop : tie.MeasureT-loop
+μ-loop commands stream journal₀ state₀ at₀ left₀ journal state at left = left
+
+opened-state-requires : tie.Need-opened-state-requires Inv-loop μ-loop
+opened-state-requires c κs = search needs
+
+loop-holds : tie.Need-loop-holds Inv-loop μ-loop
+loop-holds c = (search needs, search needs)
+
+rest-from-requires : tie.Need-rest-from-requires Inv-loop μ-loop
+rest-from-requires c κs = search needs
+
+slice-aggregate-execute : tie.Need-slice-aggregate-execute Inv-loop μ-loop
+slice-aggregate-execute c = search needs
+
+execute-requires : tie.Need-execute-requires Inv-loop μ-loop
+execute-requires c κs = search needs
+
+place-after-requires : tie.Need-place-after-requires Inv-loop μ-loop
+place-after-requires c κs = search needs
+
+sub-left : tie.Need-sub-left Inv-loop μ-loop
+sub-left c = omega arith
+
+loop-less : tie.Need-loop-less Inv-loop μ-loop
+loop-less c = omega arith
+
+loop-again : tie.Need-loop-again Inv-loop μ-loop
+loop-again c = (search needs, search needs)
+
+returns : tie.Need-returns Inv-loop μ-loop
+returns c = search needs
+
+pub state-spec : {M : Type 1} → statement M
+state-spec =
+    tie.close
+    (tie.spec
+    Inv-loop
+    μ-loop
+    opened-state-requires
+    loop-holds
+    rest-from-requires
+    slice-aggregate-execute
+    execute-requires
+    place-after-requires
+    sub-left
+    loop-less
+    loop-again
+    returns)

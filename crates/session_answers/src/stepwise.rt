@@ -1,0 +1,74 @@
+// A session command by command from opening: every answer, and the whole journal after the last.
+ghost use Prim.Native.Nat.{_≤_};
+use crate::parts::within;
+use crate::tally::Tally;
+use hazards::answers::Answer;
+
+// The answer to command i, as the run's answers have it.
+fn answer_agrees(answer: Answer, answers: &[u8], i: usize) -> bool
+    requires { ⌜ i ≤ 128 ⌝ }
+{
+    let mut out = [0u8; 32];
+    hazards::answers::put_answer(&mut out, 0, answer);
+    let start = 32 * i;
+    let end = start + 32;
+    if end > answers.len() {
+        return false;
+    }
+    check::same(&out, &answers[start..end])
+}
+
+// Each input is the rest of the commands: bytes past a command's width are ignored.
+fn play_commands(
+    commands: &[u8],
+    stream: &[u8],
+    journal: &mut [u8],
+    answers: &[u8],
+    answered: usize,
+    tally: Tally,
+) -> Tally
+    requires { ⌜ answered ≤ 128 ⌝ }
+{
+    let mut after = tally;
+    let mut state = engine::opening::opened_state();
+    let mut at: usize = 0;
+    let mut i: usize = 0;
+    while i < answered {
+        let input = crate::commands::rest_from(commands, at);
+        let executed = engine::execute::execute(state, stream, journal, input);
+        state = executed.state;
+        let agrees = answer_agrees(executed.answer, answers, i);
+        if !agrees {
+            crate::report::print_command(tally.sessions, i as u64 + 1);
+        }
+        after = after.with_command(agrees);
+        at = crate::commands::place_after(commands, at);
+        i += 1;
+    }
+    after
+}
+
+// A run that 18 ended has answered nothing, and its journal was never opened.
+pub fn play(
+    commands: &[u8],
+    stream: &[u8],
+    answers: &[u8],
+    journal: &[u8],
+    result: &[u8],
+    number: u8,
+    tally: Tally,
+) -> Tally {
+    if number == engine::run::BAD_BUFFERS {
+        return tally;
+    }
+    let mut space = [0u8; 4096];
+    let length = within(journal.len(), &space);
+    let own = &mut space[..length];
+    let answered = crate::commands::answered(result, number);
+    let after = play_commands(commands, stream, own, answers, answered, tally);
+    if check::same(own, journal) {
+        return after;
+    }
+    crate::report::print_journal(tally.sessions);
+    after.with_command(false)
+}

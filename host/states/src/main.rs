@@ -1,0 +1,122 @@
+//! `states SEED COUNT`: COUNT random sessions, command by command through the proved engine and through the unchanged Rust behind document 01's
+//! rules. After each command the answer, the journal, the applied commands and every field of the state are compared; beside each, the same is done
+//! from a state or a journal that was tampered with. Ends with 1 at the first difference.
+
+#![deny(unsafe_code)]
+
+mod both;
+mod layout;
+mod probe;
+mod tampering;
+
+use both::{Both, Outcome};
+use cases::random::Random;
+use cases::random_sessions::session;
+use cases::sessions::Session;
+use layout::Field;
+use reference::command::{DELIVER, UNDO, width};
+use std::env;
+use std::process::ExitCode;
+
+/// What was compared, and the refusals of tampered states among it.
+#[derive(Default)]
+struct Tally {
+    commands: u64,
+    tampered: u64,
+    by_1: u64,
+    by_13: u64,
+    inexpressible: u64,
+}
+
+fn main() -> ExitCode {
+    let mut words = env::args()
+        .skip(1)
+        .map(|w| w.parse::<u64>().expect("a number"));
+    let seed = words.next().unwrap_or(1);
+    let count = words.next().unwrap_or(1000);
+    let fields = layout::fields();
+    let mut random = Random::new(seed);
+    let mut tally = Tally::default();
+    for index in 0..count {
+        let s = session(&mut random);
+        if let Err(words) = compare(&mut random, &fields, &s, &mut tally) {
+            println!("seed {seed}, session {index}, {words}\n{s:?}");
+            return ExitCode::FAILURE;
+        }
+    }
+    println!(
+        "seed {seed}: {count} sessions, {} commands, {} inputs to tampered states ({} refused by 1, {} by 13; {} that only the port can express, \
+         all refused by 1), no difference",
+        tally.commands, tally.tampered, tally.by_1, tally.by_13, tally.inexpressible
+    );
+    ExitCode::SUCCESS
+}
+
+/// A session's commands, each followed by an input to a tampered state.
+fn compare(
+    random: &mut Random,
+    fields: &[Field],
+    s: &Session,
+    tally: &mut Tally,
+) -> Result<(), String> {
+    let mut both = Both::open(s.journal);
+    both.same_state(fields)
+        .map_err(|words| format!("at opening: {words}"))?;
+    let mut rest = &s.commands[..];
+    let mut number = 0;
+    while !rest.is_empty() {
+        number += 1;
+        let said = |words| format!("command {number}: {words}");
+        both.give(fields, &s.stream, rest).map_err(said)?;
+        tally.commands += 1;
+        let read = width(rest[0]).unwrap_or(rest.len()).min(rest.len());
+        rest = &rest[read..];
+        tampered(random, fields, &both, &s.stream, rest, tally)
+            .map_err(|words| format!("after command {number}, {words}"))?;
+    }
+    Ok(())
+}
+
+/// The next command, DELIVER or UNDO, given to the state with one field changed or with another byte among the applied ones.
+fn tampered(
+    random: &mut Random,
+    fields: &[Field],
+    both: &Both,
+    stream: &[u8],
+    next: &[u8],
+    tally: &mut Tally,
+) -> Result<(), String> {
+    let (mut record, mut journal) = (both.record.clone(), both.journal.clone());
+    let what = if random.chance(20) {
+        let applied = probe::applied(&record, &journal).len();
+        tampering::tamper_journal(random, &mut journal, applied);
+        "applied commands".to_string()
+    } else {
+        tampering::tamper(random, fields, &mut record)
+    };
+    let input = match random.below(4) {
+        0 => &[DELIVER],
+        1 => next,
+        _ => &[UNDO],
+    };
+    let outcome = match Both::with(&record, &journal) {
+        Some(other) if other.is_same(both) => return Ok(()),
+        Some(mut other) => other.give(fields, stream, input),
+        None => refused(&record, &journal, stream, input).inspect(|_| tally.inexpressible += 1),
+    };
+    let number = outcome.map_err(|words| format!("with {what} tampered: {words}"))?;
+    tally.tampered += 1;
+    tally.by_1 += u64::from(number == 1);
+    tally.by_13 += u64::from(number == 13);
+    Ok(())
+}
+
+/// A record that the Rust cannot express is refused by 1, and record and journal stay.
+fn refused(record: &[u8], journal: &[u8], stream: &[u8], input: &[u8]) -> Outcome {
+    let (mut after, mut bytes) = (record.to_vec(), journal.to_vec());
+    let answer = probe::execute(&mut after, stream, &mut bytes, input);
+    if answer[0] == 1 && answer[1..] == [0; 31] && after == record && bytes == journal {
+        return Ok(1);
+    }
+    Err(format!("refusal 1 is due, answered {answer:02x?}"))
+}

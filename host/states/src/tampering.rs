@@ -1,0 +1,81 @@
+//! One field of a state's record, or one byte of the applied commands, changed at random.
+
+use crate::layout::{Field, Kind, Part, is_used};
+use cases::random::Random;
+use reference::dump::QUEUED_BYTES;
+use reference::record::HEAD_BYTES;
+
+/// Extreme floats, those among them that state validation refuses.
+const FLOATS: [f64; 12] = [
+    0.0,
+    -0.0,
+    1.0,
+    -1.0,
+    0.5,
+    1_099_511_627_776.0,
+    1_099_511_627_777.0,
+    f64::MIN_POSITIVE,
+    f64::MAX,
+    f64::INFINITY,
+    f64::NEG_INFINITY,
+    f64::NAN,
+];
+
+/// A change of a record, in words: one used field of the counts, the queue, a clock or a channel, or the order of the queue.
+pub fn tamper(random: &mut Random, fields: &[Field], record: &mut [u8]) -> String {
+    let wanted: fn(Part) -> bool = random.pick(&[
+        |part| part == Part::Counts,
+        |part| matches!(part, Part::Request(_)),
+        |part| matches!(part, Part::Clock(_)),
+        |part| matches!(part, Part::Channel(..)),
+    ]);
+    if random.chance(2) && is_used(Part::Request(1), record) {
+        let (first, second) = record[HEAD_BYTES..].split_at_mut(QUEUED_BYTES);
+        first.swap_with_slice(&mut second[..QUEUED_BYTES]);
+        return "order of the queue".to_string();
+    }
+    let used = |f: &&Field| is_used(f.part, record);
+    let among = fields.iter().filter(|f| wanted(f.part)).filter(used);
+    let among: Vec<&Field> = among.collect();
+    let field = match among.len() {
+        0 => &fields[0],
+        length => among[random.index(length)],
+    };
+    let bytes = other(random, field.kind, field.bytes(record));
+    record[field.at..][..bytes.len()].copy_from_slice(&bytes);
+    field.words()
+}
+
+/// Other bytes of the same kind; near ones and far ones.
+fn other(random: &mut Random, kind: Kind, bytes: &[u8]) -> Vec<u8> {
+    match kind {
+        Kind::Flag => vec![1 - bytes[0]],
+        Kind::Choice(choices) => {
+            vec![(bytes[0] + 1 + random.below(u64::from(choices) - 1) as u8) % choices]
+        }
+        Kind::Byte => vec![bytes[0].wrapping_add(random.pick(&[1, 255, 7, 16]))],
+        Kind::Word32 | Kind::Word64 => near(random, bytes),
+        Kind::Float => random.pick(&FLOATS).to_le_bytes().to_vec(),
+    }
+}
+
+/// One more, one less, a small number, or one with a high byte.
+fn near(random: &mut Random, bytes: &[u8]) -> Vec<u8> {
+    let mut word = [0; 8];
+    word[..bytes.len()].copy_from_slice(bytes);
+    let number = u64::from_le_bytes(word);
+    let changed = match random.below(4) {
+        0 => number.wrapping_add(1),
+        1 => number.wrapping_sub(1),
+        2 => random.below(600),
+        _ => number ^ 0x8000_0000,
+    };
+    changed.to_le_bytes()[..bytes.len()].to_vec()
+}
+
+/// One bit of one of the applied commands' bytes.
+pub fn tamper_journal(random: &mut Random, journal: &mut [u8], applied: usize) {
+    if applied > 0 {
+        journal[random.index(applied)] ^= 1 << random.below(8);
+    }
+}
