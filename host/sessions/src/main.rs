@@ -44,12 +44,23 @@ fn main() -> ExitCode {
 
 /// Where the sides part on a session, or else the wrapper and the oracle.
 fn difference(session: &Session) -> Option<Difference> {
-    let wrapper = || derived::difference(session).map(Difference::Wrapper);
-    comparison::difference(ENGINE, session).or_else(wrapper)
+    bytes_difference(session).or_else(|| wrapper_difference(session))
 }
 
-/// The smallest session found on which the sides still part, in words.
+fn bytes_difference(session: &Session) -> Option<Difference> {
+    comparison::difference(ENGINE, session)
+}
+
+fn wrapper_difference(session: &Session) -> Option<Difference> {
+    derived::difference(session).map(Difference::Wrapper)
+}
+
+/// The smallest session found on which the sides still part, in words. A difference of bytes stays one.
 fn smallest(session: &Session) -> String {
+    let difference = match bytes_difference(session) {
+        Some(_) => bytes_difference,
+        None => wrapper_difference,
+    };
     let small = shrink::shrink(session, &|session| difference(session).is_some());
     let seen = difference(&small).expect("shrinking keeps a difference");
     report::report(ENGINE, &small, &seen)

@@ -16,6 +16,7 @@ pub fn shrink(session: &Session, holds: Test) -> Session {
         for step in [
             drop_commands,
             drop_thresholds,
+            drop_draws,
             shorten_buffers,
             clear_operands,
         ] {
@@ -108,6 +109,29 @@ fn drop_runs(session: &mut Session, holds: Test, run: usize, parts: Parts, with:
     }
 }
 
+/// Each command with a threshold, so that the draws after it stay the same.
+fn drop_draws(session: &mut Session, holds: Test) {
+    for command in (0..command_parts(session).len()).rev() {
+        drop_draw(session, holds, command);
+    }
+}
+
+/// The command with the first threshold that can go with it.
+fn drop_draw(session: &mut Session, holds: Test, command: usize) {
+    let mut commands = command_parts(session);
+    commands.remove(command);
+    let fewer = with_commands(session, commands.concat());
+    let without = |threshold| {
+        let mut thresholds = threshold_parts(&fewer);
+        thresholds.remove(threshold);
+        with_stream(&fewer, thresholds.concat())
+    };
+    let mut tries = (0..threshold_parts(session).len()).map(without);
+    if let Some(changed) = tries.find(holds) {
+        *session = changed;
+    }
+}
+
 /// Each length alone; the result is made 16 bytes if it can be.
 fn shorten_buffers(session: &mut Session, holds: Test) {
     shorten(session, holds, |session| &mut session.journal);
@@ -135,13 +159,22 @@ fn shorten(session: &mut Session, holds: Test, length: fn(&mut Session) -> &mut 
 
 /// Bytes of operands that can be zero are.
 fn clear_operands(session: &mut Session, holds: Test) {
-    for at in 0..session.commands.len() {
-        if session.commands[at] != 0 {
-            let mut cleared = session.clone();
-            cleared.commands[at] = 0;
-            keep(session, cleared, holds);
-        }
+    for at in operand_places(session) {
+        let mut cleared = session.clone();
+        cleared.commands[at] = 0;
+        keep(session, cleared, holds);
     }
+}
+
+/// Every byte that is not zero but for the commands' codes.
+fn operand_places(session: &Session) -> Vec<usize> {
+    let parts = split(&session.commands);
+    let is_operand = parts
+        .iter()
+        .flat_map(|part| (0..part.len()).map(|at| at > 0));
+    let bytes = session.commands.iter().zip(is_operand).enumerate();
+    let places = bytes.filter(|(_, (byte, is_operand))| **byte != 0 && *is_operand);
+    places.map(|(at, _)| at).collect()
 }
 
 #[cfg(test)]
@@ -171,6 +204,26 @@ mod tests {
         assert_eq!(small.journal, 101);
         assert_eq!(small.stream.len(), THRESHOLD_BYTES);
         assert_eq!((small.answers, small.result), (0, RESULT_BYTES));
+    }
+
+    /// The last of two draws is the one that counts.
+    #[test]
+    fn a_command_goes_with_its_threshold() {
+        let thresholds = [1.0f64, 2.0, 3.0].map(f64::to_le_bytes);
+        let session = Session {
+            commands: vec![DELIVER; 3],
+            stream: thresholds.concat(),
+            journal: 0,
+            answers: 0,
+            result: RESULT_BYTES,
+        };
+        let last_drawn = |s: &Session| {
+            s.commands.len() * THRESHOLD_BYTES == s.stream.len()
+                && s.stream.ends_with(&thresholds[2])
+        };
+        let small = shrink(&session, &last_drawn);
+        assert_eq!(small.commands, [DELIVER]);
+        assert_eq!(small.stream, thresholds[2]);
     }
 
     #[test]
