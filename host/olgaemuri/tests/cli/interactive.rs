@@ -103,6 +103,17 @@ fn thresholds_can_be_added_when_they_are_used_up() {
 }
 
 #[test]
+fn a_journal_that_is_too_short_for_what_is_in_force_is_not_kept() {
+    let out = typed(&[], &format!("{PRESS}journal 40\njournal 400\n"));
+    let refused = "refused by 14: the journal has no room for the command; nothing has changed\n";
+    assert!(out.contains(refused), "{out}");
+    assert!(
+        out.contains(&format!("{refused}noted\n  in force: 3;")),
+        "{out}"
+    );
+}
+
+#[test]
 fn a_file_is_taken_up_again() {
     let out = typed(&["examples/press-shop.session"], "undo\n");
     assert!(
