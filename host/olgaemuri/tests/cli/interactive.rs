@@ -117,6 +117,10 @@ fn a_journal_that_is_too_short_for_what_is_in_force_is_not_kept() {
 fn a_file_is_taken_up_again() {
     let out = typed(&["examples/press-shop.session"], "undo\n");
     assert!(
+        out.contains("\nrefused, and left out: 1 of the file's commands\n"),
+        "{out}"
+    );
+    assert!(
         out.contains("in force: 45; scheduled: press brake 2 by drive belt at tick 8373"),
         "{out}"
     );
@@ -184,13 +188,14 @@ fn pictures_can_be_drawn() {
 fn wrong_words_and_help() {
     let out = typed(
         &[],
-        "lst\nundoo\nbanana\nset machine=0 casue=1\nhelp\nhelp pause\nhelp me\nsave\n",
+        "lst\nlist it\nundoo\nbanana\nset machine=0 casue=1\nhelp\nhelp pause\nhelp me\nsave\n",
     );
     for expected in [
         "unknown word `lst`; did you mean `list`?",
+        "nothing more may follow `list`",
         "unknown word `undoo`; did you mean `undo`?",
         "unknown word `banana`; `help` tells what can be typed",
-        "typed:4:15: unknown operand `casue`; did you mean `cause`?",
+        "typed:5:15: unknown operand `casue`; did you mean `cause`?",
         "  undo            takes the last command back",
         "  reschedule machine=3 now=T [censor=T] [priority=0]",
         "\n  pause machine=3 now=T\nunknown word `me`",
