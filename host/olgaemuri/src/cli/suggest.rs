@@ -17,9 +17,14 @@ pub fn closest<'a>(word: &str, known: &[&'a str]) -> Option<&'a str> {
 
 /// `; did you mean ...?`, or nothing.
 pub fn hint(word: &str, known: &[&str]) -> String {
+    hint_or(word, known, "")
+}
+
+/// `; did you mean ...?`, or these words instead.
+pub fn hint_or(word: &str, known: &[&str], otherwise: &str) -> String {
     match closest(word, known) {
         Some(meant) => format!("; did you mean `{meant}`?"),
-        None => String::new(),
+        None => otherwise.to_string(),
     }
 }
 

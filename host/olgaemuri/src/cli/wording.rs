@@ -176,3 +176,27 @@ fn event_words(row: &Row, names: &Names) -> String {
         _ => format!("scheduled: {what}, in {after}, at tick {ticks}"),
     }
 }
+
+#[cfg(test)]
+mod tests {
+    use super::*;
+
+    #[test]
+    fn long_floats_are_rounded() {
+        let cases = [
+            (4.0, "4"),
+            (-0.0, "-0"),
+            (0.12345678, "0.12345678"),
+            (0.123456789, "0.1235"),
+            (26.363636363636363, "26.3636"),
+            (99999.99999999, "100000"),
+            (1e-7, "1e-7"),
+            (1.23456789e-7, "1.2346e-7"),
+            (1.23456789e300, "1.2346e300"),
+            (f64::NEG_INFINITY, "-inf"),
+        ];
+        for (value, text) in cases {
+            assert_eq!(rounded(value), text);
+        }
+    }
+}

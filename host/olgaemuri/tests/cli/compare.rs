@@ -1,6 +1,7 @@
 //! `olgaemuri compare`: its exit status says whether the lists of breakdowns are the same.
 
-use super::program::olgaemuri;
+use super::program::{example, olgaemuri, scratch};
+use std::fs;
 
 const BEFORE: &str = "examples/press-shop-before.session";
 const AFTER: &str = "examples/press-shop.session";
@@ -39,11 +40,33 @@ fn a_list_of_another_length_differs() {
         ran.text()
             .ends_with("The lists of breakdowns differ in 12 of 12 places.\n")
     );
-    let ran = olgaemuri(
-        &["compare", "-", AFTER],
-        &super::program::example("press-shop.session"),
-    );
+    let ran = olgaemuri(&["compare", "-", AFTER], &example("press-shop.session"));
     assert_eq!(ran.status, 0);
+}
+
+/// One machine with one cause and one breakdown after 4 hours.
+const ONE: &str = "thresholds 2\ncreate machine=0 policy=retain scale=10\n\
+    set machine=0 cause=1 now=0 hazard=constant rate=0.5\nreschedule machine=0 now=0\n";
+
+#[test]
+fn the_last_bit_counts_and_names_do_not() {
+    let file = scratch("one.session");
+    fs::write(&file, ONE).unwrap();
+    let same = format!("machine 0 \"press\"\ncause 1 \"seal\"\n{ONE}pause machine=0 now=1\nundo\n");
+    let cases = [
+        (0, same),
+        (1, ONE.replace("rate=0.5", "rate=0.50000000000000011")),
+        (1, ONE.replace("cause=1", "cause=2")),
+        (1, ONE.replace("machine=0", "machine=1")),
+        (1, ONE.replace("scale=10", "scale=20")),
+        (1, format!("{ONE}deliver\n")),
+    ];
+    for (status, session) in cases {
+        let words = ["compare", file.to_str().unwrap(), "-"];
+        let ran = olgaemuri(&words, session.as_bytes());
+        assert_eq!(ran.status, status, "{session}\n{}", ran.text());
+    }
+    fs::remove_file(&file).unwrap();
 }
 
 #[test]

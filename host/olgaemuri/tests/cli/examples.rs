@@ -66,6 +66,28 @@ fn side_by_side() {
     );
 }
 
+/// The lines of an example that say something.
+fn lines(name: &str) -> Vec<String> {
+    let text = String::from_utf8(example(name)).unwrap();
+    let lines = text.lines().map(str::trim);
+    let said = lines.filter(|line| !line.is_empty() && !line.starts_with('#'));
+    said.map(str::to_string).collect()
+}
+
+#[test]
+fn the_three_sessions_differ_in_edits_and_undos_alone() {
+    let (after, kept) = (
+        lines("press-shop.session"),
+        lines("press-shop-kept.session"),
+    );
+    let without_undos: Vec<String> = after.into_iter().filter(|line| line != "undo").collect();
+    assert_eq!(without_undos, kept);
+    let is_edit = |line: &String| line.contains("now=60");
+    let (edits, rest): (Vec<String>, Vec<String>) = kept.into_iter().partition(is_edit);
+    assert_eq!(edits.len(), 3);
+    assert_eq!(rest, lines("press-shop-before.session"));
+}
+
 #[test]
 fn the_answers_are_well_formed_json() {
     let stored = String::from_utf8(example("press-shop.json")).unwrap();

@@ -103,8 +103,23 @@ fn thresholds_can_be_added_when_they_are_used_up() {
 }
 
 #[test]
+fn a_journal_that_is_too_short_for_what_is_in_force_is_not_kept() {
+    let out = typed(&[], &format!("{PRESS}journal 40\njournal 400\n"));
+    let refused = "refused by 14: the journal has no room for the command; nothing has changed\n";
+    assert!(out.contains(refused), "{out}");
+    assert!(
+        out.contains(&format!("{refused}noted\n  in force: 3;")),
+        "{out}"
+    );
+}
+
+#[test]
 fn a_file_is_taken_up_again() {
     let out = typed(&["examples/press-shop.session"], "undo\n");
+    assert!(
+        out.contains("\nrefused, and left out: 1 of the file's commands\n"),
+        "{out}"
+    );
     assert!(
         out.contains("in force: 45; scheduled: press brake 2 by drive belt at tick 8373"),
         "{out}"
@@ -173,13 +188,14 @@ fn pictures_can_be_drawn() {
 fn wrong_words_and_help() {
     let out = typed(
         &[],
-        "lst\nundoo\nbanana\nset machine=0 casue=1\nhelp\nhelp pause\nhelp me\nsave\n",
+        "lst\nlist it\nundoo\nbanana\nset machine=0 casue=1\nhelp\nhelp pause\nhelp me\nsave\n",
     );
     for expected in [
         "unknown word `lst`; did you mean `list`?",
+        "nothing more may follow `list`",
         "unknown word `undoo`; did you mean `undo`?",
         "unknown word `banana`; `help` tells what can be typed",
-        "typed:4:15: unknown operand `casue`; did you mean `cause`?",
+        "typed:5:15: unknown operand `casue`; did you mean `cause`?",
         "  undo            takes the last command back",
         "  reschedule machine=3 now=T [censor=T] [priority=0]",
         "\n  pause machine=3 now=T\nunknown word `me`",

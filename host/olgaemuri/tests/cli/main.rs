@@ -2,11 +2,11 @@
 
 mod compare;
 mod convert;
+mod documents;
 mod examples;
 mod interactive;
 mod json;
 mod pictures;
 mod program;
-mod readme;
 mod usage;
 mod xml;

@@ -2,7 +2,7 @@
 
 use crate::cli::Failure;
 use crate::cli::files::write;
-use crate::cli::suggest::hint;
+use crate::cli::suggest::hint_or;
 use crate::cli::wording::meaning;
 
 pub const GENERAL: &str = include_str!("general.txt");
@@ -48,10 +48,7 @@ fn found(topic: &str) -> Result<&'static str, Failure> {
             .map(|known| known.0)
             .chain(["refusals"])
             .collect();
-        let hint = match hint(topic, &names) {
-            hint if hint.is_empty() => format!("; there are {}", names.join(", ")),
-            hint => hint,
-        };
+        let hint = hint_or(topic, &names, &format!("; there are {}", names.join(", ")));
         Failure::from(format!("there is no help on `{topic}`{hint}"))
     })
 }

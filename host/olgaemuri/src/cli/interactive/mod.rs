@@ -6,7 +6,7 @@ mod shown;
 use super::arguments::Arguments;
 use super::files::{load, write};
 use super::report::Report;
-use super::suggest::hint;
+use super::suggest::hint_or;
 use super::svg::picture;
 use super::text::commands::COMMANDS;
 use super::text::line::{Item, Line};
@@ -41,8 +41,8 @@ enum Next {
 }
 
 pub fn interactive(arguments: &Arguments) -> Result<u8, Failure> {
-    let text = match arguments.files.as_slice() {
-        [] => SessionText::default(),
+    let (text, left_out) = match arguments.files.as_slice() {
+        [] => (SessionText::default(), 0),
         [file] if file != "-" => accepted_part(load(file)?),
         _ => {
             return Err(Failure::usage(
@@ -55,7 +55,7 @@ pub fn interactive(arguments: &Arguments) -> Result<u8, Failure> {
     let mut out = stdout().lock();
     let mut typed = Typed::new(text, &mut out);
     let ended = typed
-        .greet()
+        .greet(left_out)
         .and_then(|()| typed.talk(&mut stdin().lock(), terminal));
     match ended {
         Err(error) if error.kind() != std::io::ErrorKind::BrokenPipe => {
@@ -65,11 +65,12 @@ pub fn interactive(arguments: &Arguments) -> Result<u8, Failure> {
     }
 }
 
-/// The session without the commands that it refuses, which change nothing.
-fn accepted_part(text: SessionText) -> SessionText {
+/// The session without the commands that are refused, which change nothing, and how many these are.
+fn accepted_part(text: SessionText) -> (SessionText, usize) {
     let report = Report::new(text);
-    if report.accepted() == report.rows.len() {
-        return report.text;
+    let refused = report.rows.len() - report.accepted();
+    if refused == 0 {
+        return (report.text, 0);
     }
     let accepted = report
         .rows
@@ -84,10 +85,8 @@ fn accepted_part(text: SessionText) -> SessionText {
         .filter(|line| !is_command(line))
         .cloned();
     let lines = others.chain(accepted).collect();
-    SessionText {
-        lines,
-        names: report.text.names,
-    }
+    let names = report.text.names;
+    (SessionText { lines, names }, refused)
 }
 
 impl<'a> Typed<'a> {
@@ -103,11 +102,17 @@ impl<'a> Typed<'a> {
         }
     }
 
-    fn greet(&mut self) -> std::io::Result<()> {
+    fn greet(&mut self, left_out: usize) -> std::io::Result<()> {
         writeln!(
             self.out,
             "Type commands, `help` for help, `undo` to take the last one back, `quit` to end."
         )?;
+        if left_out > 0 {
+            writeln!(
+                self.out,
+                "refused, and left out: {left_out} of the file's commands"
+            )?;
+        }
         self.status()
     }
 
@@ -149,6 +154,9 @@ impl<'a> Typed<'a> {
             ["save", file, "overwrite"] => self.save(file, true)?,
             ["picture", file] => self.draw(file)?,
             ["save" | "picture", ..] => writeln!(self.out, "a file's name must follow")?,
+            [word @ ("list" | "quit" | "exit" | "help"), ..] => {
+                writeln!(self.out, "nothing more may follow `{word}`")?;
+            }
             [word, ..] if !is_known(word) => self.unknown(word)?,
             _ => self.read(line)?,
         }
@@ -169,10 +177,7 @@ impl<'a> Typed<'a> {
 
     fn unknown(&mut self, word: &str) -> std::io::Result<()> {
         let known: Vec<&str> = known_words().collect();
-        let hint = match hint(word, &known) {
-            hint if hint.is_empty() => "; `help` tells what can be typed".to_string(),
-            hint => hint,
-        };
+        let hint = hint_or(word, &known, "; `help` tells what can be typed");
         writeln!(self.out, "unknown word `{word}`{hint}")
     }
 

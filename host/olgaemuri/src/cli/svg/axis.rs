@@ -88,6 +88,32 @@ mod tests {
         );
     }
 
+    fn event(time: f64, fate: Fate) -> Event {
+        Event {
+            machine: 0,
+            cause: 1,
+            censored: false,
+            scheduled_at: 0.0,
+            time,
+            ticks: 0,
+            fate,
+            order: (0, 0, 0),
+            delivery: None,
+        }
+    }
+
+    #[test]
+    fn far_events_do_not_stretch_the_axis() {
+        let scheduled = |time| event(time, Fate::Pending);
+        assert_eq!(end_time(&[scheduled(19.0), scheduled(21.0)], 10.0), 19.0);
+        assert_eq!(
+            end_time(&[event(30.0, Fate::Delivered), scheduled(21.0)], 10.0),
+            30.0
+        );
+        assert_eq!(end_time(&[scheduled(21.0)], 0.0), 21.0);
+        assert_eq!(end_time(&[], 0.0), 1.0);
+    }
+
     #[test]
     fn steps() {
         assert_eq!(

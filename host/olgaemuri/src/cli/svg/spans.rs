@@ -157,6 +157,12 @@ mod tests {
     }
 
     #[test]
+    fn times_that_go_back_leave_no_span() {
+        let back = "reschedule machine=0 now=3\npause machine=0 now=1\n";
+        assert_eq!(found(back), [("paused", 1.0, 10.0)]);
+    }
+
+    #[test]
     fn the_end_of_observation_is_no_breakdown() {
         assert_eq!(
             found("reschedule machine=0 now=0 censor=3\ndeliver\n"),

@@ -5,7 +5,7 @@ use super::names::Names;
 use super::operands::Operands;
 use super::words::{Word, Words};
 use crate::cli::number::{parse_float, parse_whole};
-use crate::cli::suggest::hint;
+use crate::cli::suggest::hint_or;
 use olgaemuri::{Command, Entity, Hazard, MAX_PAIRS, Pair, Policy, Tie};
 
 /// The words that begin a command, and the operands that may follow.
@@ -182,10 +182,8 @@ pub fn known_operands(word: &Word, others: &[&str]) -> Result<&'static [&'static
     found.map(|command| command.1).ok_or_else(|| {
         let commands = COMMANDS.iter().map(|command| command.0);
         let known: Vec<&str> = commands.chain(others.iter().copied()).collect();
-        let hint = match hint(&word.text, &known) {
-            hint if hint.is_empty() => format!("; a line begins with {}", known.join(", ")),
-            hint => hint,
-        };
+        let all = format!("; a line begins with {}", known.join(", "));
+        let hint = hint_or(&word.text, &known, &all);
         Misplaced::new(word.column, format!("unknown word `{}`{hint}", word.text))
     })
 }

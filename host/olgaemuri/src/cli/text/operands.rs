@@ -4,7 +4,7 @@ use super::fault::Misplaced;
 use super::names::{Named, Names};
 use super::words::{Word, Words};
 use crate::cli::number::{parse_float, parse_whole};
-use crate::cli::suggest::hint;
+use crate::cli::suggest::{hint, hint_or};
 use std::fmt::Display;
 use std::str::FromStr;
 
@@ -142,18 +142,14 @@ fn check_name(
 ) -> Result<(), Misplaced> {
     let text = &name.text;
     if !known.contains(&text.as_str()) {
-        let hint = hint(text, known);
-        let tail = if !hint.is_empty() {
-            hint
-        } else if known.is_empty() {
-            format!("; `{command}` takes none")
+        let all = if known.is_empty() {
+            "none".to_string()
         } else {
-            format!("; `{command}` takes {}", known.join(", "))
+            known.join(", ")
         };
-        return Err(Misplaced::new(
-            name.column,
-            format!("unknown operand `{text}`{tail}"),
-        ));
+        let hint = hint_or(text, known, &format!("; `{command}` takes {all}"));
+        let message = format!("unknown operand `{text}`{hint}");
+        return Err(Misplaced::new(name.column, message));
     }
     if before.iter().any(|pair| pair.0.text == *text) {
         return Err(Misplaced::new(

@@ -1,14 +1,14 @@
-//! What the README shows is what the program prints.
+//! What the documents show is what the program prints.
 
-use super::program::{example, olgaemuri, root};
+use super::program::{example, olgaemuri, root, scratch};
 use std::fs;
 
 /// The file that holds the tour, below the repository's root.
 const README: &str = "docs/README-draft.md";
 
-/// The blocks between three backticks that name no language.
-fn blocks() -> Vec<String> {
-    let text = fs::read_to_string(root().join(README)).unwrap();
+/// The blocks of a document between three backticks that name no language.
+fn blocks(document: &str) -> Vec<String> {
+    let text = fs::read_to_string(root().join(document)).unwrap();
     let fenced = text.split("```").skip(1).step_by(2);
     fenced
         .filter_map(|block| block.strip_prefix('\n'))
@@ -18,7 +18,7 @@ fn blocks() -> Vec<String> {
 
 #[test]
 fn the_tour_can_be_typed() {
-    let tour: Vec<String> = blocks()
+    let tour: Vec<String> = blocks(README)
         .into_iter()
         .filter(|block| block.starts_with("> "))
         .collect();
@@ -40,7 +40,7 @@ fn the_lines_of_the_example_are_in_its_output() {
         .map(example)
         .concat();
     let stored = String::from_utf8(stored).unwrap();
-    let tables: Vec<String> = blocks()
+    let tables: Vec<String> = blocks(README)
         .into_iter()
         .filter(|block| block.starts_with("no  "))
         .collect();
@@ -48,4 +48,27 @@ fn the_lines_of_the_example_are_in_its_output() {
     for line in tables.concat().lines().filter(|line| *line != "...") {
         assert!(stored.lines().any(|other| other == line), "{line}");
     }
+}
+
+const FORMAT: &str = "docs/SESSION-FORMAT.md";
+
+#[test]
+fn the_session_in_the_format_runs() {
+    let session = &blocks(FORMAT)[0];
+    let ran = olgaemuri(&["run", "-"], session.as_bytes());
+    assert_eq!((ran.status, ran.err.as_str()), (0, ""));
+    let summary = "5 commands: 5 accepted, 0 refused; 1 taken back, 3 in force.";
+    assert!(ran.text().contains(summary), "{}", ran.text());
+}
+
+#[test]
+fn the_bad_line_in_the_format_is_told_like_that() {
+    let told = &blocks(FORMAT)[1];
+    let line = told.lines().nth(1).unwrap().trim_start();
+    let file = scratch("shop.session");
+    fs::write(&file, format!("{}{line}\n", "\n".repeat(6))).unwrap();
+    let path = file.to_str().unwrap();
+    let ran = olgaemuri(&["run", path], b"");
+    fs::remove_file(&file).unwrap();
+    assert_eq!(ran.err, told.replace("shop.session", path));
 }
