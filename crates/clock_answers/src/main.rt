@@ -1,5 +1,6 @@
-// Replays the fixed list of steps of single clocks, with the answer, the draw position and every field of the clock after each as the unchanged Rust
-// has them, and says how many steps there are and how many differ. The list's layout, and how it was made, are in host/README.md.
+// Replays the fixed list of steps of single clocks, with the answer, the draw position and every field of the clock after each as the
+// unchanged Rust has them, and says how many steps there are and how many differ. The list's layout, and how it was made, are in
+// host/README.md.
 mod agreement;
 mod steps;
 

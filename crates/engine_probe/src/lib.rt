@@ -1,5 +1,5 @@
-// The engine's calls over records of bytes, for the comparison with the Rust: every field of a state goes in and comes out. The layouts of a
-// clock's and of a state's record are in host/README.md.
+// The engine's calls over records of bytes, for the comparison with the Rust: every field of a state goes in and comes out. The layouts
+// of a clock's and of a state's record are in host/README.md.
 pub mod clock_decoding;
 pub mod clock_encoding;
 pub mod state_decoding;

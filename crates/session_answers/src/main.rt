@@ -1,14 +1,15 @@
-// Replays the fixed list of whole sessions with what the unchanged Rust answered and left, through the batch run and command by command; then
-// gives inputs to states that were tampered with. The list's layout, and how it was made, are in host/README.md.
+// Replays the fixed list of whole sessions with what the unchanged Rust answered and left, through the batch run and command by command;
+// then gives inputs to states that were tampered with. The list's layout, and how it was made, are in host/README.md.
 mod base;
 mod batch;
+mod cases;
 mod changes;
 mod commands;
 mod invalid_channels;
 mod invalid_states;
+mod other_journals;
 mod other_states;
 mod parts;
-mod playing;
 mod report;
 mod sessions;
 mod stepwise;

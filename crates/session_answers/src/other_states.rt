@@ -1,4 +1,4 @@
-// States that pass state validation and that the applied commands do not give, and journals whose applied bytes do not give the state.
+// States that pass state validation and that the applied commands do not give.
 use crate::changes::with_channel;
 use crate::changes::with_clock;
 use crate::changes::with_presence;
@@ -7,7 +7,6 @@ use clocks::channels::HazardChannelState;
 use clocks::clocks::SurvivalClock;
 use engine::state::EngineState;
 use engine::state::Progress;
-use hazards::fields::put_u8;
 
 const CHANNEL_CASES: u64 = 4;
 
@@ -16,9 +15,7 @@ const CLOCK_CASES: u64 = 7;
 const PROGRESS_CASES: u64 = 7;
 
 // Those of a channel, a clock and the progress, and a clock too many.
-pub const STATE_CASES: u64 = 19;
-
-pub const JOURNAL_CASES: u64 = 6;
+pub const CASES: u64 = 19;
 
 fn other_channel(case: u64, channel: HazardChannelState) -> HazardChannelState {
     let mut after = channel;
@@ -76,7 +73,7 @@ fn other_progress(case: u64, progress: Progress) -> Progress {
     other_counts(case, progress)
 }
 
-pub fn other_state(case: u64, state: EngineState) -> EngineState {
+pub fn tampered(case: u64, state: EngineState) -> EngineState {
     let slot = state.slots[0];
     let clock = slot.clock;
     if case < CHANNEL_CASES {
@@ -92,33 +89,4 @@ pub fn other_state(case: u64, state: EngineState) -> EngineState {
         return with_progress(state, other_progress(last, state.progress));
     }
     with_presence(state, 5, true)
-}
-
-// An UNDO among the applied bytes, at the front and at the last command; no command; a CREATE that 4 refuses; a second CREATE, which 8 refuses;
-// another priority in the last command.
-pub fn other_journal(case: u64, journal: [u8; 400]) -> [u8; 400] {
-    let mut after = journal;
-    match case {
-        0 => put_u8(&mut after, 0, engine::commands::UNDO),
-        1 => put_u8(&mut after, 345, engine::commands::UNDO),
-        2 => put_u8(&mut after, 0, 0),
-        3 => put_u8(&mut after, 10, 9),
-        4 => put_u8(&mut after, 33, engine::commands::CREATE),
-        _ => put_u8(&mut after, 364, 1),
-    }
-    after
-}
-
-// RESCHEDULE again and UNDO, from 368 on.
-pub fn appended_undo(journal: [u8; 400]) -> [u8; 400] {
-    let mut after = journal;
-    put_u8(&mut after, 368, engine::commands::RESCHEDULE);
-    put_u8(&mut after, 391, engine::commands::UNDO);
-    after
-}
-
-pub fn with_appended_undo(state: EngineState) -> EngineState {
-    let mut progress = state.progress;
-    progress.applied_length = 392;
-    with_progress(state, progress)
 }

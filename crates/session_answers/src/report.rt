@@ -40,8 +40,8 @@ pub fn print_journal(session: u64) {
     print(b": the journal differs after the last command\n");
 }
 
-pub fn print_tampered(number: u64, case: u64) {
-    print(b"tampered state ");
+pub fn print_tampered(case: u64, number: u64) {
+    print(b"case ");
     print_number(case);
     print(b" is not refused by ");
     print_number(number);

@@ -13,6 +13,20 @@ fn length_at(head: &[u8], at: usize) -> usize {
     u32_at(head, at) as usize
 }
 
+// The batch run, then command by command.
+fn play(
+    commands: &[u8],
+    stream: &[u8],
+    answers: &[u8],
+    journal: &[u8],
+    result: &[u8],
+    number: u8,
+    tally: Tally,
+) -> Tally {
+    let after = crate::batch::play(commands, stream, answers, journal, result, number, tally);
+    crate::stepwise::play(commands, stream, answers, journal, result, number, after)
+}
+
 // Reads one session's buffers, none of which is longer than 4,096 bytes, and plays it both ways.
 fn session(fd: i32, head: &[u8], tally: Tally) -> Tally {
     let mut commands = io::buffer();
@@ -30,7 +44,7 @@ fn session(fd: i32, head: &[u8], tally: Tally) -> Tally {
     let answer_count = within(length_at(head, 12), &answers);
     let journal_count = within(length_at(head, 8), &journal);
     let result_count = within(length_at(head, 16), &result);
-    crate::playing::play(
+    play(
         &commands[..command_count],
         &stream[..stream_count],
         &answers[..answer_count],

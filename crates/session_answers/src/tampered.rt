@@ -1,9 +1,8 @@
-// States and journals that were tampered with: refusal 1 by every condition of its row, whatever the input, and refusal 13 of UNDO. Each refusal has
-// to leave state and journal as they were.
-use crate::invalid_states;
-use crate::other_states;
+// States and journals that were tampered with: refusal 1 by every condition of its row, whatever the input, and refusal 13 of UNDO. Each
+// refusal has to leave state and journal as they were.
+use crate::cases;
+use crate::cases::Handed;
 use crate::tally::one_more;
-use engine::state::EngineState;
 
 // How many were refused by 1 and by 13, and how many were not.
 pub struct Verdicts {
@@ -13,11 +12,11 @@ pub struct Verdicts {
 }
 
 impl Verdicts {
-    // Of the tampered state of a number, which has to be refused.
-    fn with(self, number: u8, case: u64, refused: bool) -> Verdicts {
+    fn with(self, case: u64, refused: bool) -> Verdicts {
+        let number = cases::number_of(case);
         let mut after = self;
         if !refused {
-            crate::report::print_tampered(number as u64, case);
+            crate::report::print_tampered(case, number as u64);
             after.wrong = one_more(self.wrong);
         } else if number == 1 {
             after.invalid = one_more(self.invalid);
@@ -29,13 +28,9 @@ impl Verdicts {
 }
 
 // Whether an input is answered by a number, with zero elsewhere in the answer, and changes nothing.
-fn is_refused<'a>(
-    state: EngineState,
-    stream: &'a [u8],
-    journal: [u8; 400],
-    input: &'a [u8],
-    number: u8,
-) -> bool {
+fn is_refused<'a>(handed: Handed, stream: &'a [u8], input: &'a [u8], number: u8) -> bool {
+    let state = handed.state;
+    let journal = handed.journal;
     let mut own = journal;
     let executed = engine::execute::execute(state, stream, &mut own, input);
     let after = executed.state;
@@ -49,115 +44,54 @@ fn is_refused<'a>(
 }
 
 // No bytes, no command, REMOVE, DELIVER and UNDO.
-fn is_invalid(state: EngineState, stream: &[u8], journal: [u8; 400]) -> bool {
-    let nothing = is_refused(state, stream, journal, b"", 1);
-    let junk = is_refused(state, stream, journal, b"\x00", 1);
-    let remove = is_refused(state, stream, journal, b"\x03\x00\x01\x00\x00\x00", 1);
-    let deliver = is_refused(state, stream, journal, b"\x07", 1);
-    let undo = is_refused(state, stream, journal, b"\x08", 1);
+fn is_invalid(handed: Handed, stream: &[u8]) -> bool {
+    let nothing = is_refused(handed, stream, b"", 1);
+    let junk = is_refused(handed, stream, b"\x00", 1);
+    let remove = is_refused(handed, stream, b"\x03\x00\x01\x00\x00\x00", 1);
+    let deliver = is_refused(handed, stream, b"\x07", 1);
+    let undo = is_refused(handed, stream, b"\x08", 1);
     nothing & (junk & (remove & (deliver & undo)))
 }
 
-// UNDO by 13.
-fn is_unreplayable(state: EngineState, stream: &[u8], journal: [u8; 400]) -> bool {
-    is_refused(state, stream, journal, b"\x08", 13)
-}
-
-fn try_invalid(
-    state: EngineState,
-    stream: &[u8],
-    journal: [u8; 400],
-    verdicts: Verdicts,
-) -> Verdicts {
-    let mut after = verdicts;
-    let mut case: u64 = 0;
-    while case < invalid_states::CASES {
-        let tampered = invalid_states::tampered(case, state);
-        after = after.with(1, case, is_invalid(tampered, stream, journal));
-        case += 1;
+// By the number that is due: 1 whatever the input, 13 for UNDO.
+fn is_refused_as_due(case: u64, handed: Handed, stream: &[u8]) -> bool {
+    if cases::number_of(case) == 1 {
+        return is_invalid(handed, stream);
     }
-    after
-}
-
-fn try_other_states(
-    state: EngineState,
-    stream: &[u8],
-    journal: [u8; 400],
-    verdicts: Verdicts,
-) -> Verdicts {
-    let mut after = verdicts;
-    let mut case: u64 = 0;
-    while case < other_states::STATE_CASES {
-        let tampered = other_states::other_state(case, state);
-        after = after.with(13, case, is_unreplayable(tampered, stream, journal));
-        case += 1;
-    }
-    after
-}
-
-// The cases of journals are numbered from 100 on.
-fn try_other_journals(
-    state: EngineState,
-    stream: &[u8],
-    journal: [u8; 400],
-    verdicts: Verdicts,
-) -> Verdicts {
-    let mut after = verdicts;
-    let mut case: u64 = 0;
-    while case < other_states::JOURNAL_CASES {
-        let tampered = other_states::other_journal(case, journal);
-        after = after.with(13, case + 100, is_unreplayable(state, stream, tampered));
-        case += 1;
-    }
-    after
-}
-
-// An UNDO after the command that it would revert: together they would give the present state. Case 200.
-fn try_appended_undo(
-    state: EngineState,
-    stream: &[u8],
-    journal: [u8; 400],
-    verdicts: Verdicts,
-) -> Verdicts {
-    let tampered = other_states::with_appended_undo(state);
-    let bytes = other_states::appended_undo(journal);
-    verdicts.with(13, 200, is_unreplayable(tampered, stream, bytes))
+    is_refused(handed, stream, b"\x08", 13)
 }
 
 // Without tampering UNDO is accepted, so that a refusal comes from the change.
-fn try_untampered(
-    state: EngineState,
-    stream: &[u8],
-    journal: [u8; 400],
-    verdicts: Verdicts,
-) -> Verdicts {
-    let mut own = journal;
-    let executed = engine::execute::execute(state, stream, &mut own, b"\x08");
+fn try_untampered(base: Handed, stream: &[u8]) -> Verdicts {
+    let mut journal = base.journal;
+    let executed = engine::execute::execute(base.state, stream, &mut journal, b"\x08");
     let number = executed.answer.number;
-    let mut after = verdicts;
-    if number != 0 {
-        crate::report::print_untampered(number as u64);
-        after.wrong = one_more(verdicts.wrong);
-    }
-    after
-}
-
-fn try_each(state: EngineState, stream: &[u8], journal: [u8; 400]) -> Verdicts {
-    let none = Verdicts {
+    let mut verdicts = Verdicts {
         invalid: 0,
         not_replayable: 0,
         wrong: 0,
     };
-    let untampered = try_untampered(state, stream, journal, none);
-    let invalid = try_invalid(state, stream, journal, untampered);
-    let states = try_other_states(state, stream, journal, invalid);
-    let journals = try_other_journals(state, stream, journal, states);
-    try_appended_undo(state, stream, journal, journals)
+    if number != 0 {
+        crate::report::print_untampered(number as u64);
+        verdicts.wrong = 1;
+    }
+    verdicts
+}
+
+fn try_each(base: Handed, stream: &[u8]) -> Verdicts {
+    let mut verdicts = try_untampered(base, stream);
+    let mut case: u64 = 0;
+    while case < cases::CASES {
+        let handed = cases::tampered(case, base);
+        verdicts = verdicts.with(case, is_refused_as_due(case, handed, stream));
+        case += 1;
+    }
+    verdicts
 }
 
 pub fn try_all() -> Verdicts {
     let stream = crate::base::stream();
     let journal = crate::base::journal();
     let state = crate::base::state(&journal, &stream);
-    try_each(state, &stream, journal)
+    try_each(Handed { state, journal }, &stream)
 }

@@ -1,6 +1,6 @@
-//! `states SEED COUNT`: COUNT random sessions, command by command through the proved engine and through the unchanged Rust behind document 01's
-//! rules. After each command the answer, the journal, the applied commands and every field of the state are compared; beside each, the same is done
-//! from a state or a journal that was tampered with. Ends with 1 at the first difference.
+//! `states SEED COUNT`: the fixed sessions and COUNT random ones, command by command through the proved engine and through the unchanged
+//! Rust behind document 01's rules. After each command the answer, the journal, the applied commands and every field of the state are
+//! compared; beside each, the same is done from a state or a journal that was tampered with. Ends with 1 at the first difference.
 
 #![deny(unsafe_code)]
 
@@ -10,12 +10,14 @@ mod probe;
 mod tampering;
 
 use both::{Both, Outcome};
+use cases::lists;
 use cases::random::Random;
 use cases::random_sessions::session;
 use cases::sessions::Session;
 use layout::Field;
 use reference::command::{DELIVER, UNDO, width};
 use std::env;
+use std::fmt::{self, Display, Formatter};
 use std::process::ExitCode;
 
 /// What was compared, and the refusals of tampered states among it.
@@ -25,7 +27,17 @@ struct Tally {
     tampered: u64,
     by_1: u64,
     by_13: u64,
+    /// States that the Rust's values cannot express.
     inexpressible: u64,
+}
+
+impl Display for Tally {
+    fn fmt(&self, f: &mut Formatter<'_>) -> fmt::Result {
+        write!(f, "{} commands, ", self.commands)?;
+        write!(f, "{} inputs to tampered states ", self.tampered)?;
+        write!(f, "({} refused by 1, {} by 13; ", self.by_1, self.by_13)?;
+        write!(f, "{} only in the port, by 1)", self.inexpressible)
+    }
 }
 
 fn main() -> ExitCode {
@@ -35,20 +47,16 @@ fn main() -> ExitCode {
     let seed = words.next().unwrap_or(1);
     let count = words.next().unwrap_or(1000);
     let fields = layout::fields();
-    let mut random = Random::new(seed);
+    let (mut source, mut random) = (Random::new(seed), Random::new(!seed));
+    let more = (0..count).map(|_| session(&mut source));
     let mut tally = Tally::default();
-    for index in 0..count {
-        let s = session(&mut random);
+    for (index, s) in lists::sessions().into_iter().chain(more).enumerate() {
         if let Err(words) = compare(&mut random, &fields, &s, &mut tally) {
             println!("seed {seed}, session {index}, {words}\n{s:?}");
             return ExitCode::FAILURE;
         }
     }
-    println!(
-        "seed {seed}: {count} sessions, {} commands, {} inputs to tampered states ({} refused by 1, {} by 13; {} that only the port can express, \
-         all refused by 1), no difference",
-        tally.commands, tally.tampered, tally.by_1, tally.by_13, tally.inexpressible
-    );
+    println!("seed {seed}: the fixed sessions and {count} random ones, {tally}, no difference");
     ExitCode::SUCCESS
 }
 

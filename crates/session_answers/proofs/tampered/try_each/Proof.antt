@@ -1,15 +1,18 @@
--- `try_invalid` is safe and ends: so many cases.
+-- `try_each` is safe and ends: the cases are numbered up to 51.
 use Prim.Native.Nat.{_≤_, _-_}
 use borrow.Author.Needs.{needs}
 use native.Mathlib.Omega.{arith}
-use Rattle.session_answers.proofs.tampered.try_invalid.Statement.{statement}
-use Rattle.session_answers.proofs.tampered.try_invalid.Tie as tie
+use Rattle.session_answers.proofs.tampered.try_each.Statement.{statement}
+use Rattle.session_answers.proofs.tampered.try_each.Tie as tie
 
 abbrev Inv-loop : tie.InvT-loop
-Inv-loop state stream journal after₀ case₀ after case = case ≤ 25
+Inv-loop base stream verdicts₀ case₀ verdicts case = case ≤ 51
 
 abbrev μ-loop : tie.MeasureT-loop
-μ-loop state stream journal after₀ case₀ after case = 25 - case
+μ-loop base stream verdicts₀ case₀ verdicts case = 51 - case
+
+try-untampered-requires : tie.Need-try-untampered-requires Inv-loop μ-loop
+try-untampered-requires c κs = search needs
 
 loop-holds : tie.Need-loop-holds Inv-loop μ-loop
 loop-holds c = search needs
@@ -17,8 +20,8 @@ loop-holds c = search needs
 tampered-requires : tie.Need-tampered-requires Inv-loop μ-loop
 tampered-requires c κs = search needs
 
-is-invalid-requires : tie.Need-is-invalid-requires Inv-loop μ-loop
-is-invalid-requires c κs = search needs
+is-refused-as-due-requires : tie.Need-is-refused-as-due-requires Inv-loop μ-loop
+is-refused-as-due-requires c κs = search needs
 
 with-requires : tie.Need-with-requires Inv-loop μ-loop
 with-requires c κs = search needs
@@ -35,15 +38,16 @@ loop-again c = search needs
 returns : tie.Need-returns Inv-loop μ-loop
 returns c = search needs
 
-pub try-invalid-spec : {M : Type 1} → statement M
-try-invalid-spec =
+pub try-each-spec : {M : Type 1} → statement M
+try-each-spec =
     tie.close
     (tie.spec
     Inv-loop
     μ-loop
+    try-untampered-requires
     loop-holds
     tampered-requires
-    is-invalid-requires
+    is-refused-as-due-requires
     with-requires
     add-case
     loop-less
