@@ -6,7 +6,8 @@ use lib.Ieee.Fits.{and-i, and-l, and-r}
 use Rattle.hazards.specs.Floats.{z, inRange}
 use Rattle.hazards.specs.Lists.{all}
 use Rattle.hazards.specs.Refusals.{numberOf}
-use Rattle.hazards.specs.Checks.{ownRate, mostPairs, usedOf, unusedOf, zeroPair, ascending, rangeFault, intervalsFault, hazardFaults, hazardOf, intervalsOf}
+use Rattle.hazards.specs.Checks.{ownRate, mostPairs, usedOf, unusedOf, zeroPair, ascending, rangeFault, intervalsFault}
+use Rattle.hazards.specs.Checks.{hazardFaults, hazardOf, intervalsOf}
 use Rattle.hazards.specs.declared.checks.HazardFields.{HazardFields}
 use Rattle.hazards.specs.declared.rates.HazardRate.{HazardRate}
 use Rattle.hazards.specs.declared.rates.Intervals.{Intervals}
@@ -14,7 +15,7 @@ use Rattle.hazards.specs.Bounds.{sound}
 use Rattle.hazards.proofs.AcceptedFlags.{accepted}
 
 -- ---- of a hazard
-not-false : (b : Bool) → not b ≡ false → T b
+pub not-false : (b : Bool) → not b ≡ false → T b
 not-false true e = tt
 not-false false e = absurd (true≢false e)
 

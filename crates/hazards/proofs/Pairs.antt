@@ -13,10 +13,10 @@ pub pairs-start : (p : Intervals) {n : ℕ} → n ≡ min (p .count) 8 → pairs
 unfolding usedPairs
 pairs-start p {n} e = rw (sub-zero n, e)
 
-one-left : (n i : ℕ) → i < n → n - i ≡ suc (n - (i + 1))
+pub one-left : (n i : ℕ) → i < n → n - i ≡ suc (n - (i + 1))
 one-left n i h = omega arith
 
-none-left : (n i : ℕ) → n ≤ i → n - i ≡ 0
+pub none-left : (n i : ℕ) → n ≤ i → n - i ≡ 0
 none-left n i h = omega arith
 
 pub pairs-next : (p : Intervals) (n i : ℕ) → i < n → pairsFrom p i (n - i) ≡ pairAt p i ∷ pairsFrom p (i + 1) (n - (i + 1))
