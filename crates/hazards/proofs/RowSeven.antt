@@ -14,7 +14,8 @@ use Rattle.hazards.specs.Rates.{pairsFrom, usedPairs, constantWait, wait
 use Rattle.hazards.specs.Checks.{ownRate, mostPairs, rangeFault, ascending, intervalsFault, choiceFault, hazardFaults}
 use Rattle.hazards.specs.Draws.{drawAt}
 use Rattle.hazards.specs.Ties.{candidateAfter, preferred, precedes, earlier, earliest}
-use Rattle.hazards.specs.Sampler.{faultsOfAll, settingsFaults, drawsRefusal, sampleRefusal, candidates, censoredAt, sampledEvent, sampleNext}
+use Rattle.hazards.specs.Sampler.{faultsOfAll, settingsFaults, drawsRefusal, sampleRefusal, candidates, censoredAt, sampledEvent}
+use Rattle.hazards.specs.Sampler.{sampleNext}
 use Rattle.hazards.specs.declared.checks.HazardFields.{HazardFields}
 use Rattle.hazards.specs.declared.sampler.CompetingCause.{CompetingCause}
 use Rattle.hazards.specs.declared.sampler.SampleSettings.{SampleSettings}

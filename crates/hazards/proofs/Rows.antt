@@ -5,7 +5,9 @@ use mathlib.Core.List.{[], _∷_}
 use lib.IntN.{pos, negsuc}
 use lib.Ieee.{Float, fin, add, sub, mul, div, lt, le}
 use Rattle.hazards.specs.Floats.{z, notBelowZero}
-use Rattle.hazards.specs.Rates.{pairsFrom, usedPairs, piecewiseHazard, hazardOfKind, hazardAt, piecewiseCumulative, cumulativeOfKind, cumulativeHazard, pairsAfter, piecewiseWait, waitOfKind, invertCumulativeHazard}
+use Rattle.hazards.specs.Rates.{pairsFrom, usedPairs, piecewiseHazard, hazardOfKind, hazardAt, piecewiseCumulative}
+use Rattle.hazards.specs.Rates.{cumulativeOfKind, cumulativeHazard, pairsAfter, piecewiseWait, waitOfKind}
+use Rattle.hazards.specs.Rates.{invertCumulativeHazard}
 use Rattle.hazards.specs.declared.rates.HazardRate.{HazardRate}
 use Rattle.hazards.specs.declared.rates.HazardRate.the-variants.{Zero, Constant, Piecewise}
 use Rattle.hazards.specs.declared.rates.Intervals.{Intervals}

@@ -1,4 +1,5 @@
--- The wait for a sound hazard, from a start up to 2^40 and for a w above 0, is no NaN and not below 0; any wait is a value that binary64 holds.
+-- The wait for a sound hazard, from a start up to 2^40 and for a w above 0, is no NaN and not below 0; any wait is a value that
+-- binary64 holds.
 use mathlib.Core.Path.{refl, sym}
 use mathlib.Core.Bool.{Bool, true, false, not, cond, _&&_}
 use mathlib.Core.List.{List, [], _∷_}
@@ -9,7 +10,8 @@ use lib.Dec.{T, le→leb, nltb→le}
 use lib.Ieee.{Float, fin, binary64, up, down, add, sub, mul, div, lt, le, fits}
 use lib.Ieee.Fits.{and-l, cond-fits, sub-fits, div-fits}
 use Rattle.hazards.specs.Floats.{z, limit, mostThreshold, notBelowZero, inRange}
-use Rattle.hazards.specs.Rates.{Pair, usedPairs, pairsAfter, waitThrough, piecewiseWait, constantWait, waitOfKind, invertCumulativeHazard}
+use Rattle.hazards.specs.Rates.{Pair, usedPairs, pairsAfter, waitThrough, piecewiseWait, constantWait, waitOfKind}
+use Rattle.hazards.specs.Rates.{invertCumulativeHazard}
 use Rattle.hazards.specs.Checks.{ownRate}
 use Rattle.hazards.specs.declared.rates.HazardRate.{HazardRate}
 use Rattle.hazards.specs.declared.rates.HazardRate.the-variants.{Zero, Constant, Gompertz, Piecewise}
@@ -23,7 +25,8 @@ use Rattle.hazards.proofs.UptoOperations.{mul-upto, sub-upto}
 use Rattle.hazards.proofs.UptoClamped.{clamped-below, positive-upto}
 use Rattle.hazards.proofs.Exact.{sum-at-least}
 use Rattle.hazards.proofs.SignedOperations.{div-signed, add-signed, sub-signed}
-use Rattle.hazards.proofs.Limits.{limit-upto, threshold-upto, rate-upto, positive-rate-upto, time-stays, threshold-stays, piece-lands, nothing-lands}
+use Rattle.hazards.proofs.Limits.{limit-upto, threshold-upto, rate-upto, positive-rate-upto, time-stays, threshold-stays}
+use Rattle.hazards.proofs.Limits.{piece-lands, nothing-lands}
 use Rattle.hazards.proofs.SoundPairs.{Following, none, next, own-rate-sound, pairs-sound, end-upto, after-following}
 
 -- ---- held: nothing is asked of the hazard

@@ -1,5 +1,5 @@
--- How large the floats are within document 01's limits: values that are finite, have a clear sign and are at most a whole number. Hazards within
--- refusals 5 and 6.
+-- How large the floats are within document 01's limits: values that are finite, have a clear sign and are at most a whole number.
+-- Hazards within refusals 5 and 6.
 use mathlib.Core.Path.{_≡_}
 use mathlib.Core.Bool.{Bool, true, false, _&&_}
 use Prim.Native.Nat.{ℕ, _-_, _*_, _^_}

@@ -1,5 +1,5 @@
--- Document 01, "A command comes in": what refusals 4 to 6 say of a hazard. 5 and 6 are stated of the hazard itself, so that they serve the fields of a
--- command and a stored channel alike.
+-- Document 01, "A command comes in": what refusals 4 to 6 say of a hazard. 5 and 6 are stated of the hazard itself, so that they
+-- serve the fields of a command and a stored channel alike.
 use mathlib.Core.Bool.{Bool, true, false, not, cond, _&&_, _||_}
 use mathlib.Core.List.{List, [], _∷_}
 use Prim.Native.Nat.{ℕ, _-_, min}

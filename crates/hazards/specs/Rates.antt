@@ -1,5 +1,5 @@
--- Document 01, "Hazard arithmetic": hazard_at, cumulative_hazard and invert_cumulative_hazard of competing_risks.rs, operation by operation at
--- binary64, each rounded once.
+-- Document 01, "Hazard arithmetic": hazard_at, cumulative_hazard and invert_cumulative_hazard of competing_risks.rs, operation by
+-- operation at binary64, each rounded once.
 use mathlib.Core.Bool.{cond, _&&_}
 use mathlib.Core.List.{List, [], _∷_}
 use Prim.Native.Nat.{ℕ, zero, suc, min}

@@ -1,5 +1,5 @@
--- `rates::piecewise_cumulative` meets its contract: at each turn the cumulative hazard over the pairs from i on, added to cum, is that over all used
--- pairs.
+-- `rates::piecewise_cumulative` meets its contract: at each turn the cumulative hazard over the pairs from i on, added to cum, is
+-- that over all used pairs.
 use mathlib.Core.Path.{_≡_, sym, _∙_}
 use Prim.Native.Nat.{_-_}
 use native.Mathlib.Omega.{arith}

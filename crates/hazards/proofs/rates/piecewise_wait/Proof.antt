@@ -1,4 +1,5 @@
--- `rates::piecewise_wait` meets its contract: at each turn the wait over the pairs from i on, for what is left of w, is the wait from the start.
+-- `rates::piecewise_wait` meets its contract: at each turn the wait over the pairs from i on, for what is left of w, is the wait
+-- from the start.
 use mathlib.Core.Path.{_≡_, sym, _∙_}
 use Prim.Native.Nat.{_-_}
 use native.Mathlib.Omega.{arith}
