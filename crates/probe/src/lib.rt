@@ -1,6 +1,6 @@
 // The hazards crate's calls over records of bytes, for the fixed lists, the comparison with the Rust and the benchmark.
-// A hazard is 138 bytes as in SET: kind, first f64, count, then 8 pairs (end f64, rate f64). A cause is 146: cause u32, priority
-// u32, hazard.
+// A hazard is 138 bytes: kind, first f64, count, then 8 pairs (end f64, rate f64), the fields of SET without its time. A cause is
+// 146 bytes: cause u32, priority u32, hazard.
 ghost use Prim.Native.Nat.{_≤_};
 ghost use lib.ListN.{length};
 ghost use mathlib.Core.Path.{_≡_};
