@@ -20,6 +20,7 @@ pub mod RowSeven
 pub mod Rows
 pub mod SamplerLaws
 pub mod Signed
+pub mod Signs
 pub mod SignedOperations
 pub mod SoundPairs
 pub mod Turns

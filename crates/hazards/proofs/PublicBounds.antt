@@ -21,7 +21,8 @@ use Rattle.hazards.specs.Draws.{thresholdAt}
 use Rattle.hazards.specs.Ties.{candidateAfter, tieBreakerOf, precedes, earlier, earliest}
 use Rattle.hazards.specs.Sampler.{faultsOfAll, settingsFaults, sampleRefusal, inCauseOrder, candidates, censoredAt, sampledEvent}
 use Rattle.hazards.specs.Sampler.{sampleNext}
-use Rattle.hazards.specs.Bounds.{Upto, NotBelow, Signed, sound}
+use Rattle.hazards.specs.Bounds.{Upto, sound}
+use Rattle.hazards.proofs.Signs.{NotBelow, Signed}
 use Rattle.hazards.specs.declared.checks.HazardFields.{HazardFields}
 use Rattle.hazards.specs.declared.evaluations.Evaluation.{Evaluation}
 use Rattle.hazards.specs.declared.rates.Wait.{Wait}
@@ -107,7 +108,8 @@ FiniteEarliest Nothing = Unit {0}
 FiniteEarliest (Found c) = T (isFiniteWait (c .time))
 
 module _ (tie : TieBreaker) where
-  earlier-finite : (best : Earliest) (c : Candidate) → FiniteEarliest best → T (isFiniteWait (c .time)) → FiniteEarliest (earlier tie best c)
+  earlier-finite : (best : Earliest) (c : Candidate) → FiniteEarliest best → T (isFiniteWait (c .time))
+      → FiniteEarliest (earlier tie best c)
   unfolding earlier
   earlier-finite Nothing c b t = t
   earlier-finite (Found best) c b t = by-test (precedes tie c best) (λ e. rw e t) (λ e. rw e b)

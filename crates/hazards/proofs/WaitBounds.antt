@@ -18,8 +18,9 @@ use Rattle.hazards.specs.declared.rates.HazardRate.the-variants.{Zero, C
 use Rattle.hazards.specs.declared.rates.Intervals.{Intervals}
 use Rattle.hazards.specs.declared.rates.Wait.{Wait}
 use Rattle.hazards.specs.declared.rates.Wait.the-variants.{After, Never}
-use Rattle.hazards.specs.Bounds.{Upto, lands, NotBelow, Held, sound}
-use Rattle.hazards.proofs.Upto.{for-fin, zero-upto}
+use Rattle.hazards.specs.Bounds.{Upto, sound}
+use Rattle.hazards.proofs.Signs.{NotBelow, Held}
+use Rattle.hazards.proofs.Upto.{for-fin, zero-upto, lands}
 use Rattle.hazards.proofs.UptoOrder.{lt-le, not-le, not-le-lt, nothing-le, le-refl-upto, le-trans-upto}
 use Rattle.hazards.proofs.UptoOperations.{mul-upto, sub-upto}
 use Rattle.hazards.proofs.UptoClamped.{clamped-below, positive-upto}
@@ -42,7 +43,8 @@ piecewise-held [] trailing start cur w =
 piecewise-held (p ∷ ps) trailing start cur w =
     let rate = notBelowZero (p .rate) in
     let capacity = mul binary64 rate (sub binary64 (p .end) cur) in
-    either-held (lt z rate && le w capacity) (waitThrough start cur rate w) (piecewiseWait ps trailing start (p .end) (sub binary64 w capacity))
+    either-held (lt z rate && le w capacity) (waitThrough start cur rate w)
+    (piecewiseWait ps trailing start (p .end) (sub binary64 w capacity))
     (sub-fits binary64 (add binary64 cur (div binary64 w rate)) start)
     (piecewise-held ps trailing start (p .end) (sub binary64 w capacity))
 
@@ -156,7 +158,7 @@ invert-not-below h p start {w} b s sf sl v l =
     (clamped-below start sl limit-upto) (v n) l)
 
 -- for a threshold, or what is left of one
-pub threshold-wait-not-below : (h : HazardRate) (p : Intervals) (start w : Float) → T (sound h p) → T (fits binary64 start) → T (le start limit)
-    → T (le w mostThreshold) → NotBelow (invertCumulativeHazard h p start w)
+pub threshold-wait-not-below : (h : HazardRate) (p : Intervals) (start w : Float) → T (sound h p) → T (fits binary64 start)
+    → T (le start limit) → T (le w mostThreshold) → NotBelow (invertCumulativeHazard h p start w)
 threshold-wait-not-below h p start w s sf sl wl =
     invert-not-below h p start 1024 s sf sl (λ n. positive-upto w n wl threshold-upto) threshold-stays

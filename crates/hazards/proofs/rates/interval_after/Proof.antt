@@ -21,7 +21,9 @@ at-most-eight-requires : tie.Need-at-most-eight-requires Inv-loop μ-loop
 at-most-eight-requires c κs = search needs
 
 loop-holds : tie.Need-loop-holds Inv-loop μ-loop
-loop-holds c = rw (pairs-start (intervalsFrom (c .before .args .ends .now) (c .before .args .rates .now) (c .before .args .count)) (c .at-most-eight .ensures))
+loop-holds c =
+    let a = c .before .args in
+    rw (pairs-start (intervalsFrom (a .ends .now) (a .rates .now) (a .count)) (c .at-most-eight .ensures))
 
 mul-if1 : tie.Need-mul-if1 Inv-loop μ-loop
 mul-if1 c = omega arith
@@ -33,7 +35,8 @@ returns : tie.Need-returns Inv-loop μ-loop
 returns c =
     let l = c .before .before .before in
     let a = l .before .before .args in
-    let next = pairs-next (intervalsFrom (a .ends .now) (a .rates .now) (a .count)) (l .before .at-most-eight .result) (l .loop .i) (omega arith) in
+    let p = intervalsFrom (a .ends .now) (a .rates .now) (a .count) in
+    let next = pairs-next p (l .before .at-most-eight .result) (l .loop .i) (omega arith) in
     rw (← l .before .at-most-eight .ensures) (sym (after-here (a .t) next (not-true _ (c .if1 .taken))) ∙ l .loop .inv)
 
 add-i : tie.Need-add-i Inv-loop μ-loop
@@ -46,14 +49,16 @@ loop-again : tie.Need-loop-again Inv-loop μ-loop
 loop-again c =
     let l = c .before .before .before in
     let a = l .before .before .args in
-    let next = pairs-next (intervalsFrom (a .ends .now) (a .rates .now) (a .count)) (l .before .at-most-eight .result) (l .loop .i) (omega arith) in
+    let p = intervalsFrom (a .ends .now) (a .rates .now) (a .count) in
+    let next = pairs-next p (l .before .at-most-eight .result) (l .loop .i) (omega arith) in
     sym (after-past (a .t) next (not-false _ (c .if1 .left))) ∙ l .loop .inv
 
 returns-2 : tie.Need-returns-2 Inv-loop μ-loop
 returns-2 c =
     let l = c .before in
     let a = l .before .before .args in
-    let end = pairs-end (intervalsFrom (a .ends .now) (a .rates .now) (a .count)) (l .before .at-most-eight .result) (l .loop .i) (omega arith) in
+    let p = intervalsFrom (a .ends .now) (a .rates .now) (a .count) in
+    let end = pairs-end p (l .before .at-most-eight .result) (l .loop .i) (omega arith) in
     rw (← l .before .at-most-eight .ensures) (sym (after-none (a .t) end) ∙ l .loop .inv)
 
 pub interval-after-spec : {M : Type 1} → statement M

@@ -25,7 +25,9 @@ at-most-eight-requires c κs = search needs
 
 loop-holds : tie.Need-loop-holds Inv-loop μ-loop
 unfolding ofBits
-loop-holds c = rw (pairs-start (intervalsFrom (c .before .args .ends .now) (c .before .args .rates .now) (c .before .args .count)) (c .at-most-eight .ensures))
+loop-holds c =
+    let a = c .before .args in
+    rw (pairs-start (intervalsFrom (a .ends .now) (a .rates .now) (a .count)) (c .at-most-eight .ensures))
 
 mul-end-t : tie.Need-mul-end-t Inv-loop μ-loop
 mul-end-t c = omega arith
@@ -46,7 +48,8 @@ returns : tie.Need-returns Inv-loop μ-loop
 returns c =
     let l = c .before .before .before .before .before in
     let a = l .before .before .args in
-    let next = pairs-next (intervalsFrom (a .ends .now) (a .rates .now) (a .count)) (l .before .at-most-eight .result) (l .loop .i) (omega arith) in
+    let p = intervalsFrom (a .ends .now) (a .rates .now) (a .count) in
+    let next = pairs-next p (l .before .at-most-eight .result) (l .loop .i) (omega arith) in
     sym (cumulative-here (a .trailing) (a .t) (l .loop .cum) (l .loop .cur-t) next (c .before .not-below-zero .ensures) (c .if1 .taken))
     ∙ l .loop .inv
 
@@ -60,7 +63,8 @@ loop-again : tie.Need-loop-again Inv-loop μ-loop
 loop-again c =
     let l = c .before .before .before .before .before in
     let a = l .before .before .args in
-    let next = pairs-next (intervalsFrom (a .ends .now) (a .rates .now) (a .count)) (l .before .at-most-eight .result) (l .loop .i) (omega arith) in
+    let p = intervalsFrom (a .ends .now) (a .rates .now) (a .count) in
+    let next = pairs-next p (l .before .at-most-eight .result) (l .loop .i) (omega arith) in
     sym (cumulative-later (a .trailing) (a .t) (l .loop .cum) (l .loop .cur-t) next (c .before .not-below-zero .ensures) (c .if1 .left))
     ∙ l .loop .inv
 
@@ -71,7 +75,8 @@ returns-2 : tie.Need-returns-2 Inv-loop μ-loop
 returns-2 c =
     let l = c .before .before in
     let a = l .before .before .args in
-    let end = pairs-end (intervalsFrom (a .ends .now) (a .rates .now) (a .count)) (l .before .at-most-eight .result) (l .loop .i) (omega arith) in
+    let p = intervalsFrom (a .ends .now) (a .rates .now) (a .count) in
+    let end = pairs-end p (l .before .at-most-eight .result) (l .loop .i) (omega arith) in
     sym (cumulative-trailing (a .trailing) (a .t) (l .loop .cum) (l .loop .cur-t) end (c .not-below-zero2 .ensures)) ∙ l .loop .inv
 
 pub piecewise-cumulative-spec : {M : Type 1} → statement M

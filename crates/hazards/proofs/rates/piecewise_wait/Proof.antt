@@ -49,7 +49,8 @@ returns : tie.Need-returns Inv-loop μ-loop
 returns c =
     let l = c .before .before .before .before .before .before in
     let a = l .before .before .before .args in
-    let next = pairs-next (intervalsFrom (a .ends .now) (a .rates .now) (a .count)) (l .before .before .at-most-eight .result) (l .loop .i) (omega arith) in
+    let p = intervalsFrom (a .ends .now) (a .rates .now) (a .count) in
+    let next = pairs-next p (l .before .before .at-most-eight .result) (l .loop .i) (omega arith) in
     sym (wait-here (a .trailing) (a .start) (l .loop .cur-t) (l .loop .remaining-w) next (c .before .before .not-below-zero .ensures)
     (sym (c .before .within-capacity .ensures) ∙ c .if1 .taken))
     ∙ l .loop .inv
@@ -64,7 +65,8 @@ loop-again : tie.Need-loop-again Inv-loop μ-loop
 loop-again c =
     let l = c .before .before .before .before .before .before in
     let a = l .before .before .before .args in
-    let next = pairs-next (intervalsFrom (a .ends .now) (a .rates .now) (a .count)) (l .before .before .at-most-eight .result) (l .loop .i) (omega arith) in
+    let p = intervalsFrom (a .ends .now) (a .rates .now) (a .count) in
+    let next = pairs-next p (l .before .before .at-most-eight .result) (l .loop .i) (omega arith) in
     sym (wait-later (a .trailing) (a .start) (l .loop .cur-t) (l .loop .remaining-w) next (c .before .before .not-below-zero .ensures)
     (sym (c .before .within-capacity .ensures) ∙ c .if1 .left))
     ∙ l .loop .inv
@@ -76,8 +78,9 @@ returns-2 : tie.Need-returns-2 Inv-loop μ-loop
 returns-2 c =
     let l = c .before .before in
     let a = l .before .before .before .args in
+    let p = intervalsFrom (a .ends .now) (a .rates .now) (a .count) in
     c .trailing-wait .ensures
-    ∙ rw (pairs-end (intervalsFrom (a .ends .now) (a .rates .now) (a .count)) (l .before .before .at-most-eight .result) (l .loop .i) (omega arith)) at (l .loop .inv)
+    ∙ rw (pairs-end p (l .before .before .at-most-eight .result) (l .loop .i) (omega arith)) at (l .loop .inv)
 
 pub piecewise-wait-spec : {M : Type 1} → statement M
 piecewise-wait-spec =
