@@ -13,13 +13,13 @@ use Rattle.hazards.specs.Checks.{ownRate}
 use Rattle.hazards.specs.declared.rates.HazardRate.{HazardRate}
 use Rattle.hazards.specs.declared.rates.HazardRate.the-variants.{Zero, Constant, Gompertz, Piecewise}
 use Rattle.hazards.specs.declared.rates.Intervals.{Intervals}
-use Rattle.hazards.specs.Bounds.{Upto, largest, sound}
+use Rattle.hazards.specs.Bounds.{Upto, largest}
 use Rattle.hazards.proofs.Upto.{wider, zero-upto, either-upto}
 use Rattle.hazards.proofs.UptoOrder.{lt-le, not-le, zero-le-upto}
 use Rattle.hazards.proofs.UptoOperations.{add-upto, mul-upto, sub-upto}
 use Rattle.hazards.proofs.UptoClamped.{clamped-difference-upto}
 use Rattle.hazards.proofs.Limits.{rate-upto, positive-rate-upto, time-stays, piece-lands, pieces-stay, accumulated-stays}
-use Rattle.hazards.proofs.SoundPairs.{Following, none, next, own-rate-sound, pairs-sound, end-upto}
+use Rattle.hazards.proofs.SoundPairs.{sound, Following, none, next, own-rate-sound, pairs-sound, end-upto}
 
 -- ---- the hazard
 piecewise-hazard-upto : {before : Float} {ps : List Pair} (trailing t : Float) → T (inRange trailing) → Following before ps
@@ -30,7 +30,7 @@ piecewise-hazard-upto trailing t i (next {p} l m r f) =
     either-upto (lt t (p .end)) (λ y. rate-upto (p .rate) r) (λ n. piecewise-hazard-upto trailing t i f)
 
 hazard-of-kind-upto : (h : HazardRate) (p : Intervals) (t : Float) → T (sound h p) → T (inRange (ownRate h))
-    → Upto (2 ^ 40) (hazardOfKind h (usedPairs p) t)
+    → Upto (2 ^ 40) (hazardOfKind h (usedPairs h p) t)
 unfolding hazardOfKind ownRate
 hazard-of-kind-upto Zero p t s i = zero-upto (2 ^ 40)
 hazard-of-kind-upto (Constant rate) p t s i = rate-upto rate i
@@ -66,7 +66,7 @@ product-upto : {rate t : Float} → Upto (2 ^ 40) rate → Upto (2 ^ 40) t → U
 product-upto u v = wider (2 ^ 140) (lit≤ tt) (mul-upto (2 ^ 80) u v piece-lands)
 
 cumulative-of-kind-upto : (h : HazardRate) (p : Intervals) (t : Float) → T (sound h p) → T (inRange (ownRate h)) → Upto (2 ^ 40) t
-    → Upto (2 ^ 140) (cumulativeOfKind h (usedPairs p) t)
+    → Upto (2 ^ 140) (cumulativeOfKind h (usedPairs h p) t)
 unfolding cumulativeOfKind ownRate
 cumulative-of-kind-upto Zero p t s i u = zero-upto (2 ^ 140)
 cumulative-of-kind-upto (Constant rate) p t s i u = product-upto (rate-upto rate i) u

@@ -10,8 +10,8 @@ use Rattle.hazards.specs.Floats.{z, notBelowZero, zeroBits, inRange, isT
 use Rattle.hazards.specs.Lists.{all, foldl, insertBy, sortBy}
 use Rattle.hazards.specs.Fields.{littleEndian, fieldAt, f64At}
 use Rattle.hazards.specs.Answers.{eventOf}
-use Rattle.hazards.specs.Rates.{pairsFrom, usedPairs, constantWait, waitOfKind, invertCumulativeHazard}
-use Rattle.hazards.specs.Checks.{ownRate, mostPairs, rangeFault, ascending, intervalsFault, choiceFault, hazardFaults}
+use Rattle.hazards.specs.Rates.{pairsFrom, mostPairs, usedPairs, constantWait, waitOfKind, invertCumulativeHazard}
+use Rattle.hazards.specs.Checks.{ownRate, rangeFault, ascending, intervalsFault, choiceFault, hazardFaults}
 use Rattle.hazards.specs.Draws.{drawAt}
 use Rattle.hazards.specs.Ties.{candidateAfter, preferred, precedes, earlier, earliest}
 use Rattle.hazards.specs.Sampler.{faultsOfAll, settingsFaults, drawsRefusal, sampleRefusal, candidates, censoredAt, sampledEvent}

@@ -5,7 +5,7 @@ use mathlib.Core.List.{[], _∷_}
 use lib.IntN.{pos, negsuc}
 use lib.Ieee.{Float, fin, add, sub, mul, div, lt, le}
 use Rattle.hazards.specs.Floats.{z, notBelowZero}
-use Rattle.hazards.specs.Rates.{pairsFrom, usedPairs, piecewiseHazard, hazardOfKind, hazardAt, piecewiseCumulative}
+use Rattle.hazards.specs.Rates.{pairsFrom, mostPairs, usedPairs, piecewiseHazard, hazardOfKind, hazardAt, piecewiseCumulative}
 use Rattle.hazards.specs.Rates.{cumulativeOfKind, cumulativeHazard, pairsAfter, piecewiseWait, waitOfKind}
 use Rattle.hazards.specs.Rates.{invertCumulativeHazard}
 use Rattle.hazards.specs.declared.rates.HazardRate.{HazardRate}
@@ -52,22 +52,22 @@ row-1 = refl
 
 -- P, hazard at 1.0: 1.0; at 2.0: 0.0
 pub row-2 : (hazardAt trailing P one ≡ one) × (hazardAt trailing P two ≡ z)
-unfolding hazardAt hazardOfKind piecewiseHazard usedPairs pairsFrom notBelowZero lt
+unfolding hazardAt hazardOfKind piecewiseHazard mostPairs usedPairs pairsFrom notBelowZero lt
 row-2 = (refl, refl)
 
 -- P, cumulative at 2.0: 2.0; at 6.0: 2.5
 pub row-3 : (cumulativeHazard trailing P two ≡ two) × (cumulativeHazard trailing P six ≡ two-and-half)
-unfolding cumulativeHazard cumulativeOfKind piecewiseCumulative usedPairs pairsFrom notBelowZero add sub mul lt le
+unfolding cumulativeHazard cumulativeOfKind piecewiseCumulative mostPairs usedPairs pairsFrom notBelowZero add sub mul lt le
 row-3 = (refl, refl)
 
 -- P from 0, w 2.0: 2.0; w 2.5: 6.0
 pub row-4 : (invertCumulativeHazard trailing P z two ≡ After two) × (invertCumulativeHazard trailing P z two-and-half ≡ After six)
-unfolding invertCumulativeHazard waitOfKind piecewiseWait pairsAfter usedPairs pairsFrom notBelowZero add sub mul div lt le
+unfolding invertCumulativeHazard waitOfKind piecewiseWait pairsAfter mostPairs usedPairs pairsFrom notBelowZero add sub mul div lt le
 row-4 = (refl, refl)
 
 -- P from 2.0, w 0.5: 4.0
 pub row-5 : invertCumulativeHazard trailing P two half ≡ After four
-unfolding invertCumulativeHazard waitOfKind piecewiseWait pairsAfter usedPairs pairsFrom notBelowZero add sub mul div lt le
+unfolding invertCumulativeHazard waitOfKind piecewiseWait pairsAfter mostPairs usedPairs pairsFrom notBelowZero add sub mul div lt le
 row-5 = refl
 
 -- Zero, w 0: 0.0; w 1.0: no wait

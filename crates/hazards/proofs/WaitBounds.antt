@@ -18,7 +18,7 @@ use Rattle.hazards.specs.declared.rates.HazardRate.the-variants.{Zero, C
 use Rattle.hazards.specs.declared.rates.Intervals.{Intervals}
 use Rattle.hazards.specs.declared.rates.Wait.{Wait}
 use Rattle.hazards.specs.declared.rates.Wait.the-variants.{After, Never}
-use Rattle.hazards.specs.Bounds.{Upto, sound}
+use Rattle.hazards.specs.Bounds.{Upto}
 use Rattle.hazards.proofs.Signs.{NotBelow, Held}
 use Rattle.hazards.proofs.Upto.{for-fin, zero-upto, lands}
 use Rattle.hazards.proofs.UptoOrder.{lt-le, not-le, not-le-lt, nothing-le, le-refl-upto, le-trans-upto}
@@ -28,7 +28,7 @@ use Rattle.hazards.proofs.Exact.{sum-at-least}
 use Rattle.hazards.proofs.SignedOperations.{div-signed, add-signed, sub-signed}
 use Rattle.hazards.proofs.Limits.{limit-upto, threshold-upto, rate-upto, positive-rate-upto, time-stays, threshold-stays}
 use Rattle.hazards.proofs.Limits.{piece-lands, nothing-lands}
-use Rattle.hazards.proofs.SoundPairs.{Following, none, next, own-rate-sound, pairs-sound, end-upto, after-following}
+use Rattle.hazards.proofs.SoundPairs.{sound, Following, none, next, own-rate-sound, pairs-sound, end-upto, after-following}
 
 -- ---- held: nothing is asked of the hazard
 either-held : (b : Bool) (x y : Wait) → Held x → Held y → Held (cond b x y)
@@ -66,8 +66,8 @@ zero-held = tt
 pub invert-held : (h : HazardRate) (p : Intervals) (start w : Float) → Held (invertCumulativeHazard h p start w)
 unfolding invertCumulativeHazard
 invert-held h p start w =
-    either-held (le w z) (After z) (waitOfKind h (usedPairs p) (notBelowZero start) w) zero-held
-    (wait-of-kind-held h (usedPairs p) (notBelowZero start) w)
+    either-held (le w z) (After z) (waitOfKind h (usedPairs h p) (notBelowZero start) w) zero-held
+    (wait-of-kind-held h (usedPairs h p) (notBelowZero start) w)
 
 -- ---- not below 0
 either-not-below : (b : Bool) (x y : Wait) → (T b → NotBelow x) → (T (not b) → NotBelow y) → NotBelow (cond b x y)
@@ -134,7 +134,7 @@ constant-not-below {w} rate v u =
     (λ n. div-signed v (u n) (not-le-lt (zero-upto 0) (u n) n))
 
 wait-of-kind-not-below : (h : HazardRate) (p : Intervals) (start : Float) {w : Float} (b : ℕ) → T (sound h p) → T (inRange (ownRate h))
-    → T (fits binary64 start) → Upto (2 ^ 40) start → Upto b w → T (lands b b) → NotBelow (waitOfKind h (usedPairs p) start w)
+    → T (fits binary64 start) → Upto (2 ^ 40) start → Upto b w → T (lands b b) → NotBelow (waitOfKind h (usedPairs h p) start w)
 unfolding waitOfKind ownRate
 wait-of-kind-not-below Zero p start b s i sf su v l = tt
 wait-of-kind-not-below (Constant rate) p start b s i sf su v l = constant-not-below (notBelowZero rate) v (λ n. rate-upto rate i)
@@ -152,7 +152,7 @@ pub invert-not-below : (h : HazardRate) (p : Intervals) (start : Float) {w : Flo
     → T (le start limit) → (T (not (le w z)) → Upto b w) → T (lands b b) → NotBelow (invertCumulativeHazard h p start w)
 unfolding invertCumulativeHazard
 invert-not-below h p start {w} b s sf sl v l =
-    either-not-below (le w z) (After z) (waitOfKind h (usedPairs p) (notBelowZero start) w) (λ t. refl)
+    either-not-below (le w z) (After z) (waitOfKind h (usedPairs h p) (notBelowZero start) w) (λ t. refl)
     (λ n.
     wait-of-kind-not-below h p (notBelowZero start) b s (own-rate-sound h p s) (clamped-held start sf)
     (clamped-below start sl limit-upto) (v n) l)

@@ -50,7 +50,10 @@ fn piecewise_hazard<'a>(
     trailing: f64,
     t: f64,
 ) -> f64
-    ensures { λ r. ⌜ r ≡ piecewiseHazard (usedPairs (intervalsFrom (now (ends .entry)) (now (rates .entry)) count)) trailing t ⌝ }
+    ensures { λ r. ⌜ r
+        ≡ piecewiseHazard
+        (usedPairs (HazardRate.Piecewise trailing) (intervalsFrom (now (ends .entry)) (now (rates .entry)) count))
+        trailing t ⌝ }
 {
     let used = at_most_eight(count);
     let mut i: usize = 0;
@@ -90,7 +93,10 @@ fn piecewise_cumulative<'a>(
     trailing: f64,
     t: f64,
 ) -> f64
-    ensures { λ r. ⌜ r ≡ piecewiseCumulative (usedPairs (intervalsFrom (now (ends .entry)) (now (rates .entry)) count)) trailing t z z ⌝ }
+    ensures { λ r. ⌜ r
+        ≡ piecewiseCumulative
+        (usedPairs (HazardRate.Piecewise trailing) (intervalsFrom (now (ends .entry)) (now (rates .entry)) count))
+        trailing t z z ⌝ }
 {
     let used = at_most_eight(count);
     let mut cum = 0.0;
@@ -132,7 +138,7 @@ pub fn cumulative_hazard<'a>(
 // The place of the first pair that does not end at or before t, or one past the used pairs.
 fn interval_after<'a>(ends: &'a [f64; 8], rates: &'a [f64; 8], count: usize, t: f64) -> usize
     ensures { λ r. ⌜ pairsFrom (intervalsFrom (now (ends .entry)) (now (rates .entry)) count) r (min count 8 - r)
-        ≡ pairsAfter t (usedPairs (intervalsFrom (now (ends .entry)) (now (rates .entry)) count)) ⌝ }
+        ≡ pairsAfter t (pairsFrom (intervalsFrom (now (ends .entry)) (now (rates .entry)) count) 0 (min count 8)) ⌝ }
 {
     let used = at_most_eight(count);
     let mut i: usize = 0;
@@ -172,7 +178,9 @@ fn piecewise_wait<'a>(
     w: f64,
 ) -> Wait
     ensures { λ r. ⌜ r
-        ≡ piecewiseWait (pairsAfter start (usedPairs (intervalsFrom (now (ends .entry)) (now (rates .entry)) count)))
+        ≡ piecewiseWait
+        (pairsAfter start
+        (usedPairs (HazardRate.Piecewise trailing) (intervalsFrom (now (ends .entry)) (now (rates .entry)) count)))
         trailing start start w ⌝ }
 {
     let used = at_most_eight(count);

@@ -7,6 +7,7 @@ use lib.Ieee.{ofBits}
 use borrow.Author.Needs.{needs}
 use Rattle.hazards.specs.Floats.{z}
 use Rattle.hazards.specs.Rates.{intervalsFrom, pairsFrom, usedPairs, piecewiseCumulative}
+use Rattle.hazards.specs.declared.rates.HazardRate.the-variants.{Piecewise}
 use Rattle.hazards.proofs.Pairs.{pairs-start, pairs-next, pairs-end}
 use Rattle.hazards.proofs.Turns.{cumulative-here, cumulative-later, cumulative-trailing}
 use Rattle.hazards.proofs.rates.piecewise_cumulative.Statement.{statement}
@@ -15,7 +16,7 @@ use Rattle.hazards.proofs.rates.piecewise_cumulative.Tie as tie
 abbrev Inv-loop : tie.InvT-loop
 Inv-loop ends rates count trailing t used cum₀ cur-t₀ i₀ cum cur-t i =
     piecewiseCumulative (pairsFrom (intervalsFrom ends rates count) i (used - i)) trailing t cum cur-t
-    ≡ piecewiseCumulative (usedPairs (intervalsFrom ends rates count)) trailing t z z
+    ≡ piecewiseCumulative (usedPairs (Piecewise trailing) (intervalsFrom ends rates count)) trailing t z z
 
 abbrev μ-loop : tie.MeasureT-loop
 μ-loop ends rates count trailing t used cum₀ cur-t₀ i₀ cum cur-t i = used - i
@@ -27,7 +28,7 @@ loop-holds : tie.Need-loop-holds Inv-loop μ-loop
 unfolding ofBits
 loop-holds c =
     let a = c .before .args in
-    rw (pairs-start (intervalsFrom (a .ends .now) (a .rates .now) (a .count)) (c .at-most-eight .ensures))
+    rw (pairs-start (a .trailing) (intervalsFrom (a .ends .now) (a .rates .now) (a .count)) (c .at-most-eight .ensures))
 
 mul-end-t : tie.Need-mul-end-t Inv-loop μ-loop
 mul-end-t c = omega arith

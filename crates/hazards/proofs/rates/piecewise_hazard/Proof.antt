@@ -4,6 +4,7 @@ use Prim.Native.Nat.{_-_}
 use native.Mathlib.Omega.{arith}
 use borrow.Author.Needs.{needs}
 use Rattle.hazards.specs.Rates.{intervalsFrom, pairsFrom, usedPairs, piecewiseHazard}
+use Rattle.hazards.specs.declared.rates.HazardRate.the-variants.{Piecewise}
 use Rattle.hazards.proofs.Pairs.{pairs-start, pairs-next, pairs-end}
 use Rattle.hazards.proofs.Turns.{hazard-here, hazard-later, hazard-trailing}
 use Rattle.hazards.proofs.rates.piecewise_hazard.Statement.{statement}
@@ -12,7 +13,7 @@ use Rattle.hazards.proofs.rates.piecewise_hazard.Tie as tie
 abbrev Inv-loop : tie.InvT-loop
 Inv-loop ends rates count trailing t used i₀ i =
     piecewiseHazard (pairsFrom (intervalsFrom ends rates count) i (used - i)) trailing t
-    ≡ piecewiseHazard (usedPairs (intervalsFrom ends rates count)) trailing t
+    ≡ piecewiseHazard (usedPairs (Piecewise trailing) (intervalsFrom ends rates count)) trailing t
 
 abbrev μ-loop : tie.MeasureT-loop
 μ-loop ends rates count trailing t used i₀ i = used - i
@@ -23,7 +24,7 @@ at-most-eight-requires c κs = search needs
 loop-holds : tie.Need-loop-holds Inv-loop μ-loop
 loop-holds c =
     let a = c .before .args in
-    rw (pairs-start (intervalsFrom (a .ends .now) (a .rates .now) (a .count)) (c .at-most-eight .ensures))
+    rw (pairs-start (a .trailing) (intervalsFrom (a .ends .now) (a .rates .now) (a .count)) (c .at-most-eight .ensures))
 
 mul-if1 : tie.Need-mul-if1 Inv-loop μ-loop
 mul-if1 c = omega arith

@@ -4,7 +4,8 @@ use mathlib.Core.Path.{_≡_, sym, _∙_}
 use Prim.Native.Nat.{_-_}
 use native.Mathlib.Omega.{arith}
 use borrow.Author.Needs.{needs}
-use Rattle.hazards.specs.Rates.{intervalsFrom, pairsFrom, usedPairs, pairsAfter, piecewiseWait}
+use Rattle.hazards.specs.Rates.{intervalsFrom, pairsFrom, mostPairs, usedPairs, pairsAfter, piecewiseWait}
+use Rattle.hazards.specs.declared.rates.HazardRate.the-variants.{Piecewise}
 use Rattle.hazards.proofs.Pairs.{pairs-next, pairs-end}
 use Rattle.hazards.proofs.Turns.{wait-here, wait-later}
 use Rattle.hazards.proofs.rates.piecewise_wait.Statement.{statement}
@@ -13,7 +14,7 @@ use Rattle.hazards.proofs.rates.piecewise_wait.Tie as tie
 abbrev Inv-loop : tie.InvT-loop
 Inv-loop ends rates count trailing start w used i₀ cur-t₀ remaining-w₀ i cur-t remaining-w =
     piecewiseWait (pairsFrom (intervalsFrom ends rates count) i (used - i)) trailing start cur-t remaining-w
-    ≡ piecewiseWait (pairsAfter start (usedPairs (intervalsFrom ends rates count))) trailing start start w
+    ≡ piecewiseWait (pairsAfter start (usedPairs (Piecewise trailing) (intervalsFrom ends rates count))) trailing start start w
 
 abbrev μ-loop : tie.MeasureT-loop
 μ-loop ends rates count trailing start w used i₀ cur-t₀ remaining-w₀ i cur-t remaining-w = used - i
@@ -25,6 +26,7 @@ interval-after-requires : tie.Need-interval-after-requires Inv-loop μ-loop
 interval-after-requires c κs = search needs
 
 loop-holds : tie.Need-loop-holds Inv-loop μ-loop
+unfolding usedPairs mostPairs
 loop-holds c = simp (c .before .at-most-eight .ensures, c .interval-after .ensures)
 
 mul-end-t : tie.Need-mul-end-t Inv-loop μ-loop
