@@ -10,13 +10,14 @@ use Rattle.hazards.specs.Floats.{z, isFiniteWait}
 use Rattle.hazards.specs.Lists.{foldl}
 use Rattle.hazards.specs.Rates.{invertCumulativeHazard}
 use Rattle.hazards.specs.Ties.{candidateAfter, precedes, earlier, earliest}
-use Rattle.hazards.specs.Bounds.{Upto, largest, Held}
+use Rattle.hazards.specs.Bounds.{Upto, largest}
 use Rattle.hazards.specs.declared.rates.Wait.{Wait}
 use Rattle.hazards.specs.declared.rates.Wait.the-variants.{After, Never}
 use Rattle.hazards.specs.declared.ties.Candidate.{Candidate}
 use Rattle.hazards.specs.declared.ties.Earliest.{Earliest}
 use Rattle.hazards.specs.declared.ties.Earliest.the-variants.{Nothing, Found}
 use Rattle.hazards.specs.declared.ties.TieBreaker.{TieBreaker}
+use Rattle.hazards.proofs.Signs.{Held}
 use Rattle.hazards.proofs.Upto.{wider, zero-upto}
 use Rattle.hazards.proofs.UptoOperations.{add-upto, sub-upto}
 use Rattle.hazards.proofs.UptoClamped.{clamped-difference-upto}

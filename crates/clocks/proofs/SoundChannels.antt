@@ -6,9 +6,10 @@ use lib.Dec.{T}
 use lib.Ieee.{Float}
 use Rattle.hazards.specs.Floats.{isThreshold}
 use Rattle.hazards.specs.Checks.{rangeFault, intervalsFault}
-use Rattle.hazards.specs.Bounds.{Upto, largest, sound}
+use Rattle.hazards.specs.Bounds.{Upto, largest}
 use Rattle.hazards.proofs.AcceptedHazards.{faultless-sound}
 use Rattle.hazards.proofs.HazardBounds.{settled-upto}
+use Rattle.hazards.proofs.SoundPairs.{sound}
 use Rattle.clocks.specs.Channels.{settledHazard, settled, restarted}
 use Rattle.clocks.specs.Setting.{channelOf}
 use Rattle.clocks.specs.Sound.{SoundChannel}

@@ -9,8 +9,8 @@ use lib.ListN.{replicate}
 use lib.Ieee.{Float, fin, add, sub, mul, lt, le, toBits}
 use Rattle.hazards.specs.Floats.{z, limit, notBelowZero, zeroBits, inRange}
 use Rattle.hazards.specs.Lists.{all}
-use Rattle.hazards.specs.Rates.{pairsFrom, usedPairs, cumulativeOfKind, cumulativeHazard}
-use Rattle.hazards.specs.Checks.{ownRate, mostPairs, rangeFault, ascending, intervalsFault}
+use Rattle.hazards.specs.Rates.{pairsFrom, mostPairs, usedPairs, cumulativeOfKind, cumulativeHazard}
+use Rattle.hazards.specs.Checks.{ownRate, rangeFault, ascending, intervalsFault}
 use Rattle.hazards.specs.declared.rates.HazardRate.the-variants.{Constant}
 use Rattle.hazards.specs.declared.ties.TieBreaker.the-variants.{LowestCauseId}
 use Rattle.clocks.specs.Channels.{emptyIntervals, emptyChannel, settledHazard, onUsed}

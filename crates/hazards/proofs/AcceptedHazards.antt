@@ -6,15 +6,17 @@ use lib.Ieee.Fits.{and-i, and-l, and-r}
 use Rattle.hazards.specs.Floats.{z, inRange}
 use Rattle.hazards.specs.Lists.{all}
 use Rattle.hazards.specs.Refusals.{numberOf}
-use Rattle.hazards.specs.Checks.{ownRate, mostPairs, usedOf, unusedOf, zeroPair, ascending, rangeFault, intervalsFault, hazardFaults, hazardOf, intervalsOf}
+use Rattle.hazards.specs.Rates.{mostPairs, usedPairs}
+use Rattle.hazards.specs.Checks.{ownRate, unusedPairs, zeroPair, ascending, rangeFault, intervalsFault}
+use Rattle.hazards.specs.Checks.{hazardFaults, hazardOf, intervalsOf}
 use Rattle.hazards.specs.declared.checks.HazardFields.{HazardFields}
 use Rattle.hazards.specs.declared.rates.HazardRate.{HazardRate}
 use Rattle.hazards.specs.declared.rates.Intervals.{Intervals}
-use Rattle.hazards.specs.Bounds.{sound}
 use Rattle.hazards.proofs.AcceptedFlags.{accepted}
+use Rattle.hazards.proofs.SoundPairs.{sound}
 
 -- ---- of a hazard
-not-false : (b : Bool) → not b ≡ false → T b
+pub not-false : (b : Bool) → not b ≡ false → T b
 not-false true e = tt
 not-false false e = absurd (true≢false e)
 
@@ -26,9 +28,9 @@ pub faultless-sound : (h : HazardRate) (p : Intervals) → rangeFault h p ≡ fa
 unfolding rangeFault intervalsFault sound
 faultless-sound h p r i =
     let own = inRange (ownRate h) in
-    let rates = all (λ q. inRange (q .rate)) (usedOf h p) in
-    let zeros = all zeroPair (unusedOf h p) in
-    let ends = ascending z (usedOf h p) in
+    let rates = all (λ q. inRange (q .rate)) (usedPairs h p) in
+    let zeros = all zeroPair (unusedPairs h p) in
+    let ends = ascending z (usedPairs h p) in
     let x = not-false (own && rates) r in
     let y = or-not-false (ltb (mostPairs h) (p .count)) (zeros && ends) i in
     and-i own (rates && ends) (and-l own rates x) (and-i rates ends (and-r own rates x) (and-r zeros ends y))

@@ -128,7 +128,8 @@ module _ (n : ℕ) (s : List ℕ) (at x : ℕ) (h : at + n ≤ length s) where
       rw (writes-whole n s at x whole, drop-at (take at s) (bytesOf n x ++ drop (at + n) s) at (length-take-le at s (omega arith)))
       (take-at (bytesOf n x) (drop (at + n) s) n (bytesOf-length n x))
 
-by-test : {X : Type 0} (t : Bool) → (t ≡ true → X) → (t ≡ false → X) → X
+-- a test one way or the other
+pub by-test : {X : Type 0} (t : Bool) → (t ≡ true → X) → (t ≡ false → X) → X
 by-test true f g = f refl
 by-test false f g = g refl
 
@@ -170,7 +171,7 @@ pub i32At-withI32 : (s : List ℕ) (at : ℕ) (x : ℤ) → SFits w32 x → at +
 unfolding i32At withI32
 i32At-withI32 s at x f h = ap (toZ w32) (fieldAt-withField 4 s at (ofZ w32 x) h (fits-ofZ f .fits)) ∙ toZ-ofZ f
 
-drop-take : (j m : ℕ) (l : List ℕ) → drop j (take (j + m) l) ≡ take m (drop j l)
+pub drop-take : {A : Type 0} (j m : ℕ) (l : List A) → drop j (take (j + m) l) ≡ take m (drop j l)
 drop-take zero m l = rw (zero-add m)
 drop-take (suc j) m [] = rw (suc-add j m) (sym (take-nil m))
 drop-take (suc j) m (b ∷ l) = rw (suc-add j m) (drop-take j m l)

@@ -9,8 +9,8 @@ use lib.Dec.{T}
 use lib.Ieee.{Float, nan, inf, fin, lt, le, isNan}
 use Rattle.hazards.specs.Floats.{z, limit, inRange}
 use Rattle.hazards.specs.Lists.{all}
-use Rattle.hazards.specs.Rates.{Pair, pairsFrom}
-use Rattle.hazards.specs.Checks.{ownRate, mostPairs, rangeFault, zeroPair, ascending, intervalsFault}
+use Rattle.hazards.specs.Rates.{Pair, pairsFrom, mostPairs, usedPairs}
+use Rattle.hazards.specs.Checks.{ownRate, rangeFault, zeroPair, ascending, intervalsFault}
 use Rattle.hazards.specs.declared.rates.HazardRate.{HazardRate}
 use Rattle.hazards.specs.declared.rates.HazardRate.the-variants.{Zero, Constant, Gompertz, Piecewise}
 use Rattle.hazards.specs.declared.rates.Intervals.{Intervals}
@@ -57,13 +57,13 @@ most-eight (Piecewise trailing) = omega arith
 module _ (h : HazardRate) (p : Intervals) {used : ℕ} (u : used ≡ min (p .count) (mostPairs h)) where
   pub range-is : {own pairs : Bool} → own ≡ inRange (ownRate h) → pairs ≡ all (λ q. inRange (q .rate)) (pairsFrom p 0 used)
       → not (own && pairs) ≡ rangeFault h p
-  unfolding rangeFault
+  unfolding rangeFault usedPairs
   range-is e₁ e₂ = rw (e₁, e₂, u)
 
   pub intervals-is : {most : ℕ} {unused ascend : Bool} → most ≡ mostPairs h → p .count ≤ most
       → unused ≡ all zeroPair (pairsFrom p used (8 - used)) → ascend ≡ ascending z (pairsFrom p 0 used)
       → not (unused && ascend) ≡ intervalsFault h p
-  unfolding intervalsFault
+  unfolding intervalsFault usedPairs
   intervals-is m few e₁ e₂ = rw (e₁, e₂, u, le-ltb (mostPairs h) (p .count) (rw (← m) few))
 
 pub intervals-over : (h : HazardRate) (p : Intervals) {most : ℕ} → most ≡ mostPairs h → most < p .count → true ≡ intervalsFault h p

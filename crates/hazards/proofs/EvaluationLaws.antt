@@ -3,11 +3,14 @@ use mathlib.Core.Path.{_≡_, refl, sym, _∙_, ap}
 use mathlib.Core.Bool.{Bool, cond}
 use Prim.Native.Nat.{ℕ}
 use borrow.Author.Tests.{eq-eqb, ne-eqb}
+use lib.Ieee.{Float}
 use Rattle.hazards.specs.Refusals.{joined, rangeFaultUnless, numberOf}
-use Rattle.hazards.specs.Checks.{hazardFaults}
-use Rattle.hazards.specs.Evaluations.{withoutValue, evaluationRefusal, unlessRefused}
+use Rattle.hazards.specs.Checks.{hazardFaults, hazardOf, intervalsOf}
+use Rattle.hazards.specs.Evaluations.{valued, withoutValue, evaluationRefusal, unlessRefused}
 use Rattle.hazards.specs.declared.checks.HazardFields.{HazardFields}
 use Rattle.hazards.specs.declared.refusals.Faults.{Faults}
+use Rattle.hazards.specs.declared.rates.HazardRate.{HazardRate}
+use Rattle.hazards.specs.declared.rates.Intervals.{Intervals}
 use Rattle.hazards.specs.declared.evaluations.Evaluation.{Evaluation}
 
 pub refusal-of : (f : HazardFields) (ok : Bool) {n : ℕ} {a b j : Faults}
@@ -31,3 +34,11 @@ module _ (f : HazardFields) {limits ok : Bool} {number : ℕ} (numbered : number
 
   pub evaluated : (e : Evaluation) {r : Evaluation} → number ≡ 0 → r ≡ e → r ≡ unlessRefused (evaluationRefusal f limits) e
   evaluated e h w = w ∙ sym (unless-zero number e h) ∙ ap (λ (n : ℕ). unlessRefused n e) in-limits
+
+  -- the value of the fields' hazard at a time
+  pub evaluated-at : (value : HazardRate → Intervals → Float → Float) (t : Float) {h : HazardRate} {x : Float} {r : Evaluation}
+      → number ≡ 0 → h ≡ hazardOf f → x ≡ value h (intervalsOf f) t → r ≡ valued x
+      → r ≡ unlessRefused (evaluationRefusal f limits) (valued (value (hazardOf f) (intervalsOf f) t))
+  evaluated-at value t n eh ex er =
+      evaluated (valued (value (hazardOf f) (intervalsOf f) t)) n
+      (er ∙ ap valued (ex ∙ ap (λ (k : HazardRate). value k (intervalsOf f) t) eh))

@@ -2,7 +2,8 @@
 use mathlib.Core.Path.{refl, _≡_, sym, ap, _∙_}
 use mathlib.Core.Bool.{Bool, true, false, _&&_, true≢false}
 use Prim.Native.Nat.{ℕ, zero, suc, _+_, _-_, _*_, _%_, _^_, _≤_, _<_}
-use native.Mathlib.Nat.{le-trans, le-of-eq, lt-of-lt-of-le, lt-of-le-of-lt, le-of-suc-le-suc, lt-of-not-le, not-le-of-lt, mul-one, mul-assoc, zero-mul, mul-le-mul-right, mul-le-mul, mul-lt-mul-of-pos-right, mul-pos}
+use native.Mathlib.Nat.{le-trans, le-of-eq, lt-of-lt-of-le, lt-of-le-of-lt, le-of-suc-le-suc, lt-of-not-le, not-le-of-lt, mul-one}
+use native.Mathlib.Nat.{mul-assoc, zero-mul, mul-le-mul-right, mul-le-mul, mul-lt-mul-of-pos-right, mul-pos}
 use native.Mathlib.Omega.{arith}
 use lib.IntN.{ℤ, pos, negsuc}
 use lib.Dec.{T, leb, ltb, eqb, leb→le, ltb→lt, lit≤, lit<}
@@ -11,7 +12,8 @@ use lib.Ieee.{Float, nan, inf, fin, binary64, up, down, round, add, le, fits}
 use lib.Ieee.Fits.{and-l, and-r, down-pos}
 use lib.Ieee.Exact.{HasValue, round-exact}
 use lib.Ieee.Order.{round-mono, transfer}
-use Rattle.hazards.specs.Bounds.{Upto, Signed}
+use Rattle.hazards.specs.Bounds.{Upto}
+use Rattle.hazards.proofs.Signs.{Signed}
 use Rattle.hazards.proofs.Upto.{for-fins, own-upto}
 use Rattle.hazards.proofs.UptoOrder.{le→cross, cross→le}
 use Rattle.hazards.proofs.UptoOperations.{round-signed}

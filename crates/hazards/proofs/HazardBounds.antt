@@ -1,22 +1,25 @@
--- A sound hazard is at most 2^40 at any time, and its cumulative hazard at most 2^140 at times up to 2^40: an accumulated hazard stays finite.
+-- A sound hazard is at most 2^40 at any time, and its cumulative hazard at most 2^140 at times up to 2^40, those below 0 among them:
+-- an accumulated hazard stays finite.
 -- 2^140 + 2^80 rounds to 2^140, so no number of pieces comes past that bound.
+use mathlib.Core.Bool.{not}
 use mathlib.Core.List.{List}
 use Prim.Native.Nat.{_^_}
 use lib.Dec.{T, lit≤}
 use lib.Ieee.{Float, binary64, add, sub, mul, lt, le}
 use Rattle.hazards.specs.Floats.{z, notBelowZero, inRange}
-use Rattle.hazards.specs.Rates.{Pair, usedPairs, piecewiseHazard, hazardOfKind, hazardAt, piecewiseCumulative, cumulativeOfKind, cumulativeHazard}
+use Rattle.hazards.specs.Rates.{Pair, usedPairs, piecewiseHazard, hazardOfKind, hazardAt, piecewiseCumulative, cumulativeOfKind}
+use Rattle.hazards.specs.Rates.{cumulativeHazard}
 use Rattle.hazards.specs.Checks.{ownRate}
 use Rattle.hazards.specs.declared.rates.HazardRate.{HazardRate}
 use Rattle.hazards.specs.declared.rates.HazardRate.the-variants.{Zero, Constant, Gompertz, Piecewise}
 use Rattle.hazards.specs.declared.rates.Intervals.{Intervals}
-use Rattle.hazards.specs.Bounds.{Upto, largest, sound}
+use Rattle.hazards.specs.Bounds.{Upto, largest}
 use Rattle.hazards.proofs.Upto.{wider, zero-upto, either-upto}
 use Rattle.hazards.proofs.UptoOrder.{lt-le, not-le, zero-le-upto}
 use Rattle.hazards.proofs.UptoOperations.{add-upto, mul-upto, sub-upto}
 use Rattle.hazards.proofs.UptoClamped.{clamped-difference-upto}
 use Rattle.hazards.proofs.Limits.{rate-upto, positive-rate-upto, time-stays, piece-lands, pieces-stay, accumulated-stays}
-use Rattle.hazards.proofs.SoundPairs.{Following, none, next, own-rate-sound, pairs-sound, end-upto}
+use Rattle.hazards.proofs.SoundPairs.{sound, Following, none, next, own-rate-sound, pairs-sound, end-upto}
 
 -- ---- the hazard
 piecewise-hazard-upto : {before : Float} {ps : List Pair} (trailing t : Float) → T (inRange trailing) → Following before ps
@@ -27,7 +30,7 @@ piecewise-hazard-upto trailing t i (next {p} l m r f) =
     either-upto (lt t (p .end)) (λ y. rate-upto (p .rate) r) (λ n. piecewise-hazard-upto trailing t i f)
 
 hazard-of-kind-upto : (h : HazardRate) (p : Intervals) (t : Float) → T (sound h p) → T (inRange (ownRate h))
-    → Upto (2 ^ 40) (hazardOfKind h (usedPairs p) t)
+    → Upto (2 ^ 40) (hazardOfKind h (usedPairs h p) t)
 unfolding hazardOfKind ownRate
 hazard-of-kind-upto Zero p t s i = zero-upto (2 ^ 40)
 hazard-of-kind-upto (Constant rate) p t s i = rate-upto rate i
@@ -63,7 +66,7 @@ product-upto : {rate t : Float} → Upto (2 ^ 40) rate → Upto (2 ^ 40) t → U
 product-upto u v = wider (2 ^ 140) (lit≤ tt) (mul-upto (2 ^ 80) u v piece-lands)
 
 cumulative-of-kind-upto : (h : HazardRate) (p : Intervals) (t : Float) → T (sound h p) → T (inRange (ownRate h)) → Upto (2 ^ 40) t
-    → Upto (2 ^ 140) (cumulativeOfKind h (usedPairs p) t)
+    → Upto (2 ^ 140) (cumulativeOfKind h (usedPairs h p) t)
 unfolding cumulativeOfKind ownRate
 cumulative-of-kind-upto Zero p t s i u = zero-upto (2 ^ 140)
 cumulative-of-kind-upto (Constant rate) p t s i u = product-upto (rate-upto rate i) u
@@ -72,16 +75,18 @@ cumulative-of-kind-upto (Gompertz eta) p t s i u =
 cumulative-of-kind-upto (Piecewise trailing) p t s i u =
     piecewise-cumulative-upto trailing t i u z z (pairs-sound trailing p s) (zero-upto (2 ^ 140)) (zero-upto (2 ^ 40)) (zero-le-upto u)
 
-pub cumulative-upto : (h : HazardRate) (p : Intervals) (t : Float) → T (sound h p) → Upto (2 ^ 40) t → Upto (2 ^ 140) (cumulativeHazard h p t)
+-- 2^40 bounds a t above 0
+pub cumulative-upto : (h : HazardRate) (p : Intervals) (t : Float) → T (sound h p) → (T (not (le t z)) → Upto (2 ^ 40) t)
+    → Upto (2 ^ 140) (cumulativeHazard h p t)
 unfolding cumulativeHazard
 cumulative-upto h p t s u =
-    either-upto (le t z) (λ y. zero-upto (2 ^ 140)) (λ n. cumulative-of-kind-upto h p t s (own-rate-sound h p s) u)
+    either-upto (le t z) (λ y. zero-upto (2 ^ 140)) (λ n. cumulative-of-kind-upto h p t s (own-rate-sound h p s) (u n))
 
 -- ---- an accumulated hazard
 
 pub accumulated-upto : (h : HazardRate) (p : Intervals) {accumulated : Float} (t : Float) → T (sound h p) → Upto largest accumulated
     → Upto (2 ^ 40) t → Upto largest (add binary64 accumulated (cumulativeHazard h p t))
-accumulated-upto h p t s u v = add-upto largest u (cumulative-upto h p t s v) accumulated-stays
+accumulated-upto h p t s u v = add-upto largest u (cumulative-upto h p t s (λ n. v)) accumulated-stays
 
 -- over the time from start to now, or none where start is later
 pub settled-upto : (h : HazardRate) (p : Intervals) {accumulated start now : Float} → T (sound h p) → Upto largest accumulated

@@ -2,7 +2,8 @@
 use mathlib.Core.Path.{_≡_, refl, sym, ap, _∙_, subst}
 use mathlib.Core.Bool.{Bool, true, false, not, _&&_}
 use Prim.Native.Nat.{ℕ, zero, suc, _+_, _-_, _*_, _%_, _^_, _≤_, _<_, zero-le}
-use native.Mathlib.Nat.{le-refl, le-trans, le-of-eq, le-of-lt, lt-of-lt-of-le, mul-one, zero-mul, mul-assoc, mul-le-mul, mul-le-mul-right, lt-of-mul-lt-mul-right}
+use native.Mathlib.Nat.{le-refl, le-trans, le-of-eq, le-of-lt, lt-of-lt-of-le, mul-one, zero-mul, mul-assoc, mul-le-mul}
+use native.Mathlib.Nat.{mul-le-mul-right, lt-of-mul-lt-mul-right}
 use native.Mathlib.Omega.{arith}
 use lib.IntN.{ℤ, pos, negsuc}
 use lib.Dec.{T, leb, ltb, eqb, leb→le, le→leb, ltb→lt, nleb→lt, eqb→eq, lit≤}
@@ -10,7 +11,8 @@ use lib.Pow.{pow-add, pow-pos, pow-mono, le-ones}
 use lib.Ieee.{Float, nan, inf, fin, binary64, up, down, add, sub, lt, le, fits}
 use lib.Ieee.Fits.{and-l, and-r}
 use Rattle.hazards.specs.Floats.{z, isFiniteWait}
-use Rattle.hazards.specs.Bounds.{Upto, lands, largest}
+use Rattle.hazards.specs.Bounds.{Upto, largest}
+use Rattle.hazards.proofs.Upto.{lands}
 use Rattle.hazards.proofs.UptoOrder.{nothing-le}
 use Rattle.hazards.proofs.UptoOperations.{add-upto, sub-upto}
 

@@ -1,3 +1,4 @@
+-- Laws about the definitions of the hazards crate. The proof of each function stands in its own folder.
 pub mod AcceptedFlags
 pub mod AcceptedHazards
 pub mod AnswerBytes
@@ -14,9 +15,11 @@ pub mod OrderLaws
 pub mod Overwrite
 pub mod Pairs
 pub mod Patterns
+pub mod PublicBounds
 pub mod SamplerLaws
 pub mod Signed
 pub mod SignedOperations
+pub mod Signs
 pub mod SoundPairs
 pub mod Turns
 pub mod Upto

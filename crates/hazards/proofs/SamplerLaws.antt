@@ -18,7 +18,8 @@ use Rattle.hazards.specs.declared.checks.HazardFields.{HazardFields}
 use Rattle.hazards.specs.Rates.{invertCumulativeHazard}
 use Rattle.hazards.specs.Draws.{streamLength, thresholdAt, drawAt}
 use Rattle.hazards.specs.Ties.{candidateAfter, tieBreakerOf, earlier, earliest}
-use Rattle.hazards.specs.Sampler.{causeFaults, faultsOfAll, settingsFaults, drawsRefusal, sampleRefusal, inCauseOrder, candidates, censoredAt, sampledEvent, sampleNext}
+use Rattle.hazards.specs.Sampler.{causeFaults, faultsOfAll, settingsFaults, drawsRefusal, sampleRefusal, inCauseOrder}
+use Rattle.hazards.specs.Sampler.{candidates, censoredAt, sampledEvent, sampleNext}
 use Rattle.hazards.specs.declared.refusals.Faults.{Faults}
 use Rattle.hazards.specs.declared.rates.Wait.{Wait}
 use Rattle.hazards.specs.declared.rates.Wait.the-variants.{After, Never}
@@ -28,6 +29,7 @@ use Rattle.hazards.specs.declared.answers.Answer.{Answer}
 use Rattle.hazards.specs.declared.sampler.CompetingCause.{CompetingCause}
 use Rattle.hazards.specs.declared.sampler.SampleSettings.{SampleSettings}
 use Rattle.hazards.proofs.ListLaws.{slice-next, slice-none, foldl-append}
+use Rattle.hazards.proofs.Pairs.{one-left, none-left}
 
 -- past the end of an array of records
 abbrev pub noRecord : CompetingCause
@@ -55,12 +57,6 @@ module _ (l : List CompetingCause) (n i : ℕ) where
   faults-none h = rw (slice-none l n i h)
 
 -- ---- draws: the one at i passes, it fails, none is left
-
-one-left : (n i : ℕ) → i < n → n - i ≡ suc (n - (i + 1))
-one-left n i h = omega arith
-
-none-left : (n i : ℕ) → n ≤ i → n - i ≡ 0
-none-left n i h = omega arith
 
 pub one-on : (p i : ℕ) → suc (p + i) ≡ p + (i + 1)
 one-on p i = omega arith
@@ -167,6 +163,10 @@ module _ (causes : List CompetingCause) (n : ℕ) (s : SampleSettings) (stream :
         → drawsRefusal stream position n ≡ sampleRefusal causes n s stream position
     unfolding sampleRefusal
     refused-draws h m p = rw (← e, eq-eqb number 0 h, le-ltb 8 n m, le-ltb (streamLength stream) position p)
+
+  pub passed-faults : sampleRefusal causes n s stream position ≡ 0 → faultNumber causes n s ≡ 0
+  unfolding sampleRefusal
+  passed-faults h = first-zero (faultNumber causes n s) _ h
 
   pub passed-all : sampleRefusal causes n s stream position ≡ 0
       → (n ≤ 8) × ((position ≤ streamLength stream) × (drawsRefusal stream position n ≡ 0))

@@ -1,4 +1,5 @@
--- The used pairs of a sound hazard: each end above the one before it and at most 2^40, each rate in range.
+-- Sound hazards, which are within refusals 5 and 6, and their used pairs: each end above the one before it and at most 2^40, each
+-- rate in range.
 use mathlib.Core.Bool.{Bool, true, false, not, cond, _&&_}
 use mathlib.Core.List.{List, [], _∷_}
 use Prim.Native.Nat.{ℕ, _^_}
@@ -8,13 +9,18 @@ use lib.Ieee.Fits.{and-l, and-r}
 use Rattle.hazards.specs.Floats.{z, limit, inRange}
 use Rattle.hazards.specs.Lists.{all}
 use Rattle.hazards.specs.Rates.{Pair, usedPairs, pairsAfter}
-use Rattle.hazards.specs.Checks.{ownRate, mostPairs, usedOf, ascending}
+use Rattle.hazards.specs.Checks.{ownRate, ascending}
 use Rattle.hazards.specs.declared.rates.HazardRate.{HazardRate}
 use Rattle.hazards.specs.declared.rates.HazardRate.the-variants.{Piecewise}
 use Rattle.hazards.specs.declared.rates.Intervals.{Intervals}
-use Rattle.hazards.specs.Bounds.{Upto, sound}
+use Rattle.hazards.specs.Bounds.{Upto}
 use Rattle.hazards.proofs.UptoOrder.{not-le-lt, above-upto}
 use Rattle.hazards.proofs.Limits.{limit-upto}
+
+-- a hazard within 5 and 6: its own rate and its used rates in range, its used ends ascending from above 0 to at most 2^40
+unfoldable pub sound : HazardRate → Intervals → Bool
+sound h p =
+    inRange (ownRate h) && (all (λ q. inRange (q .rate)) (usedPairs h p) && ascending z (usedPairs h p))
 
 -- one pair after another, from an end on
 pub data Following : Float → List Pair → Type 0 where
@@ -36,12 +42,12 @@ following before (p ∷ ps) r e =
 
 pub own-rate-sound : (h : HazardRate) (p : Intervals) → T (sound h p) → T (inRange (ownRate h))
 unfolding sound
-own-rate-sound h p s = and-l (inRange (ownRate h)) (all (λ q. inRange (q .rate)) (usedOf h p) && ascending z (usedOf h p)) s
+own-rate-sound h p s = and-l (inRange (ownRate h)) (all (λ q. inRange (q .rate)) (usedPairs h p) && ascending z (usedPairs h p)) s
 
-pub pairs-sound : (trailing : Float) (p : Intervals) → T (sound (Piecewise trailing) p) → Following z (usedPairs p)
-unfolding sound usedPairs mostPairs
+pub pairs-sound : (trailing : Float) (p : Intervals) → T (sound (Piecewise trailing) p) → Following z (usedPairs (Piecewise trailing) p)
+unfolding sound
 pairs-sound trailing p s =
-    let used = usedOf (Piecewise trailing) p in
+    let used = usedPairs (Piecewise trailing) p in
     let r = all (λ q. inRange (q .rate)) used in
     let e = ascending z used in
     let both = and-r (inRange (ownRate (Piecewise trailing))) (r && e) s in

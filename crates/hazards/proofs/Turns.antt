@@ -21,8 +21,10 @@ unfolding piecewiseHazard
 hazard-trailing trailing t none = rw none
 
 -- the cumulative hazard: t is at most the first pair's end, or not
-module _ {ps qs : List Pair} {p : Pair} (trailing t cum cur : Float) {rate : Float} (first : ps ≡ p ∷ qs) (r : rate ≡ notBelowZero (p .rate)) where
-  pub cumulative-here : le t (p .end) ≡ true → piecewiseCumulative ps trailing t cum cur ≡ add binary64 cum (mul binary64 rate (sub binary64 t cur))
+module _ {ps qs : List Pair} {p : Pair} (trailing t cum cur : Float) {rate : Float} (first : ps ≡ p ∷ qs)
+    (r : rate ≡ notBelowZero (p .rate)) where
+  pub cumulative-here : le t (p .end) ≡ true
+      → piecewiseCumulative ps trailing t cum cur ≡ add binary64 cum (mul binary64 rate (sub binary64 t cur))
   unfolding piecewiseCumulative
   cumulative-here h = rw (first, h, r)
 
@@ -52,7 +54,8 @@ unfolding pairsAfter
 after-none t none = rw none
 
 -- the wait: w is reached within the first pair, or not
-module _ {ps qs : List Pair} {p : Pair} (trailing start cur w : Float) {rate : Float} (first : ps ≡ p ∷ qs) (r : rate ≡ notBelowZero (p .rate)) where
+module _ {ps qs : List Pair} {p : Pair} (trailing start cur w : Float) {rate : Float} (first : ps ≡ p ∷ qs)
+    (r : rate ≡ notBelowZero (p .rate)) where
   pub wait-here : (lt z rate && le w (mul binary64 rate (sub binary64 (p .end) cur))) ≡ true
       → piecewiseWait ps trailing start cur w ≡ waitThrough start cur rate w
   unfolding piecewiseWait

@@ -1,11 +1,11 @@
--- A value that is `Upto` some bound is the fraction num / den, and a claim on such values is one on `fin false`.
+-- A value that is `Upto` some bound is the fraction num / den, and a claim on such values is one on `fin false`. Where a bound rounds to.
 use mathlib.Core.Path.{sym}
 use mathlib.Core.Bool.{Bool, true, false, not, cond}
 use Prim.Native.Nat.{ℕ, _*_, _≤_, zero-le}
 use native.Mathlib.Nat.{le-refl, le-trans, le-of-eq, mul-one, mul-le-mul, mul-le-mul-right}
 use lib.IntN.{ℤ}
 use lib.Dec.{T, leb→le, le→leb}
-use lib.Ieee.{Float, nan, inf, fin, up, down}
+use lib.Ieee.{Float, nan, inf, fin, binary64, up, down, round}
 use lib.Ieee.Fits.{down-pos}
 use lib.Ieee.Positive.{num, den}
 use Rattle.hazards.specs.Floats.{z}
@@ -53,6 +53,10 @@ wider {a} {x} b h u =
 
 pub zero-upto : (b : ℕ) → Upto b z
 zero-upto b = record { holds = le→leb (0 * 1) (b * 1) zero-le }
+
+-- the whole number n rounds to at most b: a test that computes where both are written out
+unfoldable pub lands : ℕ → ℕ → Bool
+lands n b = upto b (round binary64 false n 1)
 
 pub either-upto : {b : ℕ} {x y : Float} (t : Bool) → (T t → Upto b x) → (T (not t) → Upto b y) → Upto b (cond t x y)
 either-upto true f g = f tt

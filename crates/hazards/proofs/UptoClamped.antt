@@ -10,8 +10,9 @@ use lib.Dec.{T, T-not, ltb, eqb, lt→ltb}
 use lib.Ieee.{Float, nan, inf, fin, binary64, up, down, sub, lt, le}
 use lib.Ieee.Positive.{num, den}
 use Rattle.hazards.specs.Floats.{z, notBelowZero}
-use Rattle.hazards.specs.Bounds.{Upto, lands, Signed}
-use Rattle.hazards.proofs.Upto.{for-fin, zero-upto, either-upto}
+use Rattle.hazards.specs.Bounds.{Upto}
+use Rattle.hazards.proofs.Signs.{Signed}
+use Rattle.hazards.proofs.Upto.{for-fin, zero-upto, either-upto, lands}
 use Rattle.hazards.proofs.UptoOrder.{or-l, upto-le}
 use Rattle.hazards.proofs.UptoOperations.{round-signed, roundedDifference, sub-is, less-upto}
 
@@ -37,7 +38,8 @@ clamped-below {b} (fin true m e) h u = negative-clamped b (fin true m e) refl
 clamped-below (fin false m e) h u = clamped-upto (upto-le (fin false m e) refl h u)
 
 -- (x - y).max(0.0), whichever of the two is larger
-pub clamped-difference-upto : {a b : ℕ} {x y : Float} (c : ℕ) → Upto a x → Upto b y → T (lands a c) → Upto c (notBelowZero (sub binary64 x y))
+pub clamped-difference-upto : {a b : ℕ} {x y : Float} (c : ℕ) → Upto a x → Upto b y → T (lands a c)
+    → Upto c (notBelowZero (sub binary64 x y))
 clamped-difference-upto {a} {b} {x} {y} c u v l = rw (sub-is u v) (go (ltb (num x * den y) (num y * den x)))
   where
     go : (t : Bool) → Upto c (notBelowZero (roundedDifference t (num x * den y) (num y * den x) (den x * den y)))
@@ -75,7 +77,8 @@ remaining-upto {a} {b} {w} {y} c (fin false m e) o h u v n l =
   where
     go : (t : Bool) → T (not (le (roundedDifference t (m * up e * den y) (num y * down e) (down e * den y)) z))
         → Upto c (roundedDifference t (m * up e * den y) (num y * down e) (down e * den y))
-    go true n = absurd (T-not (le _ z) n (negative-le-zero _ (round-signed binary64 true (num y * down e - m * up e * den y) (down e * den y))))
+    go true n =
+        absurd (T-not (le _ z) n (negative-le-zero _ (round-signed binary64 true (num y * down e - m * up e * den y) (down e * den y))))
     go false n = less-upto c (upto-le (fin false m e) refl h u) v l
 remaining-upto {a} {b} {w} {y} c (fin true m e) o h u v n l =
     absurd (T-not (le (sub binary64 (fin true m e) y) z) n (for-fin (λ (q : Float). T (le (sub binary64 (fin true m e) q) z)) go v))

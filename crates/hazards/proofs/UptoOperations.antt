@@ -2,7 +2,8 @@
 use mathlib.Core.Path.{_≡_, refl}
 use mathlib.Core.Bool.{Bool, true, false, cond}
 use Prim.Native.Nat.{ℕ, zero, suc, _+_, _-_, _*_, _/_, _%_, _^_, _≤_, _<_, compare}
-use native.Mathlib.Nat.{le-trans, le-of-eq, sub-le, mul-one, mul-assoc, mul-le-mul-right, mul-le-mul, mul-mul-mul-comm, mul-pos, not-le-of-lt}
+use native.Mathlib.Nat.{le-trans, le-of-eq, sub-le, mul-one, mul-assoc, mul-le-mul-right, mul-le-mul, mul-mul-mul-comm, mul-pos}
+use native.Mathlib.Nat.{not-le-of-lt}
 use native.Mathlib.Omega.{arith}
 use lib.IntN.{ℤ}
 use lib.Dec.{T, not-T, ltb, ltb→lt, lit<}
@@ -11,8 +12,9 @@ use lib.Ieee.Fits.{round-is}
 use lib.Ieee.Order.{round-mono}
 use lib.Ieee.Bits.{cond-no}
 use lib.Ieee.Positive.{num, den, den-pos}
-use Rattle.hazards.specs.Bounds.{Upto, lands, Signed}
-use Rattle.hazards.proofs.Upto.{for-fins, num-upto}
+use Rattle.hazards.specs.Bounds.{Upto}
+use Rattle.hazards.proofs.Signs.{Signed}
+use Rattle.hazards.proofs.Upto.{for-fins, num-upto, lands}
 use Rattle.hazards.proofs.UptoOrder.{le→cross, upto-le}
 
 -- ---- a rounded fraction has the sign that was given

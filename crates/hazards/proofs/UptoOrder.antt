@@ -3,7 +3,8 @@ use mathlib.Core.Path.{_≡_, refl, ap, _∙_}
 use mathlib.Core.Logic.{inl, inr}
 use mathlib.Core.Bool.{Bool, true, false, not, _&&_, _||_, true≢false}
 use Prim.Native.Nat.{ℕ, _*_, _≤_, _<_, zero-le}
-use native.Mathlib.Nat.{le-refl, le-trans, lt-of-not-le, eq-or-lt-of-le, le-of-eq, le-of-lt, zero-mul, mul-right-comm, mul-le-mul-right, le-of-mul-le-mul-right}
+use native.Mathlib.Nat.{le-refl, le-trans, lt-of-not-le, eq-or-lt-of-le, le-of-eq, le-of-lt, zero-mul, mul-right-comm}
+use native.Mathlib.Nat.{mul-le-mul-right, le-of-mul-le-mul-right}
 use native.Mathlib.Omega.{arith}
 use lib.IntN.{ℤ}
 use lib.Dec.{T, T-not, ltb, eqb, le→leb, ltb→lt, lt→ltb, eqb→eq}
@@ -11,7 +12,8 @@ use lib.Ieee.{Float, nan, inf, fin, up, down, lt, le}
 use lib.Ieee.Fits.{down-pos, and-i, and-l, eq→eqb}
 use lib.Ieee.Positive.{num, den, den-pos, through}
 use Rattle.hazards.specs.Floats.{z}
-use Rattle.hazards.specs.Bounds.{Upto, Signed}
+use Rattle.hazards.specs.Bounds.{Upto}
+use Rattle.hazards.proofs.Signs.{Signed}
 use Rattle.hazards.proofs.Upto.{for-fin, for-fins, num-upto, zero-upto}
 
 pub or-l : (a b : Bool) → T a → T (a || b)

@@ -1,4 +1,5 @@
--- The wait for a sound hazard, from a start up to 2^40 and for a w above 0, is no NaN and not below 0; any wait is a value that binary64 holds.
+-- The wait for a sound hazard, from a start up to 2^40 and for a w above 0, is no NaN and not below 0; any wait is a value that
+-- binary64 holds.
 use mathlib.Core.Path.{refl, sym}
 use mathlib.Core.Bool.{Bool, true, false, not, cond, _&&_}
 use mathlib.Core.List.{List, [], _∷_}
@@ -9,22 +10,25 @@ use lib.Dec.{T, le→leb, nltb→le}
 use lib.Ieee.{Float, fin, binary64, up, down, add, sub, mul, div, lt, le, fits}
 use lib.Ieee.Fits.{and-l, cond-fits, sub-fits, div-fits}
 use Rattle.hazards.specs.Floats.{z, limit, mostThreshold, notBelowZero, inRange}
-use Rattle.hazards.specs.Rates.{Pair, usedPairs, pairsAfter, waitThrough, piecewiseWait, constantWait, waitOfKind, invertCumulativeHazard}
+use Rattle.hazards.specs.Rates.{Pair, usedPairs, pairsAfter, waitThrough, piecewiseWait, constantWait, waitOfKind}
+use Rattle.hazards.specs.Rates.{invertCumulativeHazard}
 use Rattle.hazards.specs.Checks.{ownRate}
 use Rattle.hazards.specs.declared.rates.HazardRate.{HazardRate}
 use Rattle.hazards.specs.declared.rates.HazardRate.the-variants.{Zero, Constant, Gompertz, Piecewise}
 use Rattle.hazards.specs.declared.rates.Intervals.{Intervals}
 use Rattle.hazards.specs.declared.rates.Wait.{Wait}
 use Rattle.hazards.specs.declared.rates.Wait.the-variants.{After, Never}
-use Rattle.hazards.specs.Bounds.{Upto, lands, NotBelow, Held, sound}
-use Rattle.hazards.proofs.Upto.{for-fin, zero-upto}
+use Rattle.hazards.specs.Bounds.{Upto}
+use Rattle.hazards.proofs.Signs.{NotBelow, Held}
+use Rattle.hazards.proofs.Upto.{for-fin, zero-upto, lands}
 use Rattle.hazards.proofs.UptoOrder.{lt-le, not-le, not-le-lt, nothing-le, le-refl-upto, le-trans-upto}
 use Rattle.hazards.proofs.UptoOperations.{mul-upto, sub-upto}
 use Rattle.hazards.proofs.UptoClamped.{clamped-below, positive-upto}
 use Rattle.hazards.proofs.Exact.{sum-at-least}
 use Rattle.hazards.proofs.SignedOperations.{div-signed, add-signed, sub-signed}
-use Rattle.hazards.proofs.Limits.{limit-upto, threshold-upto, rate-upto, positive-rate-upto, time-stays, threshold-stays, piece-lands, nothing-lands}
-use Rattle.hazards.proofs.SoundPairs.{Following, none, next, own-rate-sound, pairs-sound, end-upto, after-following}
+use Rattle.hazards.proofs.Limits.{limit-upto, threshold-upto, rate-upto, positive-rate-upto, time-stays, threshold-stays}
+use Rattle.hazards.proofs.Limits.{piece-lands, nothing-lands}
+use Rattle.hazards.proofs.SoundPairs.{sound, Following, none, next, own-rate-sound, pairs-sound, end-upto, after-following}
 
 -- ---- held: nothing is asked of the hazard
 either-held : (b : Bool) (x y : Wait) → Held x → Held y → Held (cond b x y)
@@ -39,7 +43,8 @@ piecewise-held [] trailing start cur w =
 piecewise-held (p ∷ ps) trailing start cur w =
     let rate = notBelowZero (p .rate) in
     let capacity = mul binary64 rate (sub binary64 (p .end) cur) in
-    either-held (lt z rate && le w capacity) (waitThrough start cur rate w) (piecewiseWait ps trailing start (p .end) (sub binary64 w capacity))
+    either-held (lt z rate && le w capacity) (waitThrough start cur rate w)
+    (piecewiseWait ps trailing start (p .end) (sub binary64 w capacity))
     (sub-fits binary64 (add binary64 cur (div binary64 w rate)) start)
     (piecewise-held ps trailing start (p .end) (sub binary64 w capacity))
 
@@ -61,8 +66,8 @@ zero-held = tt
 pub invert-held : (h : HazardRate) (p : Intervals) (start w : Float) → Held (invertCumulativeHazard h p start w)
 unfolding invertCumulativeHazard
 invert-held h p start w =
-    either-held (le w z) (After z) (waitOfKind h (usedPairs p) (notBelowZero start) w) zero-held
-    (wait-of-kind-held h (usedPairs p) (notBelowZero start) w)
+    either-held (le w z) (After z) (waitOfKind h (usedPairs h p) (notBelowZero start) w) zero-held
+    (wait-of-kind-held h (usedPairs h p) (notBelowZero start) w)
 
 -- ---- not below 0
 either-not-below : (b : Bool) (x y : Wait) → (T b → NotBelow x) → (T (not b) → NotBelow y) → NotBelow (cond b x y)
@@ -129,7 +134,7 @@ constant-not-below {w} rate v u =
     (λ n. div-signed v (u n) (not-le-lt (zero-upto 0) (u n) n))
 
 wait-of-kind-not-below : (h : HazardRate) (p : Intervals) (start : Float) {w : Float} (b : ℕ) → T (sound h p) → T (inRange (ownRate h))
-    → T (fits binary64 start) → Upto (2 ^ 40) start → Upto b w → T (lands b b) → NotBelow (waitOfKind h (usedPairs p) start w)
+    → T (fits binary64 start) → Upto (2 ^ 40) start → Upto b w → T (lands b b) → NotBelow (waitOfKind h (usedPairs h p) start w)
 unfolding waitOfKind ownRate
 wait-of-kind-not-below Zero p start b s i sf su v l = tt
 wait-of-kind-not-below (Constant rate) p start b s i sf su v l = constant-not-below (notBelowZero rate) v (λ n. rate-upto rate i)
@@ -147,13 +152,13 @@ pub invert-not-below : (h : HazardRate) (p : Intervals) (start : Float) {w : Flo
     → T (le start limit) → (T (not (le w z)) → Upto b w) → T (lands b b) → NotBelow (invertCumulativeHazard h p start w)
 unfolding invertCumulativeHazard
 invert-not-below h p start {w} b s sf sl v l =
-    either-not-below (le w z) (After z) (waitOfKind h (usedPairs p) (notBelowZero start) w) (λ t. refl)
+    either-not-below (le w z) (After z) (waitOfKind h (usedPairs h p) (notBelowZero start) w) (λ t. refl)
     (λ n.
     wait-of-kind-not-below h p (notBelowZero start) b s (own-rate-sound h p s) (clamped-held start sf)
     (clamped-below start sl limit-upto) (v n) l)
 
 -- for a threshold, or what is left of one
-pub threshold-wait-not-below : (h : HazardRate) (p : Intervals) (start w : Float) → T (sound h p) → T (fits binary64 start) → T (le start limit)
-    → T (le w mostThreshold) → NotBelow (invertCumulativeHazard h p start w)
+pub threshold-wait-not-below : (h : HazardRate) (p : Intervals) (start w : Float) → T (sound h p) → T (fits binary64 start)
+    → T (le start limit) → T (le w mostThreshold) → NotBelow (invertCumulativeHazard h p start w)
 threshold-wait-not-below h p start w s sf sl wl =
     invert-not-below h p start 1024 s sf sl (λ n. positive-upto w n wl threshold-upto) threshold-stays

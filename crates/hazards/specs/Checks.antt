@@ -1,13 +1,14 @@
--- Document 01, "A command comes in": what refusals 4 to 6 say of a hazard. 5 and 6 are stated of the hazard itself, so that they serve the fields of a
--- command and a stored channel alike.
+-- Document 01, "A command comes in": what refusals 4 to 6 say of a hazard. 5 and 6 are stated of the hazard itself, so that they
+-- serve the fields of a command and a stored channel alike.
 use mathlib.Core.Bool.{Bool, true, false, not, cond, _&&_, _||_}
 use mathlib.Core.List.{List, [], _∷_}
-use Prim.Native.Nat.{ℕ, _-_, min}
+use Prim.Native.Nat.{ℕ, _-_}
 use lib.Dec.{eqb, ltb}
 use lib.Ieee.{Float, lt, le}
 use Rattle.hazards.specs.Floats.{z, limit, zeroBits, inRange}
 use Rattle.hazards.specs.Lists.{all}
-use Rattle.hazards.specs.Rates.{Pair, pairsFrom}
+use Rattle.hazards.specs.Rates.{Pair, pairsFrom, usedCount, usedPairs}
+unfoldable pub use Rattle.hazards.specs.Rates.{mostPairs}
 use Rattle.hazards.specs.declared.checks.HazardFields.{HazardFields}
 use Rattle.hazards.specs.declared.refusals.Faults.{Faults}
 use Rattle.hazards.specs.declared.rates.HazardRate.{HazardRate}
@@ -29,29 +30,15 @@ ownRate (Constant rate) = rate
 ownRate (Gompertz eta) = eta
 ownRate (Piecewise trailing) = trailing
 
--- how many pairs a kind can use
-unfoldable pub mostPairs : HazardRate → ℕ
-mostPairs Zero = 0
-mostPairs (Constant rate) = 0
-mostPairs (Gompertz eta) = 0
-mostPairs (Piecewise trailing) = 8
-
--- the used pairs are the first count, at most 8, of kind 3
-abbrev pub usedCount : HazardRate → Intervals → ℕ
-usedCount h p = min (p .count) (mostPairs h)
-
-abbrev pub usedOf : HazardRate → Intervals → List Pair
-usedOf h p = pairsFrom p 0 (usedCount h p)
-
--- and the rest of the eight
-abbrev pub unusedOf : HazardRate → Intervals → List Pair
-unusedOf h p = pairsFrom p (usedCount h p) (8 - usedCount h p)
+-- the rest of the eight pairs
+abbrev pub unusedPairs : HazardRate → Intervals → List Pair
+unusedPairs h p = pairsFrom p (usedCount h p) (8 - usedCount h p)
 
 -- ---- refusals 5 and 6 of a hazard
 
 -- 5: its own rate or a used rate not finite or of size above 2^40
 unfoldable pub rangeFault : HazardRate → Intervals → Bool
-rangeFault h p = not (inRange (ownRate h) && all (λ q. inRange (q .rate)) (usedOf h p))
+rangeFault h p = not (inRange (ownRate h) && all (λ q. inRange (q .rate)) (usedPairs h p))
 
 abbrev pub zeroPair : Pair → Bool
 zeroPair q = zeroBits (q .end) && zeroBits (q .rate)
@@ -64,7 +51,7 @@ ascending before (q ∷ qs) = lt before (q .end) && (le (q .end) limit && ascend
 -- 6: a count above 8, or not 0 where it is unused; an unused pair not zero bits; used ends not above 0, at most 2^40 and strictly ascending
 unfoldable pub intervalsFault : HazardRate → Intervals → Bool
 intervalsFault h p =
-    ltb (mostPairs h) (p .count) || not (all zeroPair (unusedOf h p) && ascending z (usedOf h p))
+    ltb (mostPairs h) (p .count) || not (all zeroPair (unusedPairs h p) && ascending z (usedPairs h p))
 
 -- ---- the fields of a hazard as in SET
 

@@ -1,4 +1,5 @@
--- Document 01, "Draws": the tape, here the recorded threshold stream: lent bytes, of which each whole 8 are one f64. Its length counts these.
+-- Document 01, "Draws": the tape, here the recorded threshold stream: lent bytes, of which each whole 8 are one f64. Its length
+-- counts these.
 use mathlib.Core.Bool.{cond}
 use mathlib.Core.List.{List}
 use Prim.Native.Nat.{ℕ, _+_, _*_, _/_}

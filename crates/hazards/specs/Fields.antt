@@ -1,5 +1,5 @@
--- Document 01, opening paragraph: multi-byte fields are little-endian, and an f64 is its 8 bytes. A field that does not lie whole in the buffer reads as
--- 0, and writing it changes nothing.
+-- Document 01, opening paragraph: multi-byte fields are little-endian, and an f64 is its 8 bytes. A field that does not lie whole
+-- in the buffer reads as 0, and writing it changes nothing.
 use mathlib.Core.Bool.{cond}
 use mathlib.Core.List.{List, [], _∷_, _++_}
 use Prim.Native.Nat.{ℕ, zero, suc, _+_, _*_, _/_, _%_}

@@ -1,5 +1,5 @@
--- Document 01, "A command comes in", "Hazard arithmetic" and "Draws": the floats that it names, and its tests on one float. Arithmetic is IEEE 754
--- binary64, round to nearest even (lib.Ieee).
+-- Document 01, "A command comes in", "Hazard arithmetic" and "Draws": the floats that it names, and its tests on one float.
+-- Arithmetic is IEEE 754 binary64, round to nearest even (lib.Ieee).
 use mathlib.Core.Bool.{Bool, true, false, cond, _&&_}
 use Prim.Native.Nat.{_^_}
 use lib.IntN.{pos}

@@ -1,3 +1,4 @@
+-- The definitions of the hazards crate, from floats and lists up to the sampler.
 pub mod Floats
 pub mod Lists
 pub mod Fields

@@ -1,5 +1,5 @@
--- Document 01, "Hazard arithmetic": hazard_at, cumulative_hazard and invert_cumulative_hazard of competing_risks.rs, operation by operation at
--- binary64, each rounded once.
+-- Document 01, "Hazard arithmetic": hazard_at, cumulative_hazard and invert_cumulative_hazard of competing_risks.rs, operation by
+-- operation at binary64, each rounded once. Gompertz is the one with b = 0: its hazard is eta at every time.
 use mathlib.Core.Bool.{cond, _&&_}
 use mathlib.Core.List.{List, [], _∷_}
 use Prim.Native.Nat.{ℕ, zero, suc, min}
@@ -30,9 +30,19 @@ unfoldable pub pairsFrom : Intervals → ℕ → ℕ → List Pair
 pairsFrom p i zero = []
 pairsFrom p i (suc n) = pairAt p i ∷ pairsFrom p (suc i) n
 
--- the first count of the eight; all of them where count is above 8
-unfoldable pub usedPairs : Intervals → List Pair
-usedPairs p = pairsFrom p 0 (min (p .count) 8)
+-- how many pairs a kind can use
+unfoldable pub mostPairs : HazardRate → ℕ
+mostPairs Zero = 0
+mostPairs (Constant rate) = 0
+mostPairs (Gompertz eta) = 0
+mostPairs (Piecewise trailing) = 8
+
+-- document 01: the used pairs are the first count, at most 8, of kind 3
+abbrev pub usedCount : HazardRate → Intervals → ℕ
+usedCount h p = min (p .count) (mostPairs h)
+
+unfoldable pub usedPairs : HazardRate → Intervals → List Pair
+usedPairs h p = pairsFrom p 0 (usedCount h p)
 
 -- ---- hazard_at
 
@@ -48,7 +58,7 @@ hazardOfKind (Gompertz eta) ps t = cond (le eta z) z eta
 hazardOfKind (Piecewise trailing) ps t = piecewiseHazard ps trailing t
 
 unfoldable pub hazardAt : HazardRate → Intervals → Float → Float
-hazardAt h p t = cond (lt t z) z (hazardOfKind h (usedPairs p) t)
+hazardAt h p t = cond (lt t z) z (hazardOfKind h (usedPairs h p) t)
 
 -- ---- cumulative_hazard
 
@@ -67,7 +77,7 @@ cumulativeOfKind (Gompertz eta) ps t = cond (le eta z) z (mul binary64 eta t)
 cumulativeOfKind (Piecewise trailing) ps t = piecewiseCumulative ps trailing t z z
 
 unfoldable pub cumulativeHazard : HazardRate → Intervals → Float → Float
-cumulativeHazard h p t = cond (le t z) z (cumulativeOfKind h (usedPairs p) t)
+cumulativeHazard h p t = cond (le t z) z (cumulativeOfKind h (usedPairs h p) t)
 
 -- ---- invert_cumulative_hazard
 
@@ -102,4 +112,4 @@ waitOfKind (Piecewise trailing) ps start w = piecewiseWait (pairsAfter start ps)
 
 -- w at most 0 waits 0.0, even for Zero
 unfoldable pub invertCumulativeHazard : HazardRate → Intervals → Float → Float → Wait
-invertCumulativeHazard h p start w = cond (le w z) (After z) (waitOfKind h (usedPairs p) (notBelowZero start) w)
+invertCumulativeHazard h p start w = cond (le w z) (After z) (waitOfKind h (usedPairs h p) (notBelowZero start) w)

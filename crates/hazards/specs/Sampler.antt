@@ -1,5 +1,5 @@
--- Document 01, "Run call and sampler": sample_next of competing_risks.rs over eight records, of which the first n are used, with its own position in
--- the recorded threshold stream.
+-- Document 01, "Run call and sampler": sample_next of competing_risks.rs over eight records, of which the first n are used, with
+-- its own position in the recorded threshold stream.
 use mathlib.Core.Bool.{true, false, not, cond, _&&_, _||_}
 use mathlib.Core.List.{List, [], _∷_, _++_}
 use Prim.Native.Nat.{ℕ, zero, suc, _+_}
@@ -33,8 +33,8 @@ unfoldable pub faultsOfAll : List CompetingCause → Faults
 faultsOfAll [] = noFaults
 faultsOfAll (c ∷ cs) = joined (causeFaults c) (faultsOfAll cs)
 
--- 4: tie or has-byte off its list, or an unused censor age not zero bits; 5: an age or censor age that is no time (an unused censor age that passes 4 is
--- +0.0, so it passes 5)
+-- 4: tie or has-byte off its list, or an unused censor age not zero bits; 5: an age or censor age that is no time (an unused
+-- censor age that passes 4 is +0.0, so it passes 5)
 unfoldable pub settingsFaults : SampleSettings → Faults
 settingsFaults s = record {
   choice =
@@ -74,8 +74,8 @@ candidates (c ∷ cs) age stream position =
     let wait = invertCumulativeHazard (hazardOf h) (intervalsOf h) age (thresholdAt stream position) in
     candidateAfter (c .«cause_id») (c .priority) (λ t. t) wait ++ candidates cs age stream (suc position)
 
--- No candidate: censored at a censor age above the current age, else no event. A candidate: censored where its wait is longer than the span to the censor
--- age, which counts as 0 if that age is before the current one.
+-- No candidate: censored at a censor age above the current age, else no event. A candidate: censored where its wait is longer
+-- than the span to the censor age, which counts as 0 if that age is before the current one.
 unfoldable pub censoredAt : Earliest → SampleSettings → Answer
 censoredAt Nothing s =
     let span = sub binary64 (s .«censor_age») (s .«current_age») in

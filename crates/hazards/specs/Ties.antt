@@ -1,6 +1,6 @@
--- The candidates of competing_risks.rs and hazard_clock.rs: which waits are candidates, and which of two comes first. Sampler and clock share this;
--- the time compared is the wait in the one and now + wait in the other. Document 01, "From HashMap and Vec": sort_by is a scan for the best candidate,
--- the earlier kept on a full tie.
+-- The candidates of competing_risks.rs and hazard_clock.rs: which waits are candidates, and which of two comes first. Sampler and
+-- clock share this; the time compared is the wait in the one and now + wait in the other. Document 01, "From HashMap and Vec":
+-- sort_by is a scan for the best candidate, the earlier kept on a full tie.
 use mathlib.Core.Bool.{Bool, true, false, cond}
 use mathlib.Core.List.{List, [], _∷_}
 use Prim.Native.Nat.{ℕ}

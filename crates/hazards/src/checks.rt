@@ -7,8 +7,9 @@ ghost use lib.Dec.{eqb, ltb};
 ghost use lib.Ieee.{Float, lt, le};
 ghost use Rattle.hazards.specs.Floats.{z, limit, zeroBits, inRange, isTime};
 ghost use Rattle.hazards.specs.Lists.{all};
-ghost use Rattle.hazards.specs.Rates.{intervalsFrom, pairsFrom};
-ghost use Rattle.hazards.specs.Checks.{rateOfKind, ownRate, mostPairs, rangeFault, zeroPair, ascending, intervalsFault, hazardOf, intervalsOf, fieldsFrom, hazardFaults};
+ghost use Rattle.hazards.specs.Rates.{intervalsFrom, pairsFrom, mostPairs};
+ghost use Rattle.hazards.specs.Checks.{rateOfKind, ownRate, rangeFault, zeroPair, ascending, intervalsFault, hazardOf};
+ghost use Rattle.hazards.specs.Checks.{intervalsOf, fieldsFrom, hazardFaults};
 use crate::rates::HazardRate;
 use crate::rates::Intervals;
 use crate::refusals::Faults;
@@ -81,7 +82,8 @@ fn used_count(hazard: HazardRate, count: usize) -> usize
 // The rates of the first `used` pairs are in range.
 fn rates_in_range(rates: &[f64; 8], used: usize) -> bool
     requires { ⌜ used ≤ 8 ⌝ }
-    ensures { λ r. ⌜ ((ends : List Float) (n : ℕ) → r ≡ all (λ q. inRange (q .rate)) (pairsFrom (intervalsFrom ends (now (rates .entry)) n) 0 used)) ⌝ }
+    ensures { λ r. ⌜ ((ends : List Float) (n : ℕ)
+        → r ≡ all (λ q. inRange (q .rate)) (pairsFrom (intervalsFrom ends (now (rates .entry)) n) 0 used)) ⌝ }
 {
     let mut i: usize = 0;
     while i < used {

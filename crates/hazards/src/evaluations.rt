@@ -1,7 +1,8 @@
 // The three evaluations as public calls on the fields of a hazard: refused by 4, 5 or 6, or the value.
 ghost use mathlib.Core.Path.{_≡_};
 ghost use Rattle.hazards.specs.Checks.{fieldsFrom};
-ghost use Rattle.hazards.specs.Evaluations.{valued, withoutValue, waitValued, evaluationRefusal, evaluatedHazardAt, evaluatedCumulativeHazard, evaluatedInversion};
+ghost use Rattle.hazards.specs.Evaluations.{valued, withoutValue, waitValued, evaluationRefusal, evaluatedHazardAt};
+ghost use Rattle.hazards.specs.Evaluations.{evaluatedCumulativeHazard, evaluatedInversion};
 use crate::rates::Wait;
 
 // `found` is false on a refusal and where there is no wait.

@@ -5,7 +5,8 @@ ghost use Prim.Native.Nat.{_-_, min};
 ghost use mathlib.Core.List.{[]};
 ghost use lib.Ieee.{lt, le};
 ghost use Rattle.hazards.specs.Floats.{z, notBelowZero};
-ghost use Rattle.hazards.specs.Rates.{intervalsFrom, pairsFrom, usedPairs, piecewiseHazard, piecewiseCumulative, pairsAfter, piecewiseWait, constantWait, hazardAt, cumulativeHazard, invertCumulativeHazard};
+ghost use Rattle.hazards.specs.Rates.{intervalsFrom, pairsFrom, usedPairs, piecewiseHazard, piecewiseCumulative, pairsAfter};
+ghost use Rattle.hazards.specs.Rates.{piecewiseWait, constantWait, hazardAt, cumulativeHazard, invertCumulativeHazard};
 
 // A kind with its own rate: the rate of Constant, eta of Gompertz (with b = 0), the trailing rate of PiecewiseConstant.
 pub enum HazardRate {
@@ -49,7 +50,10 @@ fn piecewise_hazard<'a>(
     trailing: f64,
     t: f64,
 ) -> f64
-    ensures { λ r. ⌜ r ≡ piecewiseHazard (usedPairs (intervalsFrom (now (ends .entry)) (now (rates .entry)) count)) trailing t ⌝ }
+    ensures { λ r. ⌜ r
+        ≡ piecewiseHazard
+        (usedPairs (HazardRate.Piecewise trailing) (intervalsFrom (now (ends .entry)) (now (rates .entry)) count))
+        trailing t ⌝ }
 {
     let used = at_most_eight(count);
     let mut i: usize = 0;
@@ -89,7 +93,10 @@ fn piecewise_cumulative<'a>(
     trailing: f64,
     t: f64,
 ) -> f64
-    ensures { λ r. ⌜ r ≡ piecewiseCumulative (usedPairs (intervalsFrom (now (ends .entry)) (now (rates .entry)) count)) trailing t z z ⌝ }
+    ensures { λ r. ⌜ r
+        ≡ piecewiseCumulative
+        (usedPairs (HazardRate.Piecewise trailing) (intervalsFrom (now (ends .entry)) (now (rates .entry)) count))
+        trailing t z z ⌝ }
 {
     let used = at_most_eight(count);
     let mut cum = 0.0;
@@ -130,7 +137,8 @@ pub fn cumulative_hazard<'a>(
 
 // The place of the first pair that does not end at or before t, or one past the used pairs.
 fn interval_after<'a>(ends: &'a [f64; 8], rates: &'a [f64; 8], count: usize, t: f64) -> usize
-    ensures { λ r. ⌜ pairsFrom (intervalsFrom (now (ends .entry)) (now (rates .entry)) count) r (min count 8 - r) ≡ pairsAfter t (usedPairs (intervalsFrom (now (ends .entry)) (now (rates .entry)) count)) ⌝ }
+    ensures { λ r. ⌜ pairsFrom (intervalsFrom (now (ends .entry)) (now (rates .entry)) count) r (min count 8 - r)
+        ≡ pairsAfter t (pairsFrom (intervalsFrom (now (ends .entry)) (now (rates .entry)) count) 0 (min count 8)) ⌝ }
 {
     let used = at_most_eight(count);
     let mut i: usize = 0;
@@ -169,7 +177,11 @@ fn piecewise_wait<'a>(
     start: f64,
     w: f64,
 ) -> Wait
-    ensures { λ r. ⌜ r ≡ piecewiseWait (pairsAfter start (usedPairs (intervalsFrom (now (ends .entry)) (now (rates .entry)) count))) trailing start start w ⌝ }
+    ensures { λ r. ⌜ r
+        ≡ piecewiseWait
+        (pairsAfter start
+        (usedPairs (HazardRate.Piecewise trailing) (intervalsFrom (now (ends .entry)) (now (rates .entry)) count)))
+        trailing start start w ⌝ }
 {
     let used = at_most_eight(count);
     let mut i = interval_after(ends, rates, count, start);
@@ -208,7 +220,8 @@ pub fn invert_cumulative_hazard<'a>(
     t_start: f64,
     target_w: f64,
 ) -> Wait
-    ensures { λ r. ⌜ r ≡ invertCumulativeHazard hazard (intervalsFrom (now (ends .entry)) (now (rates .entry)) count) «t_start» «target_w» ⌝ }
+    ensures { λ r. ⌜ r
+        ≡ invertCumulativeHazard hazard (intervalsFrom (now (ends .entry)) (now (rates .entry)) count) «t_start» «target_w» ⌝ }
 {
     if target_w <= 0.0 {
         return Wait::After(0.0);

@@ -1,5 +1,6 @@
 // The hazards crate's calls over records of bytes, for the fixed lists, the comparison with the Rust and the benchmark.
-// A hazard is 138 bytes as in SET: kind, first f64, count, then 8 pairs (end f64, rate f64). A cause is 146: cause u32, priority u32, hazard.
+// A hazard is 138 bytes: kind, first f64, count, then 8 pairs (end f64, rate f64), the fields of SET without its time. A cause is
+// 146 bytes: cause u32, priority u32, hazard.
 ghost use Prim.Native.Nat.{_≤_};
 ghost use lib.ListN.{length};
 ghost use mathlib.Core.Path.{_≡_};
@@ -229,7 +230,8 @@ fn put_sampled(out: &mut [u8], at: usize, sampled: Sampled)
     put_u64(out, at + 32, sampled.position as u64);
 }
 
-// One sample for each position of 8 bytes, while there are positions and room; the number of them. A request is n u8, the settings, 8 causes.
+// One sample for each position of 8 bytes, while there are positions and room; the number of them. A request is n u8, the
+// settings, 8 causes.
 #[no_mangle]
 pub extern "C" fn probe_sample(
     request: &[u8],

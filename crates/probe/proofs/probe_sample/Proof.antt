@@ -8,7 +8,8 @@ use Rattle.probe.proofs.probe_sample.Statement.{statement}
 use Rattle.probe.proofs.probe_sample.Tie as tie
 
 abbrev Inv-loop : tie.InvT-loop
-Inv-loop request stream positions out₀ n settings causes count i₀ out i = (i ≤ count) × (length out ≡ length out₀) × (40 * count < 2 ^ 63) × (8 * count < 2 ^ 63)
+Inv-loop request stream positions out₀ n settings causes count i₀ out i =
+    (i ≤ count) × (length out ≡ length out₀) × (40 * count < 2 ^ 63) × (8 * count < 2 ^ 63)
 
 abbrev μ-loop : tie.MeasureT-loop
 μ-loop request stream positions out₀ n settings causes count i₀ out i = count - i

@@ -20,32 +20,37 @@ put-u32-requires c κs = search needs
 
 add-put-u32 : tie.Need-add-put-u32
 add-put-u32 c =
-    let a = c .before .before .before .before .before .before .before .before .before .before .args in
-    omega (arith, leb-true (a .at + 32) (length (a .bytes .now)) (sym (c .before .before .before .before .before .before .before .lies-whole .ensures) ∙ c .before .before .before .before .before .before .if1 .taken))
+    let u = c .before .before .before .before .before .before in
+    let a = u .before .before .before .before .args in
+    omega (arith, leb-true (a .at + 32) (length (a .bytes .now)) (sym (u .before .lies-whole .ensures) ∙ u .if1 .taken))
 
 put-u32-requires-2 : tie.Need-put-u32-requires-2
 put-u32-requires-2 c κs = search needs
 
 add-put-f64 : tie.Need-add-put-f64
 add-put-f64 c =
-    let a = c .before .before .before .before .before .before .before .before .before .before .before .before .before .before .args in
-    omega (arith, leb-true (a .at + 32) (length (a .bytes .now)) (sym (c .before .before .before .before .before .before .before .before .before .before .before .lies-whole .ensures) ∙ c .before .before .before .before .before .before .before .before .before .before .if1 .taken))
+    let u = c .before .before .before .before .before .before .before .before .before .before in
+    let a = u .before .before .before .before .args in
+    omega (arith, leb-true (a .at + 32) (length (a .bytes .now)) (sym (u .before .lies-whole .ensures) ∙ u .if1 .taken))
 
 put-f64-requires : tie.Need-put-f64-requires
 put-f64-requires c κs = search needs
 
 add-put-u64 : tie.Need-add-put-u64
 add-put-u64 c =
-    let a = c .before .before .before .before .before .before .before .before .before .before .before .before .before .before .before .before .before .before .args in
-    omega (arith, leb-true (a .at + 32) (length (a .bytes .now)) (sym (c .before .before .before .before .before .before .before .before .before .before .before .before .before .before .before .lies-whole .ensures) ∙ c .before .before .before .before .before .before .before .before .before .before .before .before .before .before .if1 .taken))
+    let u = c .before .before .before .before .before .before .before .before .before .before .before .before .before .before in
+    let a = u .before .before .before .before .args in
+    omega (arith, leb-true (a .at + 32) (length (a .bytes .now)) (sym (u .before .lies-whole .ensures) ∙ u .if1 .taken))
 
 put-u64-requires : tie.Need-put-u64-requires
 put-u64-requires c κs = search needs
 
 add-put-u64-2 : tie.Need-add-put-u64-2
 add-put-u64-2 c =
-    let a = c .before .before .before .before .before .before .before .before .before .before .before .before .before .before .before .before .before .before .before .before .before .before .args in
-    omega (arith, leb-true (a .at + 32) (length (a .bytes .now)) (sym (c .before .before .before .before .before .before .before .before .before .before .before .before .before .before .before .before .before .before .before .lies-whole .ensures) ∙ c .before .before .before .before .before .before .before .before .before .before .before .before .before .before .before .before .before .before .if1 .taken))
+    let w = c .before .before .before .before .before .before .before .before .before in
+    let u = w .before .before .before .before .before .before .before .before .before in
+    let a = u .before .before .before .before .args in
+    omega (arith, leb-true (a .at + 32) (length (a .bytes .now)) (sym (u .before .lies-whole .ensures) ∙ u .if1 .taken))
 
 put-u64-requires-2 : tie.Need-put-u64-requires-2
 put-u64-requires-2 c κs = search needs
@@ -55,18 +60,18 @@ same-length c = search needs
 
 returns : tie.Need-returns
 returns c =
-    let start = c .before .before .before .before .before .before .before .before .before .before .before .before .before .before .before .before .before .before .before .before .before .before .before .before .before in
-    let whole = sym (c .before .before .before .before .before .before .before .before .before .before .before .before .before .before .before .before .before .before .before .before .before .before .lies-whole .ensures) ∙ c .before .before .before .before .before .before .before .before .before .before .before .before .before .before .before .before .before .before .before .before .before .if1 .taken in
-    let fits = leb-true _ _ whole in
+    let f = c .before .before .before .before .before .before .before .before .before .before in
+    let h = f .before .before .before .before .before .before .before .before .before .before in
+    let whole = sym (h .before .before .lies-whole .ensures) ∙ h .before .if1 .taken in
+    let a = h .before .before .before .before .before .args in
     rw (
       c .before .before .put-u642 .ensures,
       c .before .before .before .before .before .before .put-u64 .ensures,
-      c .before .before .before .before .before .before .before .before .before .before .put-f64 .ensures,
-      c .before .before .before .before .before .before .before .before .before .before .before .before .before .before .put-u322 .ensures,
-      c .before .before .before .before .before .before .before .before .before .before .before .before .before .before .before .before .before .before .put-u32 .ensures,
+      f .put-f64 .ensures,
+      f .before .before .before .before .put-u322 .ensures,
+      f .before .before .before .before .before .before .before .before .put-u32 .ensures,
     )
-    (answer-written (start .args .bytes .now) (start .args .at) (start .args .answer) (c .before .before .before .before .before .before .before .before .before .before .before .before .before .before .before .before .before .before .before .before .head-word .result)
-    (c .before .before .before .before .before .before .before .before .before .before .before .before .before .before .before .before .before .before .before .before .head-word .ensures) fits)
+    (answer-written (a .bytes .now) (a .at) (a .answer) (h .head-word .result) (h .head-word .ensures) (leb-true _ _ whole))
 
 same-length-2 : tie.Need-same-length-2
 same-length-2 c = search needs

@@ -18,7 +18,8 @@ use Rattle.hazards.proofs.checks.ends_ascend.Tie as tie
 abbrev Inv-loop : tie.InvT-loop
 Inv-loop ends used before₀ i₀ before i =
     (i ≤ used)
-    × ((rates : List Float) (n : ℕ) → ascending before (pairsFrom (intervalsFrom ends rates n) i (used - i)) ≡ ascending z (pairsFrom (intervalsFrom ends rates n) 0 used))
+    × ((rates : List Float) (n : ℕ) → ascending before (pairsFrom (intervalsFrom ends rates n) i (used - i))
+    ≡ ascending z (pairsFrom (intervalsFrom ends rates n) 0 used))
 
 abbrev μ-loop : tie.MeasureT-loop
 μ-loop ends used before₀ i₀ before i = used - i
@@ -40,7 +41,9 @@ returns : tie.Need-returns Inv-loop μ-loop
 returns c =
     let l = c .before .before .before .before in
     let a = l .before .args in
-    λ rates n. sym (ascending-fails (l .loop .before) (pairs-next (intervalsFrom (a .ends .now) rates n) (a .used) (l .loop .i) (omega arith)) (sym (c .before .ascends .ensures) ∙ not-true _ (c .if1 .taken)))
+    λ rates n.
+    let next = pairs-next (intervalsFrom (a .ends .now) rates n) (a .used) (l .loop .i) (omega arith) in
+    sym (ascending-fails (l .loop .before) next (sym (c .before .ascends .ensures) ∙ not-true _ (c .if1 .taken)))
     ∙ l .loop .inv .1 rates n
 
 add-i : tie.Need-add-i Inv-loop μ-loop
@@ -54,7 +57,9 @@ loop-again c =
     let l = c .before .before .before .before in
     let a = l .before .args in (
       omega arith,
-      λ rates n. sym (ascending-next (l .loop .before) (pairs-next (intervalsFrom (a .ends .now) rates n) (a .used) (l .loop .i) (omega arith)) (sym (c .before .ascends .ensures) ∙ not-false _ (c .if1 .left)))
+      λ rates n.
+          let next = pairs-next (intervalsFrom (a .ends .now) rates n) (a .used) (l .loop .i) (omega arith) in
+          sym (ascending-next (l .loop .before) next (sym (c .before .ascends .ensures) ∙ not-false _ (c .if1 .left)))
           ∙ l .loop .inv .1 rates n,
     )
 
@@ -62,7 +67,9 @@ returns-2 : tie.Need-returns-2 Inv-loop μ-loop
 returns-2 c =
     let l = c .before in
     let a = l .before .args in
-    λ rates n. sym (ascending-none (l .loop .before) (pairs-end (intervalsFrom (a .ends .now) rates n) (a .used) (l .loop .i) (omega arith))) ∙ l .loop .inv .1 rates n
+    λ rates n.
+    sym (ascending-none (l .loop .before) (pairs-end (intervalsFrom (a .ends .now) rates n) (a .used) (l .loop .i) (omega arith)))
+    ∙ l .loop .inv .1 rates n
 
 pub ends-ascend-spec : {M : Type 1} → statement M
 ends-ascend-spec =

@@ -1,6 +1,6 @@
 -- `checks::most_pairs` meets its contract.
 use borrow.Author.Needs.{needs}
-use Rattle.hazards.specs.Checks.{mostPairs}
+use Rattle.hazards.specs.Rates.{mostPairs}
 use Rattle.hazards.proofs.checks.most_pairs.Statement.{statement}
 use Rattle.hazards.proofs.checks.most_pairs.Tie as tie
 

@@ -18,7 +18,8 @@ use Rattle.hazards.proofs.checks.rates_in_range.Tie as tie
 abbrev Inv-loop : tie.InvT-loop
 Inv-loop rates used i₀ i =
     (i ≤ used)
-    × ((ends : List Float) (n : ℕ) → all (λ q. inRange (q .rate)) (pairsFrom (intervalsFrom ends rates n) i (used - i)) ≡ all (λ q. inRange (q .rate)) (pairsFrom (intervalsFrom ends rates n) 0 used))
+    × ((ends : List Float) (n : ℕ) → all (λ q. inRange (q .rate)) (pairsFrom (intervalsFrom ends rates n) i (used - i))
+    ≡ all (λ q. inRange (q .rate)) (pairsFrom (intervalsFrom ends rates n) 0 used))
 
 abbrev μ-loop : tie.MeasureT-loop
 μ-loop rates used i₀ i = used - i
@@ -39,7 +40,9 @@ returns : tie.Need-returns Inv-loop μ-loop
 returns c =
     let l = c .before .before .before .before in
     let a = l .before .args in
-    λ ends n. sym (all-fails (λ q. inRange (q .rate)) (pairs-next (intervalsFrom ends (a .rates .now) n) (a .used) (l .loop .i) (omega arith)) (sym (c .before .in-range .ensures) ∙ not-true _ (c .if1 .taken)))
+    λ ends n.
+    let next = pairs-next (intervalsFrom ends (a .rates .now) n) (a .used) (l .loop .i) (omega arith) in
+    sym (all-fails (λ q. inRange (q .rate)) next (sym (c .before .in-range .ensures) ∙ not-true _ (c .if1 .taken)))
     ∙ l .loop .inv .1 ends n
 
 add-i : tie.Need-add-i Inv-loop μ-loop
@@ -53,7 +56,9 @@ loop-again c =
     let l = c .before .before .before .before in
     let a = l .before .args in (
       omega arith,
-      λ ends n. sym (all-next (λ q. inRange (q .rate)) (pairs-next (intervalsFrom ends (a .rates .now) n) (a .used) (l .loop .i) (omega arith)) (sym (c .before .in-range .ensures) ∙ not-false _ (c .if1 .left)))
+      λ ends n.
+          let next = pairs-next (intervalsFrom ends (a .rates .now) n) (a .used) (l .loop .i) (omega arith) in
+          sym (all-next (λ q. inRange (q .rate)) next (sym (c .before .in-range .ensures) ∙ not-false _ (c .if1 .left)))
           ∙ l .loop .inv .1 ends n,
     )
 
@@ -61,7 +66,9 @@ returns-2 : tie.Need-returns-2 Inv-loop μ-loop
 returns-2 c =
     let l = c .before in
     let a = l .before .args in
-    λ ends n. sym (all-none (λ q. inRange (q .rate)) (pairs-end (intervalsFrom ends (a .rates .now) n) (a .used) (l .loop .i) (omega arith))) ∙ l .loop .inv .1 ends n
+    λ ends n.
+    sym (all-none (λ q. inRange (q .rate)) (pairs-end (intervalsFrom ends (a .rates .now) n) (a .used) (l .loop .i) (omega arith)))
+    ∙ l .loop .inv .1 ends n
 
 pub rates-in-range-spec : {M : Type 1} → statement M
 rates-in-range-spec =

@@ -1,11 +1,9 @@
 -- `evaluations::evaluate_cumulative_hazard` meets its contract.
-use mathlib.Core.Path.{_∙_, ap}
 use borrow.Author.Needs.{needs}
-use Rattle.hazards.specs.Checks.{fieldsFrom, hazardOf, intervalsOf}
-use Rattle.hazards.specs.Evaluations.{evaluatedCumulativeHazard, valued}
+use Rattle.hazards.specs.Checks.{fieldsFrom}
+use Rattle.hazards.specs.Evaluations.{evaluatedCumulativeHazard}
 use Rattle.hazards.specs.Rates.{cumulativeHazard}
-use Rattle.hazards.specs.declared.rates.HazardRate.{HazardRate}
-use Rattle.hazards.proofs.EvaluationLaws.{refused, evaluated}
+use Rattle.hazards.proofs.EvaluationLaws.{refused, evaluated-at}
 use Rattle.hazards.proofs.evaluations.evaluate_cumulative_hazard.Statement.{statement}
 use Rattle.hazards.proofs.evaluations.evaluate_cumulative_hazard.Tie as tie
 
@@ -42,10 +40,8 @@ returns-2 c =
     let s = h .before .before in
     let a = s .before .before .args in
     let f = fieldsFrom (a .kind) (a .first) (a .count) (a .ends .now) (a .rates .now) in
-    let t = s .before .before .args .t in
-    evaluated f (s .evaluation-refusal .ensures) (s .before .in-range .ensures) (valued (cumulativeHazard (hazardOf f) (intervalsOf f) t)) (h .before .if1 .left)
-    (c .valued .ensures
-    ∙ ap valued (c .before .cumulative-hazard .ensures ∙ ap (λ (k : HazardRate). cumulativeHazard k (intervalsOf f) t) (h .rate-of-kind .ensures)))
+    evaluated-at f (s .evaluation-refusal .ensures) (s .before .in-range .ensures) cumulativeHazard (a .t) (h .before .if1 .left)
+    (h .rate-of-kind .ensures) (c .before .cumulative-hazard .ensures) (c .valued .ensures)
 
 pub evaluate-cumulative-hazard-spec : {M : Type 1} → statement M
 evaluate-cumulative-hazard-spec =

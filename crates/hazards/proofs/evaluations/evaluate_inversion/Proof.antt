@@ -30,7 +30,8 @@ returns c =
     let a = s .before .before .before .args in
     let e : (s .before .before .in-range .result && s .before .in-range2 .result) ≡ (inRange (a .t-start) && inRange (a .target-w)) =
     rw (s .before .before .in-range .ensures, s .before .in-range2 .ensures) in
-    refused (fieldsFrom (a .kind) (a .first) (a .count) (a .ends .now) (a .rates .now)) (s .evaluation-refusal .ensures) e _ (c .before .if1 .taken) (c .without-value .ensures)
+    refused (fieldsFrom (a .kind) (a .first) (a .count) (a .ends .now) (a .rates .now)) (s .evaluation-refusal .ensures) e _
+    (c .before .if1 .taken) (c .without-value .ensures)
 
 rate-of-kind-requires : tie.Need-rate-of-kind-requires
 rate-of-kind-requires c κs = search needs
@@ -50,8 +51,8 @@ returns-2 c =
     let f = fieldsFrom (a .kind) (a .first) (a .count) (a .ends .now) (a .rates .now) in
     let e : (s .before .before .in-range .result && s .before .in-range2 .result) ≡ (inRange (a .t-start) && inRange (a .target-w)) =
     rw (s .before .before .in-range .ensures, s .before .in-range2 .ensures) in
-    evaluated f (s .evaluation-refusal .ensures) e (waitValued (invertCumulativeHazard (hazardOf f) (intervalsOf f) (a .t-start) (a .target-w)))
-    (h .before .if1 .left)
+    evaluated f (s .evaluation-refusal .ensures) e
+    (waitValued (invertCumulativeHazard (hazardOf f) (intervalsOf f) (a .t-start) (a .target-w))) (h .before .if1 .left)
     (c .wait-valued .ensures
     ∙ ap waitValued
     (c .before .invert-cumulative-hazard .ensures

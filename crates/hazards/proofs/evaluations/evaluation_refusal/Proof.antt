@@ -20,8 +20,8 @@ number-requires c κs = search needs
 returns : tie.Need-returns
 returns c =
     let a = c .before .before .before .before .args in
-    refusal-of (fieldsFrom (a .kind) (a .first) (a .count) (a .ends .now) (a .rates .now)) (a .in-limits) (c .number .ensures) (c .before .joined .ensures)
-    (c .before .before .before .hazard-faults .ensures) (c .before .before .range-fault-unless .ensures)
+    refusal-of (fieldsFrom (a .kind) (a .first) (a .count) (a .ends .now) (a .rates .now)) (a .in-limits) (c .number .ensures)
+    (c .before .joined .ensures) (c .before .before .before .hazard-faults .ensures) (c .before .before .range-fault-unless .ensures)
 
 pub evaluation-refusal-spec : {M : Type 1} → statement M
 evaluation-refusal-spec =

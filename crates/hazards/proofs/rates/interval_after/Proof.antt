@@ -1,18 +1,19 @@
--- `rates::interval_after` meets its contract: at each turn the pairs after t among those from i on are those among all used pairs.
-use mathlib.Core.Path.{_≡_, sym, _∙_}
-use Prim.Native.Nat.{_-_}
+-- `rates::interval_after` meets its contract: at each turn the pairs after t among those from i on are those among all that count.
+use mathlib.Core.Path.{_≡_, sym, _∙_, ap}
+use Prim.Native.Nat.{ℕ, _-_, min}
 use native.Mathlib.Omega.{arith}
 use borrow.Author.Needs.{needs}
 use borrow.Author.Tests.{not-true, not-false}
-use Rattle.hazards.specs.Rates.{intervalsFrom, pairsFrom, usedPairs, pairsAfter}
-use Rattle.hazards.proofs.Pairs.{pairs-start, pairs-next, pairs-end}
+use Rattle.hazards.specs.Rates.{intervalsFrom, pairsFrom, pairsAfter}
+use Rattle.hazards.proofs.Pairs.{pairs-first, pairs-next, pairs-end}
 use Rattle.hazards.proofs.Turns.{after-here, after-past, after-none}
 use Rattle.hazards.proofs.rates.interval_after.Statement.{statement}
 use Rattle.hazards.proofs.rates.interval_after.Tie as tie
 
 abbrev Inv-loop : tie.InvT-loop
 Inv-loop ends rates count t used i₀ i =
-    pairsAfter t (pairsFrom (intervalsFrom ends rates count) i (used - i)) ≡ pairsAfter t (usedPairs (intervalsFrom ends rates count))
+    pairsAfter t (pairsFrom (intervalsFrom ends rates count) i (used - i))
+    ≡ pairsAfter t (pairsFrom (intervalsFrom ends rates count) 0 (min count 8))
 
 abbrev μ-loop : tie.MeasureT-loop
 μ-loop ends rates count t used i₀ i = used - i
@@ -21,7 +22,9 @@ at-most-eight-requires : tie.Need-at-most-eight-requires Inv-loop μ-loop
 at-most-eight-requires c κs = search needs
 
 loop-holds : tie.Need-loop-holds Inv-loop μ-loop
-loop-holds c = rw (pairs-start (intervalsFrom (c .before .args .ends .now) (c .before .args .rates .now) (c .before .args .count)) (c .at-most-eight .ensures))
+loop-holds c =
+    let a = c .before .args in
+    rw (pairs-first (intervalsFrom (a .ends .now) (a .rates .now) (a .count)) (c .at-most-eight .ensures))
 
 mul-if1 : tie.Need-mul-if1 Inv-loop μ-loop
 mul-if1 c = omega arith
@@ -33,8 +36,11 @@ returns : tie.Need-returns Inv-loop μ-loop
 returns c =
     let l = c .before .before .before in
     let a = l .before .before .args in
-    let next = pairs-next (intervalsFrom (a .ends .now) (a .rates .now) (a .count)) (l .before .at-most-eight .result) (l .loop .i) (omega arith) in
-    rw (← l .before .at-most-eight .ensures) (sym (after-here (a .t) next (not-true _ (c .if1 .taken))) ∙ l .loop .inv)
+    let p = intervalsFrom (a .ends .now) (a .rates .now) (a .count) in
+    let next = pairs-next p (l .before .at-most-eight .result) (l .loop .i) (omega arith) in
+    ap (λ (k : ℕ). pairsFrom p (l .loop .i) (k - l .loop .i)) (sym (l .before .at-most-eight .ensures))
+    ∙ sym (after-here (a .t) next (not-true _ (c .if1 .taken)))
+    ∙ l .loop .inv
 
 add-i : tie.Need-add-i Inv-loop μ-loop
 add-i c = omega arith
@@ -46,15 +52,19 @@ loop-again : tie.Need-loop-again Inv-loop μ-loop
 loop-again c =
     let l = c .before .before .before in
     let a = l .before .before .args in
-    let next = pairs-next (intervalsFrom (a .ends .now) (a .rates .now) (a .count)) (l .before .at-most-eight .result) (l .loop .i) (omega arith) in
+    let p = intervalsFrom (a .ends .now) (a .rates .now) (a .count) in
+    let next = pairs-next p (l .before .at-most-eight .result) (l .loop .i) (omega arith) in
     sym (after-past (a .t) next (not-false _ (c .if1 .left))) ∙ l .loop .inv
 
 returns-2 : tie.Need-returns-2 Inv-loop μ-loop
 returns-2 c =
     let l = c .before in
     let a = l .before .before .args in
-    let end = pairs-end (intervalsFrom (a .ends .now) (a .rates .now) (a .count)) (l .before .at-most-eight .result) (l .loop .i) (omega arith) in
-    rw (← l .before .at-most-eight .ensures) (sym (after-none (a .t) end) ∙ l .loop .inv)
+    let p = intervalsFrom (a .ends .now) (a .rates .now) (a .count) in
+    let end = pairs-end p (l .before .at-most-eight .result) (l .loop .i) (omega arith) in
+    ap (λ (k : ℕ). pairsFrom p (l .loop .i) (k - l .loop .i)) (sym (l .before .at-most-eight .ensures))
+    ∙ sym (after-none (a .t) end)
+    ∙ l .loop .inv
 
 pub interval-after-spec : {M : Type 1} → statement M
 interval-after-spec =

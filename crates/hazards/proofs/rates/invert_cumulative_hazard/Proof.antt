@@ -43,7 +43,8 @@ returns-2 c = simp (c .before .before .if1 .left, c .enum-told .given .1)
 returns-3 : tie.Need-returns-3
 unfolding invertCumulativeHazard waitOfKind ofBits
 returns-3 c =
-    simp (c .before .before .before .before .before .if1 .left, c .before .before .before .hazard .given .1, ← c .before .not-below-zero .ensures)
+    let h = c .before .before .before in
+    simp (h .before .before .if1 .left, h .hazard .given .1, ← c .before .not-below-zero .ensures)
     (c .constant-wait .ensures)
 
 returns-4 : tie.Need-returns-4
@@ -53,7 +54,8 @@ returns-4 c = simp (c .before .before .before .before .if1 .left, c .before .bef
 returns-5 : tie.Need-returns-5
 unfolding invertCumulativeHazard waitOfKind ofBits
 returns-5 c =
-    simp (c .before .before .before .before .before .if1 .left, c .before .before .before .hazard3 .given .1, ← c .before .not-below-zero2 .ensures)
+    let h = c .before .before .before in
+    simp (h .before .before .if1 .left, h .hazard3 .given .1, ← c .before .not-below-zero2 .ensures)
     (c .piecewise-wait .ensures)
 
 pub invert-cumulative-hazard-spec : {M : Type 1} → statement M

@@ -1,5 +1,5 @@
--- `rates::piecewise_cumulative` meets its contract: at each turn the cumulative hazard over the pairs from i on, added to cum, is that over all used
--- pairs.
+-- `rates::piecewise_cumulative` meets its contract: at each turn the cumulative hazard over the pairs from i on, added to cum, is
+-- that over all used pairs.
 use mathlib.Core.Path.{_≡_, sym, _∙_}
 use Prim.Native.Nat.{_-_}
 use native.Mathlib.Omega.{arith}
@@ -7,6 +7,7 @@ use lib.Ieee.{ofBits}
 use borrow.Author.Needs.{needs}
 use Rattle.hazards.specs.Floats.{z}
 use Rattle.hazards.specs.Rates.{intervalsFrom, pairsFrom, usedPairs, piecewiseCumulative}
+use Rattle.hazards.specs.declared.rates.HazardRate.the-variants.{Piecewise}
 use Rattle.hazards.proofs.Pairs.{pairs-start, pairs-next, pairs-end}
 use Rattle.hazards.proofs.Turns.{cumulative-here, cumulative-later, cumulative-trailing}
 use Rattle.hazards.proofs.rates.piecewise_cumulative.Statement.{statement}
@@ -15,7 +16,7 @@ use Rattle.hazards.proofs.rates.piecewise_cumulative.Tie as tie
 abbrev Inv-loop : tie.InvT-loop
 Inv-loop ends rates count trailing t used cum₀ cur-t₀ i₀ cum cur-t i =
     piecewiseCumulative (pairsFrom (intervalsFrom ends rates count) i (used - i)) trailing t cum cur-t
-    ≡ piecewiseCumulative (usedPairs (intervalsFrom ends rates count)) trailing t z z
+    ≡ piecewiseCumulative (usedPairs (Piecewise trailing) (intervalsFrom ends rates count)) trailing t z z
 
 abbrev μ-loop : tie.MeasureT-loop
 μ-loop ends rates count trailing t used cum₀ cur-t₀ i₀ cum cur-t i = used - i
@@ -25,7 +26,9 @@ at-most-eight-requires c κs = search needs
 
 loop-holds : tie.Need-loop-holds Inv-loop μ-loop
 unfolding ofBits
-loop-holds c = rw (pairs-start (intervalsFrom (c .before .args .ends .now) (c .before .args .rates .now) (c .before .args .count)) (c .at-most-eight .ensures))
+loop-holds c =
+    let a = c .before .args in
+    rw (pairs-start (a .trailing) (intervalsFrom (a .ends .now) (a .rates .now) (a .count)) (c .at-most-eight .ensures))
 
 mul-end-t : tie.Need-mul-end-t Inv-loop μ-loop
 mul-end-t c = omega arith
@@ -46,7 +49,8 @@ returns : tie.Need-returns Inv-loop μ-loop
 returns c =
     let l = c .before .before .before .before .before in
     let a = l .before .before .args in
-    let next = pairs-next (intervalsFrom (a .ends .now) (a .rates .now) (a .count)) (l .before .at-most-eight .result) (l .loop .i) (omega arith) in
+    let p = intervalsFrom (a .ends .now) (a .rates .now) (a .count) in
+    let next = pairs-next p (l .before .at-most-eight .result) (l .loop .i) (omega arith) in
     sym (cumulative-here (a .trailing) (a .t) (l .loop .cum) (l .loop .cur-t) next (c .before .not-below-zero .ensures) (c .if1 .taken))
     ∙ l .loop .inv
 
@@ -60,7 +64,8 @@ loop-again : tie.Need-loop-again Inv-loop μ-loop
 loop-again c =
     let l = c .before .before .before .before .before in
     let a = l .before .before .args in
-    let next = pairs-next (intervalsFrom (a .ends .now) (a .rates .now) (a .count)) (l .before .at-most-eight .result) (l .loop .i) (omega arith) in
+    let p = intervalsFrom (a .ends .now) (a .rates .now) (a .count) in
+    let next = pairs-next p (l .before .at-most-eight .result) (l .loop .i) (omega arith) in
     sym (cumulative-later (a .trailing) (a .t) (l .loop .cum) (l .loop .cur-t) next (c .before .not-below-zero .ensures) (c .if1 .left))
     ∙ l .loop .inv
 
@@ -71,7 +76,8 @@ returns-2 : tie.Need-returns-2 Inv-loop μ-loop
 returns-2 c =
     let l = c .before .before in
     let a = l .before .before .args in
-    let end = pairs-end (intervalsFrom (a .ends .now) (a .rates .now) (a .count)) (l .before .at-most-eight .result) (l .loop .i) (omega arith) in
+    let p = intervalsFrom (a .ends .now) (a .rates .now) (a .count) in
+    let end = pairs-end p (l .before .at-most-eight .result) (l .loop .i) (omega arith) in
     sym (cumulative-trailing (a .trailing) (a .t) (l .loop .cum) (l .loop .cur-t) end (c .not-below-zero2 .ensures)) ∙ l .loop .inv
 
 pub piecewise-cumulative-spec : {M : Type 1} → statement M

@@ -1,9 +1,11 @@
--- `rates::piecewise_wait` meets its contract: at each turn the wait over the pairs from i on, for what is left of w, is the wait from the start.
+-- `rates::piecewise_wait` meets its contract: at each turn the wait over the pairs from i on, for what is left of w, is the wait
+-- from the start.
 use mathlib.Core.Path.{_≡_, sym, _∙_}
 use Prim.Native.Nat.{_-_}
 use native.Mathlib.Omega.{arith}
 use borrow.Author.Needs.{needs}
-use Rattle.hazards.specs.Rates.{intervalsFrom, pairsFrom, usedPairs, pairsAfter, piecewiseWait}
+use Rattle.hazards.specs.Rates.{intervalsFrom, pairsFrom, mostPairs, usedPairs, pairsAfter, piecewiseWait}
+use Rattle.hazards.specs.declared.rates.HazardRate.the-variants.{Piecewise}
 use Rattle.hazards.proofs.Pairs.{pairs-next, pairs-end}
 use Rattle.hazards.proofs.Turns.{wait-here, wait-later}
 use Rattle.hazards.proofs.rates.piecewise_wait.Statement.{statement}
@@ -12,7 +14,7 @@ use Rattle.hazards.proofs.rates.piecewise_wait.Tie as tie
 abbrev Inv-loop : tie.InvT-loop
 Inv-loop ends rates count trailing start w used i₀ cur-t₀ remaining-w₀ i cur-t remaining-w =
     piecewiseWait (pairsFrom (intervalsFrom ends rates count) i (used - i)) trailing start cur-t remaining-w
-    ≡ piecewiseWait (pairsAfter start (usedPairs (intervalsFrom ends rates count))) trailing start start w
+    ≡ piecewiseWait (pairsAfter start (usedPairs (Piecewise trailing) (intervalsFrom ends rates count))) trailing start start w
 
 abbrev μ-loop : tie.MeasureT-loop
 μ-loop ends rates count trailing start w used i₀ cur-t₀ remaining-w₀ i cur-t remaining-w = used - i
@@ -24,6 +26,7 @@ interval-after-requires : tie.Need-interval-after-requires Inv-loop μ-loop
 interval-after-requires c κs = search needs
 
 loop-holds : tie.Need-loop-holds Inv-loop μ-loop
+unfolding usedPairs mostPairs
 loop-holds c = simp (c .before .at-most-eight .ensures, c .interval-after .ensures)
 
 mul-end-t : tie.Need-mul-end-t Inv-loop μ-loop
@@ -48,7 +51,8 @@ returns : tie.Need-returns Inv-loop μ-loop
 returns c =
     let l = c .before .before .before .before .before .before in
     let a = l .before .before .before .args in
-    let next = pairs-next (intervalsFrom (a .ends .now) (a .rates .now) (a .count)) (l .before .before .at-most-eight .result) (l .loop .i) (omega arith) in
+    let p = intervalsFrom (a .ends .now) (a .rates .now) (a .count) in
+    let next = pairs-next p (l .before .before .at-most-eight .result) (l .loop .i) (omega arith) in
     sym (wait-here (a .trailing) (a .start) (l .loop .cur-t) (l .loop .remaining-w) next (c .before .before .not-below-zero .ensures)
     (sym (c .before .within-capacity .ensures) ∙ c .if1 .taken))
     ∙ l .loop .inv
@@ -63,7 +67,8 @@ loop-again : tie.Need-loop-again Inv-loop μ-loop
 loop-again c =
     let l = c .before .before .before .before .before .before in
     let a = l .before .before .before .args in
-    let next = pairs-next (intervalsFrom (a .ends .now) (a .rates .now) (a .count)) (l .before .before .at-most-eight .result) (l .loop .i) (omega arith) in
+    let p = intervalsFrom (a .ends .now) (a .rates .now) (a .count) in
+    let next = pairs-next p (l .before .before .at-most-eight .result) (l .loop .i) (omega arith) in
     sym (wait-later (a .trailing) (a .start) (l .loop .cur-t) (l .loop .remaining-w) next (c .before .before .not-below-zero .ensures)
     (sym (c .before .within-capacity .ensures) ∙ c .if1 .left))
     ∙ l .loop .inv
@@ -75,8 +80,9 @@ returns-2 : tie.Need-returns-2 Inv-loop μ-loop
 returns-2 c =
     let l = c .before .before in
     let a = l .before .before .before .args in
+    let p = intervalsFrom (a .ends .now) (a .rates .now) (a .count) in
     c .trailing-wait .ensures
-    ∙ rw (pairs-end (intervalsFrom (a .ends .now) (a .rates .now) (a .count)) (l .before .before .at-most-eight .result) (l .loop .i) (omega arith)) at (l .loop .inv)
+    ∙ rw (pairs-end p (l .before .before .at-most-eight .result) (l .loop .i) (omega arith)) at (l .loop .inv)
 
 pub piecewise-wait-spec : {M : Type 1} → statement M
 piecewise-wait-spec =

@@ -1,16 +1,13 @@
+-- `ties::is_finite_wait` meets its contract.
 use lib.Ieee.{ofBits, div}
 use Rattle.hazards.specs.Floats.{isFiniteWait}
 use Rattle.hazards.proofs.ties.is_finite_wait.Statement.{statement}
 use Rattle.hazards.proofs.ties.is_finite_wait.Tie as tie
-use Rattle.hazards.proofs.ties.is_finite_wait.Reads as reads
-use Rattle.hazards.proofs.ties.is_finite_wait.Lts as lts
 
--- src/ties.rt:25:1
 returns : tie.Need-returns
 unfolding isFiniteWait ofBits div
 returns c = simp (c .if1 .taken)
 
--- src/ties.rt:25:1
 returns-2 : tie.Need-returns-2
 unfolding isFiniteWait ofBits
 returns-2 c = simp (c .if1 .left)

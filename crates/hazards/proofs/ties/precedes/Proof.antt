@@ -1,26 +1,20 @@
+-- `ties::precedes` meets its contract.
 use Rattle.hazards.specs.Ties.{precedes}
 use borrow.Author.Needs.{needs}
 use Rattle.hazards.proofs.ties.precedes.Statement.{statement}
 use Rattle.hazards.proofs.ties.precedes.Tie as tie
-use Rattle.hazards.proofs.ties.precedes.Reads as reads
-use Rattle.hazards.proofs.ties.precedes.Lts as lts
-use Rattle.hazards.proofs.ties.preferred.Reads as preferred-reads
 
--- src/ties.rt:70:9
 returns : tie.Need-returns
 unfolding precedes
 returns c = rw (c .if1 .taken)
 
--- src/ties.rt:73:9
 returns-2 : tie.Need-returns-2
 unfolding precedes
 returns-2 c = rw (c .before .before .before .if1 .left, c .if2 .taken)
 
--- src/ties.rt:75:5
 preferred-requires : tie.Need-preferred-requires
 preferred-requires c κs = search needs
 
--- src/ties.rt:66:1
 returns-3 : tie.Need-returns-3
 unfolding precedes
 returns-3 c = rw (c .before .before .before .before .if1 .left, c .before .if2 .left) (c .preferred .ensures)

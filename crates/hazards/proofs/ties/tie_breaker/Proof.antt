@@ -1,18 +1,14 @@
+-- `ties::tie_breaker` meets its contract.
 use borrow.Author.Tests.{eq-eqb, ne-eqb}
 use Rattle.hazards.proofs.ties.tie_breaker.Statement.{statement}
 use Rattle.hazards.proofs.ties.tie_breaker.Tie as tie
-use Rattle.hazards.proofs.ties.tie_breaker.Reads as reads
-use Rattle.hazards.proofs.ties.tie_breaker.Lts as lts
 
--- src/ties.rt:36:9
 returns : tie.Need-returns
 returns c = rw (eq-eqb _ 0 (c .if1 .taken))
 
--- src/ties.rt:39:9
 returns-2 : tie.Need-returns-2
 returns-2 c = rw (ne-eqb _ 0 (c .before .if1 .left), eq-eqb _ 1 (c .if2 .taken))
 
--- src/ties.rt:32:1
 returns-3 : tie.Need-returns-3
 returns-3 c = rw (ne-eqb _ 0 (c .before .if1 .left), ne-eqb _ 1 (c .if2 .left))
 

@@ -1,35 +1,27 @@
+-- `ties::Earliest::earlier` meets its contract.
 use Rattle.hazards.specs.Ties.{earlier}
 use mathlib.Core.Path.{sym, _∙_}
 use borrow.Author.Needs.{needs}
 use Rattle.hazards.proofs.ties.Earliest.earlier.Statement.{statement}
 use Rattle.hazards.proofs.ties.Earliest.earlier.Tie as tie
-use Rattle.hazards.proofs.ties.Earliest.earlier.Reads as reads
-use Rattle.hazards.proofs.ties.Earliest.earlier.Lts as lts
-use Rattle.hazards.proofs.ties.precedes.Reads as precedes-reads
 
--- src/ties.rt:84:34
 enum-told : tie.Need-enum-told
 enum-told c = search needs
 
--- src/ties.rt:85:29
 enum-known-self : tie.Need-enum-known-self
 enum-known-self c = search needs
 
--- src/ties.rt:86:20
 precedes-requires : tie.Need-precedes-requires
 precedes-requires c κs = search needs
 
--- src/ties.rt:80:5
 returns : tie.Need-returns
 unfolding earlier
 returns c = rw (c .enum-told .given .1)
 
--- src/ties.rt:80:5
 returns-2 : tie.Need-returns-2
 unfolding earlier
 returns-2 c = rw (c .before .before .before .self .given .1, sym (c .before .precedes .ensures) ∙ c .if1 .taken)
 
--- src/ties.rt:80:5
 returns-3 : tie.Need-returns-3
 unfolding earlier
 returns-3 c = rw (c .before .before .before .self .given .1, sym (c .before .precedes .ensures) ∙ c .if1 .left)
