@@ -5,8 +5,10 @@ use mathlib.Core.List.{List, [], _∷_, _++_, map}
 use Prim.Native.Nat.{ℕ, suc, _+_, _-_, _<_, _≤_}
 use native.Mathlib.Numerals.{add-one}
 use native.Mathlib.Omega.{arith}
-use lib.ListN.{length, take, drop, replicate, length-append, length-take, length-drop, length-map, length-replicate, replicate-append-replicate}
-use lib.Seq.{length-take-le, take-append-add, drop-append-add, take-append-le, drop-append-le, take-take, drop-drop, take-add, take-at, drop-at}
+use lib.ListN.{length, take, drop, replicate, length-append, length-take, length-drop, length-map}
+use lib.ListN.{length-replicate, replicate-append-replicate}
+use lib.Seq.{length-take-le, take-append-add, drop-append-add, take-append-le, drop-append-le}
+use lib.Seq.{take-take, drop-drop, take-add, take-at, drop-at}
 use Rattle.clocks.specs.Channels.{emptyChannel, onUsed, insertAt, removeAt}
 use Rattle.clocks.specs.declared.channels.HazardChannelState.{HazardChannelState}
 use Rattle.clocks.proofs.AscendingCauses.{putIn, takenOut}

@@ -1,5 +1,5 @@
 -- From a time up to 2^40 on, a clock's candidates, the delta of the event that it is rescheduled to and the winner's time are finite with a
--- clear sign, whatever its channels hold.
+-- clear sign, whatever its channels hold. So is the delta of the event that a sound clock has dispatched.
 use mathlib.Core.Path.{_≡_}
 use mathlib.Core.Bool.{true}
 use mathlib.Core.List.{List, [], _∷_}
@@ -26,8 +26,8 @@ use Rattle.hazards.proofs.Largest.{later-upto}
 use Rattle.hazards.proofs.WaitBounds.{invert-held}
 use Rattle.clocks.specs.Channels.{channelCandidate}
 use Rattle.clocks.specs.Clocks.{clockCandidates, earliestEvent}
-use Rattle.clocks.specs.Scheduling.{finalEvent}
-use Rattle.clocks.specs.Sound.{Each, none, next}
+use Rattle.clocks.specs.Scheduling.{finalEvent, onEventDispatched}
+use Rattle.clocks.specs.Sound.{Each, none, next, SoundClock}
 use Rattle.clocks.specs.declared.channels.HazardChannelState.{HazardChannelState}
 use Rattle.clocks.specs.declared.clocks.SurvivalClock.{SurvivalClock}
 use Rattle.clocks.specs.declared.scheduling.Censor.{Censor}
@@ -106,3 +106,11 @@ module _ (now : Float) (u : Upto (2 ^ 40) now) where
 
   pub winner-upto : {delta : Float} → Upto largest delta → Upto largest (add binary64 now delta)
   winner-upto d = add-upto largest u d later-lands
+
+-- ---- the event that is dispatched
+pub dispatched-upto : (k : SurvivalClock) → SoundClock k → Upto largest (onEventDispatched k .event .«delta_time»)
+unfolding onEventDispatched
+dispatched-upto k s =
+    either-way (k .«current_winner» .present)
+    (λ (p : k .«current_winner» .present ≡ true). rw p (clamped-difference-upto largest (s .winner p) (s .last-update) largest-stays))
+    (λ p. rw p (zero-upto largest))

@@ -1,3 +1,4 @@
+-- The laws of the clocks crate, one subject to a file.
 pub mod AscendingCauses
 pub mod Cases
 pub mod ChangedPlaces

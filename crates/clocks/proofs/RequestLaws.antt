@@ -1,14 +1,16 @@
--- What each method of a clock does to its scheduled event, winner and active flag. The engine's queue rests on these laws.
+-- What each method of a clock leaves alone, and what it does to its scheduled event, winner and active flag. The engine's queue rests on
+-- these laws.
 use mathlib.Core.Path.{_≡_, refl, ap, sym}
 use mathlib.Core.Bool.{Bool, true, false, true≢false}
 use mathlib.Core.List.{List}
 use Prim.Native.Nat.{ℕ}
 use lib.Ieee.{Float}
 use Rattle.hazards.specs.declared.ties.TieBreaker.{TieBreaker}
-use Rattle.clocks.specs.Channels.{placeOf, holdsAt}
-use Rattle.clocks.specs.Clocks.{notScheduled, noWinner, newClock, usedChannels, withChannels, removeChannel}
+use Rattle.clocks.specs.Channels.{settled, restarted, onUsed, placeOf, holdsAt}
+use Rattle.clocks.specs.Clocks.{notScheduled, noWinner, newClock, usedChannels, withChannels, withSchedule, removeChannel}
 use Rattle.clocks.specs.Setting.{setChannel}
 use Rattle.clocks.specs.Scheduling.{scheduledFor, reschedule, pause, resume, onEventDispatched}
+use Rattle.clocks.specs.declared.channels.HazardChannelState.{HazardChannelState}
 use Rattle.clocks.specs.declared.clocks.EntityId.{EntityId}
 use Rattle.clocks.specs.declared.clocks.HazardInterruptionPolicy.{HazardInterruptionPolicy}
 use Rattle.clocks.specs.declared.clocks.SurvivalClock.{SurvivalClock}
@@ -23,6 +25,33 @@ use Rattle.clocks.proofs.SettingOutcomes.{set-way}
 -- a clock that differs from k in its channels alone
 abbrev pub OnlyChannels : SurvivalClock → SurvivalClock → Type 0
 OnlyChannels k clock = clock ≡ withChannels k (clock .channels) (clock .«channel_count»)
+
+-- a clock that differs from k in its scheduled event, winner, active flag and last update alone: its channels are k's
+abbrev pub OnlySchedule : SurvivalClock → SurvivalClock → Type 0
+OnlySchedule k clock =
+    clock
+    ≡ withSchedule k (clock .«scheduled_event_id») (clock .«current_winner») (clock .«is_active») (clock .«last_update_time»)
+
+-- k with f on each used channel; by definition `settled` gives a channel another accumulated hazard and interval start, `restarted` another
+-- interval start
+abbrev pub changed : (HazardChannelState → HazardChannelState) → SurvivalClock → SurvivalClock
+changed f k = withChannels k (onUsed f (k .«channel_count») (k .channels)) (k .«channel_count»)
+
+-- process id, entity, policy, tie and scale are k's
+abbrev pub SameSettings : SurvivalClock → SurvivalClock → Type 0
+SameSettings k clock =
+    (clock .«process_id» ≡ k .«process_id») × (clock .«has_entity» ≡ k .«has_entity») × (clock .entity ≡ k .entity)
+    × (clock .policy ≡ k .policy) × (clock .«tie_breaker» ≡ k .«tie_breaker») × (clock .«tick_scale» ≡ k .«tick_scale»)
+
+schedule-settings : (k clock : SurvivalClock) → OnlySchedule k clock → SameSettings k clock
+schedule-settings k clock e = (
+  ap (λ (c : SurvivalClock). c .«process_id») e,
+  ap (λ (c : SurvivalClock). c .«has_entity») e,
+  ap (λ (c : SurvivalClock). c .entity) e,
+  ap (λ (c : SurvivalClock). c .policy) e,
+  ap (λ (c : SurvivalClock). c .«tie_breaker») e,
+  ap (λ (c : SurvivalClock). c .«tick_scale») e,
+)
 
 -- ---- new
 module _ (process : ℕ) (hasEntity : Bool) (entity : EntityId) (policy : HazardInterruptionPolicy) (tie : TieBreaker) (scale : Float) where
@@ -103,6 +132,10 @@ for-requests k now event index =
       active-stays = λ p. refl;
     }))
 
+for-rest : (k : SurvivalClock) (now : Float) (event : RealizedEvent) (index : ℕ) → OnlySchedule k (scheduledFor k now event index .clock)
+unfolding scheduledFor
+for-rest k now event index = either-way (event .present) (λ e. rw e) (λ e. rw e)
+
 module _ (k : SurvivalClock) (now : Float) (censor : Censor) (index : ℕ) where
   pub reschedule-requests : Requests k index (reschedule k now censor index)
   unfolding reschedule
@@ -121,6 +154,23 @@ module _ (k : SurvivalClock) (now : Float) (censor : Censor) (index : ℕ) where
         winner-stays = r .winner-stays;
         active-stays = r .active-stays;
       }
+
+  -- reschedule leaves the channels alone: nothing is settled
+  pub reschedule-rest : OnlySchedule k (reschedule k now censor index .clock)
+  unfolding reschedule
+  reschedule-rest = for-rest k now _ index
+
+  pub reschedule-settings : SameSettings k (reschedule k now censor index .clock)
+  reschedule-settings = schedule-settings k _ reschedule-rest
+
+-- resume changes the interval starts of the channels and nothing else of them
+module _ (k : SurvivalClock) (now : Float) (censor : Censor) (index : ℕ) where
+  pub resume-rest : OnlySchedule (changed (restarted now) k) (resume k now censor index .clock)
+  unfolding resume
+  resume-rest = reschedule-rest (changed (restarted now) k) now censor index
+
+  pub resume-settings : SameSettings k (resume k now censor index .clock)
+  resume-settings = schedule-settings (changed (restarted now) k) _ resume-rest
 
 -- ---- pause
 module _ (k : SurvivalClock) (now : Float) where
@@ -142,6 +192,15 @@ module _ (k : SurvivalClock) (now : Float) where
   pub pause-withdraws-nothing : k .«is_active» ≡ false → pause k now .withdrawn ≡ notScheduled
   pause-withdraws-nothing p = rw (pause-inactive k now p)
 
+  -- pause changes accumulated hazard and interval starts of the channels and nothing else of them
+  pub pause-rest : k .«is_active» ≡ true → OnlySchedule (changed (settled now) k) (pause k now .clock)
+  pause-rest p = rw (pause-active k now p)
+
+  pub pause-settings : SameSettings k (pause k now .clock)
+  pause-settings =
+      either-way (k .«is_active») (λ e. schedule-settings (changed (settled now) k) _ (pause-rest e))
+      (λ e. rw (pause-leaves e) (refl, refl, refl, refl, refl, refl))
+
 -- ---- on_event_dispatched
 module _ (k : SurvivalClock) where
   pub dispatched-scheduled : onEventDispatched k .clock .«scheduled_event_id» ≡ notScheduled
@@ -155,3 +214,11 @@ module _ (k : SurvivalClock) where
   pub dispatched-active : onEventDispatched k .clock .«is_active» ≡ false
   unfolding onEventDispatched
   dispatched-active = refl
+
+  -- the channels are left alone: nothing is settled
+  pub dispatched-rest : OnlySchedule k (onEventDispatched k .clock)
+  unfolding onEventDispatched
+  dispatched-rest = refl
+
+  pub dispatched-settings : SameSettings k (onEventDispatched k .clock)
+  dispatched-settings = schedule-settings k _ dispatched-rest

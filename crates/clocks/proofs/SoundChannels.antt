@@ -26,10 +26,22 @@ module _ (c : HazardChannelState) (s : SoundChannel c) where
     settled-hazard-upto = settled-upto (c .hazard) (c .intervals) hazard-sound (s .accumulated) (s .start) u
 
     pub settled-sound : SoundChannel (settled now c)
-    settled-sound = record { range = s .range; intervals = s .intervals; accumulated = settled-hazard-upto; threshold = s .threshold; start = u }
+    settled-sound = record {
+      range = s .range;
+      intervals = s .intervals;
+      accumulated = settled-hazard-upto;
+      threshold = s .threshold;
+      start = u;
+    }
 
     pub restarted-sound : SoundChannel (restarted now c)
-    restarted-sound = record { range = s .range; intervals = s .intervals; accumulated = s .accumulated; threshold = s .threshold; start = u }
+    restarted-sound = record {
+      range = s .range;
+      intervals = s .intervals;
+      accumulated = s .accumulated;
+      threshold = s .threshold;
+      start = u;
+    }
 
 -- the channel of a setting whose hazard passes 5 and 6, from a time on
 pub setting-sound : (s : CauseSetting) {accumulated threshold : Float} → rangeFault (s .hazard) (s .intervals) ≡ false

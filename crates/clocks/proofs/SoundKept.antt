@@ -64,7 +64,8 @@ module _ (k : SurvivalClock) (s : SoundClock k) where
   -- ---- on_event_dispatched
   pub dispatched-sound : SoundClock (onEventDispatched k .clock)
   unfolding onEventDispatched
-  dispatched-sound = schedule-sound k s notScheduled noWinner false (k .«last_update_time») (λ p. absurd (true≢false (sym p))) (s .last-update)
+  dispatched-sound =
+      schedule-sound k s notScheduled noWinner false (k .«last_update_time») (λ p. absurd (true≢false (sym p))) (s .last-update)
 
   -- ---- pause
   pub pause-sound : (now : Float) → T (isTime now) → SoundClock (pause k now .clock)

@@ -15,7 +15,8 @@ use Rattle.clocks.specs.Sound.{next, SoundChannel, SoundClock}
 use Rattle.clocks.specs.declared.channels.HazardChannelState.{HazardChannelState}
 use Rattle.clocks.specs.declared.clocks.SurvivalClock.{SurvivalClock}
 use Rattle.clocks.proofs.AscendingCauses.{NotAt, inserted-ascend, set-ascend, removed-ascend}
-use Rattle.clocks.proofs.ChangedPlaces.{inserted-places, inserted-used, inserted-unused, removed-places, removed-used, removed-unused}
+use Rattle.clocks.proofs.ChangedPlaces.{inserted-places, inserted-used, inserted-unused}
+use Rattle.clocks.proofs.ChangedPlaces.{removed-places, removed-used, removed-unused}
 use Rattle.clocks.proofs.EachLaws.{each-append, each-take, each-drop, each-set, each-at}
 use Rattle.clocks.proofs.Places.{place-most, holds-below}
 use Rattle.clocks.proofs.SoundClocks.{channels-sound}

@@ -7,6 +7,7 @@ use lib.Pow.{pow-add, pow-pos, pow-mono, shl-lt}
 use native.Mathlib.Omega.{arith}
 use lib.Ieee.Nearest.{div-same}
 use Rattle.clocks.specs.Ticks.{nearestUp}
+use Rattle.clocks.specs.declared.ticks.Ticks.{Ticks}
 
 cross : (M D a c : ℕ) → M * c ≡ a * D → (2 * M + D) * (2 * c) ≡ (2 * a + c) * (2 * D)
 cross M D a c h = omega arith
@@ -67,8 +68,11 @@ high-shift q e h =
     ∙ ap (λ (n : ℕ). q * n) (sym (pow-add 2 64 (e - 64)) ∙ ap (λ (n : ℕ). 2 ^ n) (omega arith))
 
 -- ---- a number held as two words
-pub low-word : (n low high : ℕ) → low < 2 ^ 64 → low + 2 ^ 64 * high ≡ n → n % 2 ^ 64 ≡ low
+low-word : (n low high : ℕ) → low < 2 ^ 64 → low + 2 ^ 64 * high ≡ n → n % 2 ^ 64 ≡ low
 low-word n low high h e = omega arith
 
-pub high-word : (n low high : ℕ) → low < 2 ^ 64 → low + 2 ^ 64 * high ≡ n → n / 2 ^ 64 ≡ high
+high-word : (n low high : ℕ) → low < 2 ^ 64 → low + 2 ^ 64 * high ≡ n → n / 2 ^ 64 ≡ high
 high-word n low high h e = omega arith
+
+pub two-words : (n : ℕ) (r : Ticks) → r .low < 2 ^ 64 → r .low + 2 ^ 64 * r .high ≡ n → r ≡ record { low = n % 2 ^ 64; high = n / 2 ^ 64 }
+two-words n r h e = simp (low-word n (r .low) (r .high) h e, high-word n (r .low) (r .high) h e)

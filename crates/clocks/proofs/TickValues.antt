@@ -9,7 +9,7 @@ use lib.Dec.{T, leb, ltb, eqb, lit≤}
 use lib.Pow.{pow-add, pow-pos, pow-mono, shl-lt, le-ones}
 use borrow.Author.Tests.{lt-leb, le-leb, lt-ltb, ne-eqb, leb-true, leb-false, ltb-true, ltb-false}
 use lib.Ieee.{Float, nan, inf, fin, up, down, odd, ofFields, ofBits, isNan, ne, binary64}
-use lib.Ieee.Compare.{differs-from-itself, nan-differs}
+use lib.Ieee.Compare.{differs-from-itself}
 use lib.Ieee.Exact.{HasValue, odd-sign}
 use lib.Ieee.Fits.{down-pos}
 use lib.Ieee.Bits.{nanBits-is, nanBits-above}
@@ -165,9 +165,3 @@ nan-is = refl
 
 pub nan-ticks : (x : Float) → ne x x ≡ true → wholeTicks x ≡ 0
 nan-ticks x h = ap wholeTicks (differs-from-itself x (subst T (sym h) tt)) ∙ nan-is
-
-pub not-nan : (x : Float) → ne x x ≡ false → T (not (isNan x))
-unfolding isNan
-not-nan nan h = subst T (sym nan-differs ∙ h) tt
-not-nan (inf s) h = tt
-not-nan (fin s m e) h = tt

@@ -1,5 +1,5 @@
--- Refusal 1's test of a clock is no invariant: a clock whose channel's interval starts at minus the largest value passes it, and a pause at 0
--- leaves an infinite accumulated hazard.
+-- Refusal 1's test of a clock is no invariant: a clock whose channel's interval starts at minus the largest value passes it, and a pause
+-- at 0 leaves an infinite accumulated hazard.
 use mathlib.Core.Path.{_≡_, refl}
 use mathlib.Core.Bool.{true, false}
 use mathlib.Core.List.{_∷_}
@@ -53,6 +53,6 @@ handedIn = record {
 }
 
 pub validation-not-kept : (validClock handedIn ≡ true) × (validClock (pause handedIn z .clock) ≡ false)
-unfolding validClock validChannel all ascendingFrom isFinite rangeFault intervalsFault ownRate mostPairs inRange zeroBits ascending pairsFrom
-    usedPairs pause onUsed settledHazard cumulativeHazard cumulativeOfKind notBelowZero add sub mul lt le toBits
+unfolding validClock validChannel all ascendingFrom isFinite rangeFault intervalsFault ownRate mostPairs inRange zeroBits ascending
+    pairsFrom usedPairs pause onUsed settledHazard cumulativeHazard cumulativeOfKind notBelowZero add sub mul lt le toBits
 validation-not-kept = (refl, refl)

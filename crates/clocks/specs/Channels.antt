@@ -1,4 +1,5 @@
--- The channels of a survival clock (HazardChannelState of hazard_clock.rs): eight places by ascending cause, of which the first count are used.
+-- Document 01, "Clocks": the channels of a survival clock (HazardChannelState of hazard_clock.rs), eight places by ascending cause, of which
+-- the first count are used.
 use mathlib.Core.Bool.{Bool, cond, _&&_}
 use mathlib.Core.List.{List, [], _∷_, _++_, map}
 use Prim.Native.Nat.{ℕ, zero, suc, _+_, _-_}

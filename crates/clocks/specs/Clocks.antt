@@ -18,7 +18,10 @@ use Rattle.clocks.specs.declared.clocks.ScheduledEvent.{ScheduledEvent}
 use Rattle.clocks.specs.declared.clocks.Winner.{Winner}
 use Rattle.clocks.specs.declared.clocks.SurvivalClock.{SurvivalClock}
 
--- no scheduled event; no winner
+-- no entity; no scheduled event; no winner
+abbrev pub noEntity : EntityId
+noEntity = record { index = 0; generation = 0 }
+
 abbrev pub notScheduled : ScheduledEvent
 notScheduled = record { present = false; index = 0 }
 
@@ -29,12 +32,12 @@ noWinner = record { present = false; «cause_id» = 0; time = z }
 abbrev pub one : Float
 one = fin false 1 (pos 0)
 
--- new: a scale at most 0 becomes 1.0
+-- new: a scale at most 0 becomes 1.0; without an entity none is kept
 unfoldable pub newClock : ℕ → Bool → EntityId → HazardInterruptionPolicy → TieBreaker → Float → SurvivalClock
 newClock process hasEntity entity policy tie scale = record {
   «process_id» = process;
   «has_entity» = hasEntity;
-  entity = entity;
+  entity = cond hasEntity entity noEntity;
   policy = policy;
   «tie_breaker» = tie;
   «tick_scale» = cond (le scale z) one scale;

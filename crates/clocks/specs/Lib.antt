@@ -1,3 +1,4 @@
+-- The definitions of the clocks crate, from ticks and channels up to the clock's methods, refusal 1's test and the invariant.
 pub mod Ticks
 pub mod Channels
 pub mod Clocks

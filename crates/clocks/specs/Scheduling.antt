@@ -1,5 +1,5 @@
--- reschedule, pause, resume and on_event_dispatched of hazard_clock.rs. The queue is the engine's: each method says which scheduled event it withdraws and
--- what it asks to have scheduled.
+-- Document 01, "Clocks": reschedule, pause, resume and on_event_dispatched of hazard_clock.rs. The queue is the engine's: each method says
+-- which scheduled event it withdraws and what it asks to have scheduled.
 use mathlib.Core.Bool.{Bool, true, false, cond}
 use mathlib.Core.List.{List}
 use Prim.Native.Nat.{ℕ}
@@ -34,8 +34,8 @@ realized cause delta censored = record {
   «is_censored» = censored;
 }
 
--- the event that a clock is rescheduled to: an event after the censor time is censored at it, one at the censor time is not; without a candidate a
--- censor time from now on is answered
+-- the event that a clock is rescheduled to: an event after the censor time is censored at it, one at the censor time is not; without a
+-- candidate a censor time from now on is answered
 unfoldable pub finalEvent : Earliest → Float → Censor → RealizedEvent
 finalEvent (Found c) now censor =
     let event = realized (c .«cause_id») (notBelowZero (sub binary64 (c .time) now)) false in

@@ -1,4 +1,5 @@
--- set_channel of hazard_clock.rs, with its draw, refused by 10, 15 and 16 (and by 1 for a position past the stream) with nothing changed.
+-- Document 01, "Clocks": set_channel of hazard_clock.rs, with its draw, refused by 10, 15 and 16 (and by 1 for a position past the stream)
+-- with nothing changed.
 use mathlib.Core.Bool.{Bool, true, cond}
 use mathlib.Core.List.{List}
 use Prim.Native.Nat.{ℕ, _+_}

@@ -8,7 +8,8 @@ use Rattle.clocks.specs.declared.ticks.Ticks.{Ticks}
 abbrev pub nearestUp : ℕ → ℕ → ℕ
 nearestUp n d = (2 * n + d) / (2 * d)
 
--- NaN or negative gives 0, 2^128 or more gives 2^128 - 1
+-- NaN or negative gives 0, 2^128 or more gives 2^128 - 1. fin s m e is the number m times 2^e, negative where s is set; 2^e is the fraction
+-- up e / down e
 unfoldable pub wholeTicks : Float → ℕ
 wholeTicks nan = 0
 wholeTicks (inf s) = cond s 0 (2 ^ 128 - 1)

@@ -61,7 +61,7 @@ pub(crate) fn accumulated_at<'a>(
     accumulated + added
 }
 
-pub fn settled_hazard(channel: HazardChannelState, now: f64) -> f64
+pub(crate) fn settled_hazard(channel: HazardChannelState, now: f64) -> f64
     ensures { λ r. ⌜ r ≡ settledHazard channel now ⌝ }
 {
     accumulated_at(

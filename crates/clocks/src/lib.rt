@@ -1,4 +1,5 @@
-// Survival clocks: channels with drawn thresholds, and the methods of hazard_clock.rs, each of which takes the clock by value and gives it back.
+// Survival clocks: channels with drawn thresholds, and the methods of hazard_clock.rs, each of which takes the clock by value and gives it
+// back.
 // Definitions: specs/, one file for each module here.
 pub mod channels;
 pub mod clocks;

@@ -86,14 +86,14 @@ fn words_of(x: f64) -> Ticks
     ticks_of_bits(f64::to_bits(x))
 }
 
-pub fn ticks_of(x: f64) -> Ticks
+pub(crate) fn ticks_of(x: f64) -> Ticks
     ensures { λ r. ⌜ r ≡ ticksOf x ⌝ }
 {
     words_of(x)
 }
 
 // The ticks of an event: (now + delta) times scale.
-pub fn ticks_at(now: f64, delta: f64, scale: f64) -> Ticks
+pub(crate) fn ticks_at(now: f64, delta: f64, scale: f64) -> Ticks
     ensures { λ r. ⌜ r ≡ ticksAt now delta scale ⌝ }
 {
     ticks_of((now + delta) * scale)

@@ -3,7 +3,7 @@ use Prim.Native.Nat.{_^_, _<_}
 use native.Mathlib.Omega.{arith}
 use borrow.Author.Needs.{needs}
 use Rattle.clocks.specs.Ticks.{wholeTicks}
-use Rattle.clocks.proofs.TickRounding.{low-word, high-word}
+use Rattle.clocks.proofs.TickRounding.{two-words}
 use Rattle.clocks.proofs.ticks.ticks_of.Statement.{statement}
 use Rattle.clocks.proofs.ticks.ticks_of.Tie as tie
 
@@ -13,9 +13,8 @@ words-of-requires c κs = search needs
 returns : tie.Need-returns
 returns c =
     let r = c .words-of .result in
-    let n = wholeTicks (c .before .args .x) in
     let small : r .low < 2 ^ 64 = omega (arith, c .words-of .ok) in
-    simp (low-word n (r .low) (r .high) small (c .words-of .ensures), high-word n (r .low) (r .high) small (c .words-of .ensures))
+    two-words (wholeTicks (c .before .args .x)) r small (c .words-of .ensures)
 
 pub ticks-of-spec : {M : Type 1} → statement M
 ticks-of-spec = tie.close (tie.spec words-of-requires returns)

@@ -4,7 +4,8 @@ use lib.Dec.{T}
 use lib.Ieee.{binary64}
 use lib.Ieee.Bits.{ofBits-toBits}
 use Rattle.clocks.specs.Ticks.{wholeTicks}
-use Rattle.clocks.proofs.TickValues.{nan-ticks, not-nan}
+use Rattle.hazards.proofs.Patterns.{same-no-nan}
+use Rattle.clocks.proofs.TickValues.{nan-ticks}
 use borrow.Author.Needs.{needs}
 use Rattle.clocks.proofs.ticks.words_of.Statement.{statement}
 use Rattle.clocks.proofs.ticks.words_of.Tie as tie
@@ -13,7 +14,7 @@ returns : tie.Need-returns
 returns c = sym (nan-ticks _ (c .if1 .taken))
 
 float-to-bits-ticks-of-bits : tie.Need-float-to-bits-ticks-of-bits
-float-to-bits-ticks-of-bits c = not-nan (c .before .args .x) (c .if1 .left)
+float-to-bits-ticks-of-bits c = same-no-nan (c .before .args .x) (c .if1 .left)
 
 ticks-of-bits-requires : tie.Need-ticks-of-bits-requires
 ticks-of-bits-requires c κs = search needs
