@@ -337,11 +337,11 @@ static inline size_t olgaemuri_width(uint8_t code)
 
 /* Runs and answers. */
 
-/* How many bytes of a run's journal are applied commands. */
+/* How many bytes of a run's journal are applied commands: those up to the first byte that is no command's code. */
 static inline size_t olgaemuri_applied_length(const uint8_t *journal, size_t journal_len)
 {
     size_t length = 0;
-    while (length < journal_len && journal[length] != 0)
+    while (length < journal_len && olgaemuri_width(journal[length]) != 0)
         length += olgaemuri_width(journal[length]);
     return length;
 }
