@@ -4,16 +4,25 @@ use super::program::{example, olgaemuri, root, scratch};
 use std::fs;
 
 /// The file that holds the tour, below the repository's root.
-const README: &str = "docs/README-draft.md";
+const README: &str = "README.md";
 
-/// The blocks of a document between three backticks that name no language.
-fn blocks(document: &str) -> Vec<String> {
-    let text = fs::read_to_string(root().join(document)).unwrap();
+/// A file below the repository's root.
+fn text_of(file: &str) -> String {
+    fs::read_to_string(root().join(file)).unwrap_or_else(|error| panic!("{file}: {error}"))
+}
+
+/// The blocks of a document between three backticks that name this language, or none.
+fn blocks_in(document: &str, language: &str) -> Vec<String> {
+    let text = text_of(document);
     let fenced = text.split("```").skip(1).step_by(2);
     fenced
-        .filter_map(|block| block.strip_prefix('\n'))
+        .filter_map(|block| block.strip_prefix(language)?.strip_prefix('\n'))
         .map(str::to_string)
         .collect()
+}
+
+fn blocks(document: &str) -> Vec<String> {
+    blocks_in(document, "")
 }
 
 #[test]
@@ -47,6 +56,38 @@ fn the_lines_of_the_example_are_in_its_output() {
     assert_eq!(tables.len(), 2);
     for line in tables.concat().lines().filter(|line| *line != "...") {
         assert!(stored.lines().any(|other| other == line), "{line}");
+    }
+}
+
+/// A Rust program without what its layout is free in.
+fn without_layout(program: &str) -> String {
+    program
+        .split_whitespace()
+        .collect::<String>()
+        .replace(",}", "}")
+}
+
+/// The program itself is run by tests/embedding.rs.
+#[test]
+fn the_rust_program_is_the_one_that_is_tested() {
+    let shown = blocks_in(README, "rust");
+    assert_eq!(shown.len(), 1);
+    let tested = text_of("host/olgaemuri/examples/embed.rs");
+    assert_eq!(without_layout(&shown[0]), without_layout(&tested));
+}
+
+#[test]
+fn every_link_leads_to_a_file() {
+    let text = text_of(README);
+    let links: Vec<&str> = text
+        .split("](")
+        .skip(1)
+        .filter_map(|rest| rest.split(')').next())
+        .collect();
+    assert!(links.contains(&"examples/press-shop.svg"));
+    assert!(links.contains(&"docs/TRUSTED.md"));
+    for link in links {
+        assert!(root().join(link).is_file(), "{link}");
     }
 }
 
