@@ -113,3 +113,56 @@ fn the_bad_line_in_the_format_is_told_like_that() {
     fs::remove_file(&file).unwrap();
     assert_eq!(ran.err, told.replace("shop.session", path));
 }
+
+/// What stands between a quote and the next in JSON, where a colon follows.
+fn keys(json: &str) -> Vec<&str> {
+    let parts: Vec<&str> = json.split('"').collect();
+    let named = parts.windows(2).filter(|pair| pair[1].starts_with(": "));
+    named.map(|pair| pair[0]).collect()
+}
+
+#[test]
+fn every_field_of_csv_and_json_is_in_the_format() {
+    let text = text_of(FORMAT);
+    let (_, fields) = text.split_once("## Answers as CSV and JSON").unwrap();
+    let csv = text_of("examples/press-shop.csv");
+    let json = text_of("examples/press-shop.json");
+    let columns: Vec<&str> = csv.lines().next().unwrap().split(',').collect();
+    let keys = keys(&json);
+    assert!(columns.len() == 18 && keys.contains(&"scheduled_at"));
+    for name in columns.into_iter().chain(keys) {
+        assert!(fields.contains(&format!("`{name}`")), "{name}");
+    }
+}
+
+/// What "What the commands do" says: behind one press that is due at tick 4, these lines, and the tick at which it is due then.
+const DUE: [(&str, u32); 7] = [
+    ("reschedule machine=0 now=2", 6),
+    ("pause machine=0 now=2\nresume machine=0 now=2", 4),
+    (
+        "pause machine=0 now=1\npause machine=0 now=2\nresume machine=0 now=2",
+        5,
+    ),
+    (
+        "set machine=0 cause=1 now=2 hazard=constant rate=1\nreschedule machine=0 now=2",
+        3,
+    ),
+    ("remove machine=0 cause=1", 4),
+    ("deliver\nresume machine=0 now=10", 14),
+    (
+        "deliver\nset machine=0 cause=1 now=10 hazard=constant rate=0.5\nresume machine=0 now=10",
+        16,
+    ),
+];
+
+#[test]
+fn what_the_commands_do() {
+    let press = "thresholds 2 3\ncreate machine=0 policy=retain\n\
+        set machine=0 cause=1 now=0 hazard=constant rate=0.5\nreschedule machine=0 now=0\n";
+    for (lines, tick) in DUE {
+        let ran = olgaemuri(&["interactive"], format!("{press}{lines}\n").as_bytes());
+        let status = ran.text().lines().last().unwrap();
+        let due = format!("; scheduled: machine 0 by cause 1 at tick {tick}; ");
+        assert!(status.contains(&due), "{lines}\n{status}");
+    }
+}
