@@ -60,10 +60,12 @@ enum olgaemuri_code {
     OLGAEMURI_CREATE = 1,     /* makes a clock */
     OLGAEMURI_SET = 2,        /* adds a cause to a clock or changes its hazard */
     OLGAEMURI_REMOVE = 3,     /* takes a cause off a clock; it may be absent */
-    OLGAEMURI_RESCHEDULE = 4, /* finds the earliest event and schedules it in place of one that was pending */
-    OLGAEMURI_PAUSE = 5,      /* withdraws the event and keeps what was used up of the thresholds */
+    OLGAEMURI_RESCHEDULE = 4, /* finds the earliest event from now on and schedules it in place of one that was pending; nothing
+                                 counts as used up since the last SET, PAUSE or RESUME */
+    OLGAEMURI_PAUSE = 5,      /* withdraws the event and counts what was used up of the thresholds */
     OLGAEMURI_RESUME = 6,     /* goes on after a pause, as RESCHEDULE does */
-    OLGAEMURI_DELIVER = 7,    /* takes the earliest pending event out of the queue */
+    OLGAEMURI_DELIVER = 7,    /* takes the earliest pending event out of the queue; its clock stops, and a SET gives the cause
+                                 its next threshold */
     OLGAEMURI_UNDO = 8        /* reverts the last applied command */
 };
 
@@ -337,11 +339,11 @@ static inline size_t olgaemuri_width(uint8_t code)
 
 /* Runs and answers. */
 
-/* How many bytes of a run's journal are applied commands. */
+/* How many bytes of a run's journal are applied commands: those up to the first byte that is no command's code. */
 static inline size_t olgaemuri_applied_length(const uint8_t *journal, size_t journal_len)
 {
     size_t length = 0;
-    while (length < journal_len && journal[length] != 0)
+    while (length < journal_len && olgaemuri_width(journal[length]) != 0)
         length += olgaemuri_width(journal[length]);
     return length;
 }

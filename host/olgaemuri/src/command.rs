@@ -56,7 +56,8 @@ pub enum Command {
         /// The cause's number.
         cause: u32,
     },
-    /// Finds the clock's earliest event and schedules it in place of one that was pending.
+    /// Finds the clock's earliest event from now on and schedules it in place of one that was pending. Nothing counts as used up
+    /// since the last SET, PAUSE or RESUME; to have it counted, give PAUSE and RESUME at the present time instead.
     Reschedule {
         /// The clock's number.
         clock: u8,
@@ -67,7 +68,7 @@ pub enum Command {
         /// Decides between events at the same tick; the lower one is delivered first.
         priority: i32,
     },
-    /// Stops a clock: its event is withdrawn and what was used up of the thresholds is kept.
+    /// Stops a clock: its event is withdrawn, and what was used up of the thresholds is counted.
     Pause {
         /// The clock's number.
         clock: u8,
@@ -85,7 +86,7 @@ pub enum Command {
         /// Decides between events at the same tick; the lower one is delivered first.
         priority: i32,
     },
-    /// Takes the earliest pending event out of the queue.
+    /// Takes the earliest pending event out of the queue; its clock stops. The thresholds stay: a SET gives the cause its next one.
     Deliver,
     /// Reverts the last applied command.
     Undo,

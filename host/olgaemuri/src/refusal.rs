@@ -87,12 +87,14 @@ impl Refusal {
             Self::UnknownCode => "no command has this code",
             Self::CutShort => "the command is cut short",
             Self::InvalidChoice => "a choice is off its list, or an unused field is not zero",
-            Self::OutOfRange => "a time, rate or scale is out of range",
+            Self::OutOfRange => {
+                "a time is not from +0.0 to 2^40, or a rate or scale is not finite or above 2^40 in size"
+            }
             Self::InvalidPairs => {
                 "the pairs are not valid: at most eight, with ends above 0 that ascend"
             }
             Self::InvalidName => {
-                "there is no such clock, or the cause is the one kept for censored events"
+                "the clock's number is above 15, or the cause is the one kept for censored events"
             }
             Self::ClockPresent => "the clock is there already",
             Self::ClockAbsent => "the clock has not been created",

@@ -120,18 +120,22 @@ fn changed(command: &Command, at: usize, byte: u8) -> Result<Command, Refusal> {
     Command::from_bytes(&bytes)
 }
 
-#[test]
-fn fields_that_no_command_has() {
-    let create = common::create(Policy::Restart);
-    let reschedule = common::reschedule(1.0);
-    let zero = Command::Set {
+/// SET of cause 1 at 0.
+fn set_to(hazard: Hazard) -> Command {
+    Command::Set {
         clock: 0,
         cause: 1,
         priority: 0,
-        hazard: Hazard::Zero,
+        hazard,
         now: 0.0,
-    };
-    let set = common::set(1, 0.5, 0.0);
+    }
+}
+
+#[test]
+fn choices_that_no_command_has() {
+    let create = common::create(Policy::Restart);
+    let reschedule = common::reschedule(1.0);
+    let zero = set_to(Hazard::Zero);
     // policy, tie, has-entity, entity; has-censor, censor; kind, first of kind 0
     let choices =
         [(10, 2), (11, 3), (20, 2), (21, 1), (32, 1)].map(|(at, byte)| changed(&create, at, byte));
@@ -140,22 +144,20 @@ fn fields_that_no_command_has() {
     for read in choices.into_iter().chain(censors).chain(kinds) {
         assert_eq!(read, Err(Refusal::InvalidChoice));
     }
-    // count of kind 1, a pair of kind 1, the last pair's sign bit, count above 8 of kind 3
-    let piecewise = Hazard::PiecewiseConstant {
+}
+
+#[test]
+fn pairs_that_no_command_has() {
+    let constant = set_to(Hazard::Constant(0.5));
+    let piecewise = set_to(Hazard::PiecewiseConstant {
         pairs: vec![],
         trailing: 0.0,
-    };
-    let piecewise = Command::Set {
-        clock: 0,
-        cause: 1,
-        priority: 0,
-        hazard: piecewise,
-        now: 0.0,
-    };
+    });
+    // count of kind 1, a pair of kind 1, the last pair's sign bit, count above 8 of kind 3
     for read in [
-        changed(&set, 27, 1),
-        changed(&set, 28, 1),
-        changed(&set, 155, 0x80),
+        changed(&constant, 27, 1),
+        changed(&constant, 28, 1),
+        changed(&constant, 155, 0x80),
         changed(&piecewise, 27, 9),
     ] {
         assert_eq!(read, Err(Refusal::InvalidPairs));

@@ -76,7 +76,7 @@ static void refusals(struct session *s)
     run_and_print(s, "refused");
 }
 
-/* 17 and 18, and an empty list in no buffers at all. */
+/* 17 and 18, an empty list in no buffers at all, and bytes that no run has written. */
 static void short_buffers(struct session *s)
 {
     struct olgaemuri_result result;
@@ -87,6 +87,8 @@ static void short_buffers(struct session *s)
     printf("15 stream bytes: returned %u, answered %" PRIu64 "\n", number, result.answered);
     number = olgaemuri_run(NULL, 0, NULL, 0, NULL, 0, NULL, 0, &result);
     printf("no bytes: returned %u, answered %" PRIu64 "\n", number, result.answered);
+    static const uint8_t no_journal[] = {OLGAEMURI_DELIVER, 9, OLGAEMURI_DELIVER};
+    printf("no journal of a run: %zu bytes\n", olgaemuri_applied_length(no_journal, sizeof no_journal));
 }
 
 int main(void)

@@ -79,6 +79,21 @@ mod tests {
         assert_eq!(to_bytes(&back), sample());
     }
 
+    /// As docs/SESSION-FORMAT.md sets it out.
+    #[test]
+    fn every_byte_has_its_place() {
+        let mut expected = b"OLGAEMU\x01".to_vec();
+        expected.extend([77, 0, 0, 0, 0, 0, 0, 0]);
+        expected.extend([4, 0, 0, 0, 0, 0, 0, 0]);
+        expected.extend([16, 0, 0, 0, 0, 0, 0, 0]);
+        expected.extend([7, 8, 9, 1]);
+        expected.extend([0, 0, 0, 0, 0, 0, 0xf0, 0x3f]);
+        expected.extend([0, 0, 0, 0, 0, 0, 0xf8, 0x7f]);
+        assert_eq!(sample(), expected);
+        let none = SessionText::from_parts(&[], Vec::new(), None);
+        assert_eq!(to_bytes(&none)[8..16], [255; 8]);
+    }
+
     #[test]
     fn every_shorter_file_is_refused() {
         let bytes = sample();

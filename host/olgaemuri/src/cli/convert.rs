@@ -1,7 +1,7 @@
 //! `olgaemuri convert`: sessions from text to bytes and back.
 
 use super::arguments::{Arguments, Known};
-use super::files::{called, load_text, read, write};
+use super::files::{called, load_text, read, same_file, write};
 use super::text::session::SessionText;
 use super::{Failure, container, help};
 
@@ -58,6 +58,12 @@ pub fn convert(arguments: &Arguments) -> Result<u8, Failure> {
         ));
     };
     let to = form(to)?;
+    if to != Form::Text && same_file(input, output) {
+        return Err(Failure::usage(
+            "OUTPUT is INPUT, whose comments and names would be lost",
+            help::CONVERT,
+        ));
+    }
     let from = arguments.value("--from").map(form).transpose()?;
     let session = session(input, from)?;
     let bytes = match to {

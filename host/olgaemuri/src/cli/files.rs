@@ -49,6 +49,12 @@ pub fn load_text(file: &str, bytes: &[u8]) -> Result<SessionText, String> {
     session.map_err(|faults| fault_list(&faults))
 }
 
+/// Whether the two names lead to one file.
+pub fn same_file(one: &str, other: &str) -> bool {
+    let path = |file: &str| fs::canonicalize(file).ok().filter(|_| file != "-");
+    path(one).is_some_and(|one| path(other) == Some(one))
+}
+
 /// How a file is called in messages.
 pub fn called(file: &str) -> &str {
     if file == "-" { "standard input" } else { file }

@@ -22,7 +22,7 @@ pub fn string(text: &str) -> String {
     out + "\""
 }
 
-/// A finite float; null for another, which no answer has.
+/// A finite float; null for another, which no answer has and no accepted command.
 fn number(value: f64) -> String {
     if value.is_finite() {
         float_text(value)
@@ -90,6 +90,7 @@ pub fn report_json(report: &Report) -> String {
 fn row_object(row: &Row, names: &Names) -> String {
     let (step, answer) = (&row.step, &row.step.answer);
     let text = item_text(&step.input.clone().into()).replace('\n', " ");
+    let now = step.input.command().and_then(|command| command.now());
     let event = |text: String| {
         if answer.event {
             text
@@ -107,6 +108,7 @@ fn row_object(row: &Row, names: &Names) -> String {
             "machine_name",
             maybe(step.clock, |machine| string(&names.machine(machine))),
         ),
+        ("now", maybe(now, number)),
         ("number", answer.number().to_string()),
         (
             "refusal",

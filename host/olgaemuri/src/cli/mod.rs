@@ -24,6 +24,7 @@ mod wording;
 use arguments::{Arguments, Known};
 use std::ffi::OsString;
 use std::io::{IsTerminal, stdin};
+use std::path::Path;
 use std::process::ExitCode;
 
 /// Why nothing could be done; for people.
@@ -86,14 +87,19 @@ fn dispatch(words: &[String]) -> Result<u8, Failure> {
             )?;
             Ok(0)
         }
-        other => {
-            let hint = suggest::hint(other, &SUBCOMMANDS);
-            Err(Failure::usage(
-                &format!("unknown subcommand `{other}`{hint}"),
-                help::GENERAL,
-            ))
-        }
+        other => Err(unknown(other)),
     }
+}
+
+/// A first word that is no subcommand; a session's name is probably one to be run.
+fn unknown(word: &str) -> Failure {
+    let otherwise = if Path::new(word).is_file() {
+        format!("; did you mean `olgaemuri run {word}`?")
+    } else {
+        String::new()
+    };
+    let hint = suggest::hint_or(word, &SUBCOMMANDS, &otherwise);
+    Failure::usage(&format!("unknown subcommand `{word}`{hint}"), help::GENERAL)
 }
 
 /// On a terminal a session begins; elsewhere nobody is there to type one.

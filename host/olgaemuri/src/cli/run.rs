@@ -2,7 +2,7 @@
 
 use super::arguments::{Arguments, Known};
 use super::csv::report_csv;
-use super::files::{called, load, write};
+use super::files::{called, load, same_file, write};
 use super::json::report_json;
 use super::progress::watched;
 use super::report::Report;
@@ -35,18 +35,7 @@ pub const OPTIONS: [Known; 5] = [
 ];
 
 pub fn run(arguments: &Arguments) -> Result<u8, Failure> {
-    let [file] = arguments.files.as_slice() else {
-        return Err(Failure::usage(
-            "`olgaemuri run` takes one FILE, or - for standard input",
-            help::RUN,
-        ));
-    };
-    if arguments.has("--csv") && arguments.has("--json") {
-        return Err(Failure::usage(
-            "`--csv` and `--json` do not go together",
-            help::RUN,
-        ));
-    }
+    let file = session_file(arguments).map_err(|message| Failure::usage(message, help::RUN))?;
     let report = reported(file)?;
     let text = if arguments.has("--csv") {
         report_csv(&report)
@@ -65,6 +54,23 @@ pub fn run(arguments: &Arguments) -> Result<u8, Failure> {
         write(out, picture(&report, &title).as_bytes())?;
     }
     Ok(0)
+}
+
+/// The one file that is to be run, or what is wrong with the words.
+fn session_file(arguments: &Arguments) -> Result<&str, &'static str> {
+    let [file] = arguments.files.as_slice() else {
+        return Err("`olgaemuri run` takes one FILE, or - for standard input");
+    };
+    let picture = arguments.value("--svg");
+    if arguments.has("--csv") && arguments.has("--json") {
+        Err("`--csv` and `--json` do not go together")
+    } else if arguments.has("--title") && picture.is_none() {
+        Err("`--title` needs `--svg OUT`: it is the picture's")
+    } else if picture.is_some_and(|out| same_file(file, out)) {
+        Err("`--svg` names the session itself, which the picture would write over")
+    } else {
+        Ok(file)
+    }
 }
 
 /// Loads and runs a session.

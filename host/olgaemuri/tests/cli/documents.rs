@@ -4,16 +4,25 @@ use super::program::{example, olgaemuri, root, scratch};
 use std::fs;
 
 /// The file that holds the tour, below the repository's root.
-const README: &str = "docs/README-draft.md";
+const README: &str = "README.md";
 
-/// The blocks of a document between three backticks that name no language.
-fn blocks(document: &str) -> Vec<String> {
-    let text = fs::read_to_string(root().join(document)).unwrap();
+/// A file below the repository's root.
+fn text_of(file: &str) -> String {
+    fs::read_to_string(root().join(file)).unwrap_or_else(|error| panic!("{file}: {error}"))
+}
+
+/// The blocks of a document between three backticks that name this language, or none.
+fn blocks_in(document: &str, language: &str) -> Vec<String> {
+    let text = text_of(document);
     let fenced = text.split("```").skip(1).step_by(2);
     fenced
-        .filter_map(|block| block.strip_prefix('\n'))
+        .filter_map(|block| block.strip_prefix(language)?.strip_prefix('\n'))
         .map(str::to_string)
         .collect()
+}
+
+fn blocks(document: &str) -> Vec<String> {
+    blocks_in(document, "")
 }
 
 #[test]
@@ -50,6 +59,38 @@ fn the_lines_of_the_example_are_in_its_output() {
     }
 }
 
+/// A Rust program without what its layout is free in.
+fn without_layout(program: &str) -> String {
+    program
+        .split_whitespace()
+        .collect::<String>()
+        .replace(",}", "}")
+}
+
+/// The program itself is run by tests/embedding.rs.
+#[test]
+fn the_rust_program_is_the_one_that_is_tested() {
+    let shown = blocks_in(README, "rust");
+    assert_eq!(shown.len(), 1);
+    let tested = text_of("host/olgaemuri/examples/embed.rs");
+    assert_eq!(without_layout(&shown[0]), without_layout(&tested));
+}
+
+#[test]
+fn every_link_leads_to_a_file() {
+    let text = text_of(README);
+    let links: Vec<&str> = text
+        .split("](")
+        .skip(1)
+        .filter_map(|rest| rest.split(')').next())
+        .collect();
+    assert!(links.contains(&"examples/press-shop.svg"));
+    assert!(links.contains(&"docs/TRUSTED.md"));
+    for link in links {
+        assert!(root().join(link).is_file(), "{link}");
+    }
+}
+
 const FORMAT: &str = "docs/SESSION-FORMAT.md";
 
 #[test]
@@ -71,4 +112,57 @@ fn the_bad_line_in_the_format_is_told_like_that() {
     let ran = olgaemuri(&["run", path], b"");
     fs::remove_file(&file).unwrap();
     assert_eq!(ran.err, told.replace("shop.session", path));
+}
+
+/// What stands between a quote and the next in JSON, where a colon follows.
+fn keys(json: &str) -> Vec<&str> {
+    let parts: Vec<&str> = json.split('"').collect();
+    let named = parts.windows(2).filter(|pair| pair[1].starts_with(": "));
+    named.map(|pair| pair[0]).collect()
+}
+
+#[test]
+fn every_field_of_csv_and_json_is_in_the_format() {
+    let text = text_of(FORMAT);
+    let (_, fields) = text.split_once("## Answers as CSV and JSON").unwrap();
+    let csv = text_of("examples/press-shop.csv");
+    let json = text_of("examples/press-shop.json");
+    let columns: Vec<&str> = csv.lines().next().unwrap().split(',').collect();
+    let keys = keys(&json);
+    assert!(columns.len() == 18 && keys.contains(&"scheduled_at"));
+    for name in columns.into_iter().chain(keys) {
+        assert!(fields.contains(&format!("`{name}`")), "{name}");
+    }
+}
+
+/// What "What the commands do" says: behind one press that is due at tick 4, these lines, and the tick at which it is due then.
+const DUE: [(&str, u32); 7] = [
+    ("reschedule machine=0 now=2", 6),
+    ("pause machine=0 now=2\nresume machine=0 now=2", 4),
+    (
+        "pause machine=0 now=1\npause machine=0 now=2\nresume machine=0 now=2",
+        5,
+    ),
+    (
+        "set machine=0 cause=1 now=2 hazard=constant rate=1\nreschedule machine=0 now=2",
+        3,
+    ),
+    ("remove machine=0 cause=1", 4),
+    ("deliver\nresume machine=0 now=10", 14),
+    (
+        "deliver\nset machine=0 cause=1 now=10 hazard=constant rate=0.5\nresume machine=0 now=10",
+        16,
+    ),
+];
+
+#[test]
+fn what_the_commands_do() {
+    let press = "thresholds 2 3\ncreate machine=0 policy=retain\n\
+        set machine=0 cause=1 now=0 hazard=constant rate=0.5\nreschedule machine=0 now=0\n";
+    for (lines, tick) in DUE {
+        let ran = olgaemuri(&["interactive"], format!("{press}{lines}\n").as_bytes());
+        let status = ran.text().lines().last().unwrap();
+        let due = format!("; scheduled: machine 0 by cause 1 at tick {tick}; ");
+        assert!(status.contains(&due), "{lines}\n{status}");
+    }
 }

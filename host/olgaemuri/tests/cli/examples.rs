@@ -107,6 +107,22 @@ fn the_answers_are_well_formed_json() {
 }
 
 #[test]
+fn odd_names_come_back_from_json() {
+    let session =
+        "machine 0 \"a \\\"b\\\" \\\\ \u{7} \u{1f527}\"\npause machine=0 now=0x7ff8000000000000\n";
+    let ran = olgaemuri(&["run", "-", "--json"], session.as_bytes());
+    let report = json::parse(ran.text()).unwrap();
+    let answer = &report.get("answers").array()[0];
+    assert_eq!(
+        answer.get("machine_name").text(),
+        "a \"b\" \\ \u{7} \u{1f527}"
+    );
+    // a NaN, which JSON cannot say
+    assert_eq!(*answer.get("now"), Value::Null);
+    assert_eq!(answer.get("number").number(), 5.0);
+}
+
+#[test]
 fn the_csv_has_as_many_cells_in_every_line() {
     let stored = String::from_utf8(example("press-shop.csv")).unwrap();
     let cells = |line: &str| {

@@ -166,10 +166,14 @@ fn files_are_not_written_over_unasked() {
         &[],
         &format!("thresholds 1\nsave {path} overwrite\nthresholds 2\nsave {path}\n"),
     );
-    assert_eq!(
-        fs::read_to_string(&file).unwrap(),
-        "thresholds 1\nthresholds 2\n"
-    );
+    let saved = "thresholds 1\nthresholds 2\n";
+    assert_eq!(fs::read_to_string(&file).unwrap(), saved);
+    let out = typed(&[], &format!("save {path} overwrite\npicture {path}\n"));
+    let told = format!("{path} exists; `picture {path} overwrite` writes over it\n");
+    assert!(out.ends_with(&told), "{out}");
+    assert_eq!(fs::read_to_string(&file).unwrap(), "");
+    typed(&[], &format!("picture {path} overwrite\npicture {path}\n"));
+    assert!(fs::read_to_string(&file).unwrap().starts_with("<svg "));
     fs::remove_file(&file).unwrap();
 }
 
@@ -198,7 +202,8 @@ fn wrong_words_and_help() {
         "typed:5:15: unknown operand `casue`; did you mean `cause`?",
         "  undo            takes the last command back",
         "  reschedule machine=3 now=T [censor=T] [priority=0]",
-        "\n  pause machine=3 now=T\nunknown word `me`",
+        "\n  pause machine=3 now=T      withdraws it; what was used up of the thresholds\n",
+        "unknown word `me`",
         "a file's name must follow",
     ] {
         assert!(out.contains(expected), "{expected}\n{out}");

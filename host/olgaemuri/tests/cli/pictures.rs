@@ -20,15 +20,6 @@ fn run(session: &[u8], name: &str) -> (Value, Element) {
     (json::parse(ran.text()).unwrap(), picture)
 }
 
-/// The value of an operand in a command's text.
-fn operand(answer: &Value, name: &str) -> f64 {
-    let words = answer.get("text").text().split_whitespace();
-    let value = words
-        .filter_map(|word| word.split_once('='))
-        .find(|pair| pair.0 == name);
-    value.unwrap().1.parse().unwrap()
-}
-
 /// The events by the answers of the applied commands alone.
 fn answered_events(answers: &[Value]) -> Vec<Event> {
     let mut events: Vec<Event> = Vec::new();
@@ -50,7 +41,7 @@ fn answered_events(answers: &[Value]) -> Vec<Event> {
         }
         if answer.get("event").is_true() && !delivered {
             pending[machine] = Some(events.len());
-            let time = operand(answer, "now") + answer.get("delta").number();
+            let time = answer.get("now").number() + answer.get("delta").number();
             let (cause, ticks) = (
                 answer.get("cause").number(),
                 answer.get("ticks").text().to_string(),

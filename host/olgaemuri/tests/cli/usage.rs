@@ -1,6 +1,7 @@
 //! Help, wrong words, bad files and exit statuses.
 
-use super::program::olgaemuri;
+use super::program::{olgaemuri, scratch};
+use std::fs;
 
 #[test]
 fn help_is_there_for_everything() {
@@ -36,6 +37,49 @@ fn help_is_there_for_everything() {
 }
 
 #[test]
+fn help_on_a_word_of_the_format() {
+    let help = olgaemuri(&["help", "set"], b"");
+    assert_eq!(help.status, 0);
+    assert!(
+        help.text()
+            .lines()
+            .all(|line| line.starts_with("  set ") || line.starts_with("      "))
+    );
+    assert!(help.text().contains("hazard=gompertz eta=R"));
+    let help = olgaemuri(&["help", "policy"], b"");
+    assert!(help.text().starts_with("  policy    what `set` does"));
+    assert_eq!(olgaemuri(&["help", "A"], b"").status, 2);
+}
+
+#[test]
+fn the_session_is_not_written_over() {
+    let file = scratch("own.session");
+    let path = file.to_str().unwrap();
+    fs::write(&file, "undo # kept\n").unwrap();
+    let beside = format!(
+        "{}/./{}",
+        file.parent().unwrap().display(),
+        file.file_name().unwrap().display()
+    );
+    for words in [
+        ["run", path, "--svg", &beside],
+        ["convert", "--to=bytes", path, &beside],
+        ["convert", "--to=bare", path, &beside],
+    ] {
+        let ran = olgaemuri(&words, b"");
+        assert_eq!((ran.status, ran.text()), (2, ""), "{words:?}");
+        assert_eq!(fs::read_to_string(&file).unwrap(), "undo # kept\n");
+    }
+    // from text to text nothing is lost
+    assert_eq!(
+        olgaemuri(&["convert", "--to=text", path, path], b"").status,
+        0
+    );
+    assert_eq!(fs::read_to_string(&file).unwrap(), "undo  # kept\n");
+    fs::remove_file(&file).unwrap();
+}
+
+#[test]
 fn the_session_in_the_help_runs() {
     let help = olgaemuri(&["--help"], b"");
     let lines = help
@@ -58,8 +102,12 @@ fn the_session_in_the_help_runs() {
 
 #[test]
 fn wrong_words_get_a_suggestion() {
-    let cases: [(&[&str], &str); 6] = [
+    let cases: [(&[&str], &str); 8] = [
         (&["rnu"], "unknown subcommand `rnu`; did you mean `run`?"),
+        (
+            &["README.md"],
+            "unknown subcommand `README.md`; did you mean `olgaemuri run README.md`?",
+        ),
         (
             &["run", "--cvs", "x"],
             "unknown option `--cvs`; did you mean `--csv`?",
@@ -75,6 +123,10 @@ fn wrong_words_get_a_suggestion() {
         (
             &["run", "a", "--csv", "--json"],
             "`--csv` and `--json` do not go together",
+        ),
+        (
+            &["run", "a", "--title", "b"],
+            "`--title` needs `--svg OUT`: it is the picture's",
         ),
         (&["run", "no such file"], "cannot read no such file: "),
     ];

@@ -29,12 +29,15 @@ const TOPICS: [(&str, &str); 6] = [
     ("answers", ANSWERS),
 ];
 
-/// Shows a topic, or where to begin.
+/// Shows a topic, what is said of a word of the format, or where to begin.
 pub fn show(topic: Option<&str>) -> Result<u8, Failure> {
     let text = match topic {
         None => GENERAL.to_string(),
         Some("refusals") => refusals(),
-        Some(topic) => found(topic)?.to_string(),
+        Some(topic) => match lines_on(topic) {
+            lines if lines.is_empty() => found(topic)?.to_string(),
+            lines => lines,
+        },
     };
     write("-", text.as_bytes())?;
     Ok(0)
@@ -67,12 +70,11 @@ pub fn lines_on(word: &str) -> String {
     let mut out = String::new();
     let mut wanted = false;
     for line in FORMAT.lines() {
-        let indented = line.starts_with("   ");
-        wanted = if indented {
-            wanted
-        } else {
-            line.split_whitespace().next() == Some(word)
-        };
+        let goes_on = line.starts_with("   ");
+        let first = line
+            .strip_prefix("  ")
+            .and_then(|line| line.split(' ').next());
+        wanted = if goes_on { wanted } else { first == Some(word) };
         if wanted {
             out += &format!("{line}\n");
         }

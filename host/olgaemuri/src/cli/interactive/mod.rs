@@ -28,8 +28,8 @@ struct Typed<'a> {
     count: usize,
     /// Whether anything was added since it was saved.
     changed: bool,
-    /// The file that was written, which may be written again.
-    saved_as: Option<String>,
+    /// The words and files of `save` and `picture` so far; the same may be written again.
+    written: Vec<(&'static str, String)>,
     out: &'a mut dyn Write,
 }
 
@@ -97,7 +97,7 @@ impl<'a> Typed<'a> {
             reader,
             count: 0,
             changed: false,
-            saved_as: None,
+            written: Vec::new(),
             out,
         }
     }
@@ -152,7 +152,8 @@ impl<'a> Typed<'a> {
             ["list"] => writeln!(self.out, "{}", shown::list(&self.report))?,
             ["save", file] => self.save(file, false)?,
             ["save", file, "overwrite"] => self.save(file, true)?,
-            ["picture", file] => self.draw(file)?,
+            ["picture", file] => self.draw(file, false)?,
+            ["picture", file, "overwrite"] => self.draw(file, true)?,
             ["save" | "picture", ..] => writeln!(self.out, "a file's name must follow")?,
             [word @ ("list" | "quit" | "exit" | "help"), ..] => {
                 writeln!(self.out, "nothing more may follow `{word}`")?;
@@ -229,28 +230,44 @@ impl<'a> Typed<'a> {
     }
 
     fn save(&mut self, file: &str, overwrite: bool) -> std::io::Result<()> {
-        let ours = overwrite || self.saved_as.as_deref() == Some(file);
-        if !ours && Path::new(file).exists() {
-            return writeln!(
-                self.out,
-                "{file} exists; `save {file} overwrite` writes over it"
-            );
+        let text = self.report.text.self_contained().to_text();
+        if self.put("save", file, overwrite, text.as_bytes())? {
+            self.changed = false;
+            writeln!(self.out, "saved; `olgaemuri run {file}` runs it again")?;
         }
-        match write(file, self.report.text.self_contained().to_text().as_bytes()) {
-            Ok(()) => {
-                self.changed = false;
-                self.saved_as = Some(file.to_string());
-                writeln!(self.out, "saved; `olgaemuri run {file}` runs it again")
-            }
-            Err(message) => writeln!(self.out, "{message}"),
-        }
+        Ok(())
     }
 
-    fn draw(&mut self, file: &str) -> std::io::Result<()> {
-        match write(file, picture(&self.report, "olgaemuri").as_bytes()) {
-            Ok(()) => writeln!(self.out, "drawn"),
-            Err(message) => writeln!(self.out, "{message}"),
+    fn draw(&mut self, file: &str, overwrite: bool) -> std::io::Result<()> {
+        let picture = picture(&self.report, "olgaemuri");
+        if self.put("picture", file, overwrite, picture.as_bytes())? {
+            writeln!(self.out, "drawn")?;
         }
+        Ok(())
+    }
+
+    /// Writes a file for that word, or says why not. What others wrote stays, unless it is to be written over.
+    fn put(
+        &mut self,
+        word: &'static str,
+        file: &str,
+        overwrite: bool,
+        bytes: &[u8],
+    ) -> std::io::Result<bool> {
+        let entry = (word, file.to_string());
+        if !overwrite && !self.written.contains(&entry) && Path::new(file).exists() {
+            writeln!(
+                self.out,
+                "{file} exists; `{word} {file} overwrite` writes over it"
+            )?;
+            return Ok(false);
+        }
+        if let Err(message) = write(file, bytes) {
+            writeln!(self.out, "{message}")?;
+            return Ok(false);
+        }
+        self.written.push(entry);
+        Ok(true)
     }
 }
 

@@ -11,6 +11,7 @@ use olgaemuri::NO_CAUSE;
 #[derive(Clone, Copy)]
 enum Sample {
     Condition(Condition),
+    Ahead,
     Cause(u32),
     Fate(Fate),
 }
@@ -58,7 +59,12 @@ fn rows(items: &[Item], palette: &Palette, borders: (f64, f64), top: f64) -> (St
 
 fn conditions() -> Vec<Item> {
     let item = |condition: Condition| (Sample::Condition(condition), condition.word().to_string());
-    Condition::ALL.map(item).to_vec()
+    let ahead = (Sample::Ahead, "pale: after the last command".to_string());
+    Condition::ALL
+        .map(item)
+        .into_iter()
+        .chain([ahead])
+        .collect()
 }
 
 /// The causes, and the end of observation if there is any.
@@ -89,14 +95,21 @@ fn fates() -> Vec<Item> {
 
 fn drawn(sample: &Sample, palette: &Palette, x: f64, y: f64) -> String {
     let mark = match sample {
-        Sample::Condition(condition) => {
-            let height = bar_height(*condition);
-            return rectangle(condition.class(), x - 12.0, y - height / 2.0, 24.0, height);
+        Sample::Condition(condition) => return bar(*condition, condition.class(), x, y),
+        Sample::Ahead => {
+            let running = Condition::Running;
+            return bar(running, running.class(), x, y) + &bar(running, "ahead", x, y);
         }
         Sample::Cause(cause) => palette.mark(*cause, Fate::Delivered, x, y),
         Sample::Fate(fate) => Palette::neutral_mark(*fate, x, y),
     };
     mark + "\n"
+}
+
+/// A sample of a span's bar, drawn as this class says.
+fn bar(condition: Condition, class: &str, x: f64, y: f64) -> String {
+    let height = bar_height(condition);
+    rectangle(class, x - 12.0, y - height / 2.0, 24.0, height)
 }
 
 /// The height of a span's bar.

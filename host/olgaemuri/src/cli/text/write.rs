@@ -107,12 +107,14 @@ fn operands_text(command: &Command) -> String {
             censor,
             priority,
             ..
-        } => {
-            let censor = optional_text("censor", censor.map(float_text));
-            format!(" now={}{censor} priority={priority}", float_text(*now))
-        }
+        } => schedule_text(*now, *censor, *priority),
         Command::Deliver | Command::Undo => String::new(),
     }
+}
+
+fn schedule_text(now: f64, censor: Option<f64>, priority: i32) -> String {
+    let censor = optional_text("censor", censor.map(float_text));
+    format!(" now={}{censor} priority={priority}", float_text(now))
 }
 
 fn create_text(
