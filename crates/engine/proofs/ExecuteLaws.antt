@@ -6,7 +6,7 @@ use Prim.Native.Nat.{ℕ, _+_, _-_, _≤_, _<_}
 use native.Mathlib.Omega.{arith}
 use borrow.Author.Tests.{leb-true}
 use lib.Dec.{leb}
-use lib.ListN.{length, take, drop, replicate, length-take, length-drop}
+use lib.ListN.{length, take, drop, length-take, length-drop}
 use lib.Seq.{paste}
 use Rattle.hazards.specs.Answers.{noEvent}
 use Rattle.hazards.specs.Lists.{all}
@@ -112,6 +112,13 @@ reverted-left stream s j r e d a ea t et x ex pos =
 
 -- ---- a command on the slot of its clock
 
+-- copied into the part of the journal from k on
+pub copied-journal : (j y c : Bytes) (k : ℕ) → k + length c ≤ length j → y ≡ copiedInto (restOf j k) c
+    → take k j ++ (y ++ drop (length j - k) (drop k j)) ≡ paste j k c (length c)
+copied-journal j y c k room q =
+    let l : length c ≤ length (restOf j k) = simp (length-take, length-drop) (omega arith) in
+    pasted-part j y c k (omega arith) (q ∙ copied-whole (restOf j k) c l)
+
 module _ (stream : List ℕ) (slot : ClockSlot) (p : Progress) (j c : Bytes) (o : SlotOutcome)
     (did : onSlotOf o ≡ performOn stream (length j) slot p c) where
   leaves : {d : OnSlot} → performOn stream (length j) slot p c ≡ d → (k : Bytes) → k ≡ journalAfter p j c d
@@ -131,9 +138,7 @@ module _ (stream : List ℕ) (slot : ClockSlot) (p : Progress) (j c : Bytes) (o 
       → appliedOn o (take applied-end j ++ (y ++ drop (length j - applied-end) (drop applied-end j))) ≡ applyOn stream slot p j c
   applied-copied z y q =
       let d = outcome-done o did z in
-      let room : applied-end + length c ≤ length j = done-fits stream (length j) slot p c (o .slot) (o .progress) (o .answer) d in
-      let l : length c ≤ length (restOf j applied-end) = simp (length-take, length-drop) (omega arith) in
-      leaves d _ (pasted-part j y c applied-end (omega arith) (q ∙ copied-whole (restOf j applied-end) c l))
+      leaves d _ (copied-journal j y c applied-end (done-fits stream (length j) slot p c (o .slot) (o .progress) (o .answer) d) q)
 
 -- ---- a command on a valid state
 

@@ -1,34 +1,37 @@
--- One command of a batch run: applied on the slot of its clock, and its answer or its refusal written.
+-- One command of a batch run: the journal and the answers after it, by its number.
 use mathlib.Core.Path.{_≡_, sym, ap, _∙_}
+use mathlib.Core.Bool.{Bool, cond}
 use Prim.Native.Nat.{ℕ}
+use borrow.Author.Tests.{eq-eqb, ne-eqb}
 use lib.ListN.{length}
+use lib.Seq.{paste}
 use Rattle.hazards.specs.Answers.{noEvent, withAnswer}
+use Rattle.hazards.specs.declared.answers.Answer.{Answer}
 use Rattle.engine.specs.Journal.{Bytes}
-use Rattle.engine.specs.Execution.{OnSlot, performOn}
-use Rattle.engine.specs.ExecutionCode.{onSlotOf}
-use Rattle.engine.specs.ExecuteCode.{Applied, appliedOn, applyOn}
-use Rattle.engine.specs.RunCode.{slotAnswer, answeredOn, answerOn}
-use Rattle.engine.specs.declared.execution.SlotOutcome.{SlotOutcome}
-use Rattle.engine.specs.declared.state.ClockSlot.{ClockSlot}
-use Rattle.engine.specs.declared.state.Progress.{Progress}
-use Rattle.engine.proofs.SlotLaws.{outcome-done, outcome-refused}
+use Rattle.engine.specs.RunCode.{Answered, answeredBy, answerAt}
 
-module _ (stream : Bytes) (slot : ClockSlot) (p : Progress) (j answers : Bytes) (place : ℕ) (c : Bytes) (o : SlotOutcome) {k : Bytes}
-    (e : appliedOn o k ≡ applyOn stream slot p j c) where
-  did : onSlotOf o ≡ performOn stream (length j) slot p c
-  did = ap (λ (x : Applied). x .outcome) e
+module _ (number : ℕ) (a : Answer) (free : ℕ) (j answers : Bytes) (place : ℕ) (c : Bytes) where
+  abbrev by-test : Bool → Answered
+  by-test b =
+      cond b (answeredBy (paste j free c (length c)) (withAnswer answers place a))
+      (answeredBy j (withAnswer answers place (noEvent number)))
 
-  by-answer : {d : OnSlot} → performOn stream (length j) slot p c ≡ d → {written : Bytes}
-      → written ≡ withAnswer answers place (slotAnswer d) → answeredOn o k written ≡ answerOn stream slot p j answers place c
-  by-answer q {written} h =
-      let f : written ≡ withAnswer answers place (slotAnswer (performOn stream (length j) slot p c)) =
-      h ∙ ap (λ (d : OnSlot). withAnswer answers place (slotAnswer d)) (sym q) in
-      λ i. record { outcome = e i .outcome; journal = e i .journal; answers = f i }
+  pub answer-refused : (number ≡ 0 → ⊥)
+      → answerAt number a free j answers place c ≡ answeredBy j (withAnswer answers place (noEvent number))
+  answer-refused z = ap by-test (ne-eqb number 0 z)
 
-  pub answered-refused : (o .number ≡ 0 → ⊥) → {written : Bytes} → written ≡ withAnswer answers place (noEvent (o .number))
-      → answeredOn o k written ≡ answerOn stream slot p j answers place c
-  answered-refused z = by-answer (outcome-refused o did z)
+  pub answer-copied : number ≡ 0
+      → answerAt number a free j answers place c ≡ answeredBy (paste j free c (length c)) (withAnswer answers place a)
+  answer-copied z = ap by-test (eq-eqb number 0 z)
 
-  pub answered-done : o .number ≡ 0 → {written : Bytes} → written ≡ withAnswer answers place (o .answer)
-      → answeredOn o k written ≡ answerOn stream slot p j answers place c
-  answered-done z = by-answer (outcome-done o did z)
+  -- as the code writes them
+  pub refused-answered : (number ≡ 0 → ⊥) → {written : Bytes} → written ≡ withAnswer answers place (noEvent number)
+      → answeredBy j written ≡ answerAt number a free j answers place c
+  refused-answered z e = ap (answeredBy j) e ∙ sym (answer-refused z)
+
+  pub copied-answered : number ≡ 0 → {k written : Bytes} → k ≡ paste j free c (length c) → written ≡ withAnswer answers place a
+      → answeredBy k written ≡ answerAt number a free j answers place c
+  copied-answered z {k} {written} ek e =
+      let both : answeredBy k written ≡ answeredBy (paste j free c (length c)) (withAnswer answers place a) =
+      λ i. answeredBy (ek i) (e i) in
+      both ∙ sym (answer-copied z)

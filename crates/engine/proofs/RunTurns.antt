@@ -1,7 +1,7 @@
 -- One turn of a batch run: what is left of the run after it gives what the whole run gives.
 use mathlib.Core.Path.{_≡_, refl, sym, _∙_, ap, subst}
 use mathlib.Core.Bool.{Bool, true, false, cond}
-use mathlib.Core.List.{List, [], _∷_}
+use mathlib.Core.List.{[], _∷_}
 use Prim.Native.Nat.{ℕ, zero, suc, _+_, _-_, _*_, _^_, _<_, _≤_}
 use native.Mathlib.Nat.{add-zero, sub-zero}
 use native.Mathlib.Omega.{arith}
@@ -11,6 +11,7 @@ use lib.ListN.{length, getD, take, drop, replicate, length-drop, drop-of-length-
 use lib.Seq.{drop-drop, getD-drop, paste}
 use Rattle.hazards.specs.Answers.{answerWidth, noEvent, withAnswer}
 use Rattle.hazards.specs.declared.answers.Answer.{Answer}
+use Rattle.clocks.proofs.Cases.{either-way}
 use Rattle.engine.specs.Commands as commands
 use Rattle.engine.specs.Commands.{widthOf}
 use Rattle.engine.specs.Refusals.{noCommand, cutShort, answersFull}
@@ -21,10 +22,10 @@ use Rattle.engine.specs.Instance.{engineOf}
 use Rattle.engine.specs.Good.{Good}
 use Rattle.engine.specs.Validation.{validState}
 use Rattle.engine.specs.ExecutionCode.{onSlotOf}
-use Rattle.engine.specs.ExecuteCode.{After, after, left, answerOf, journalAfter}
-use Rattle.engine.specs.Execution.{OnSlot, performOn, target, perform}
+use Rattle.engine.specs.ExecuteCode.{After, after, left, answerOf}
+use Rattle.engine.specs.Execution.{performOn, target, perform}
 use Rattle.engine.specs.Run.{Ran, ran, finished, endsRun, endNumber, executed, runFrom}
-use Rattle.engine.specs.RunCode.{Stop, stop, stopAt, slotAnswer, Answered, answeredOn, answerOn, openedRun}
+use Rattle.engine.specs.RunCode.{Stop, stop, stopAt, Answered, answeredBy, answerAt, openedRun}
 use Rattle.engine.specs.declared.execute.Executed.{Executed}
 use Rattle.engine.specs.declared.execution.SlotOutcome.{SlotOutcome}
 use Rattle.engine.specs.declared.state.ClockSlot.{ClockSlot}
@@ -33,11 +34,13 @@ use Rattle.engine.proofs.Asking.{asks-no-command, asks-part, asks-undo,
 use Rattle.engine.proofs.Asking.{execute-rejects, execute-undo, execute-refused, execute-performs}
 use Rattle.engine.proofs.GoodValid.{good-valid}
 use Rattle.engine.proofs.JournalBytes.{restOf, partOf, part-all, part-of}
+use Rattle.engine.proofs.PerformedTargets.{same-past}
 use Rattle.engine.proofs.Replays.{cut-whole}
+use Rattle.engine.proofs.RunAnswers.{answer-refused, answer-copied}
 use Rattle.engine.proofs.RunNumbers.{performedNumber, perform-goes, undo-goes}
 use Rattle.engine.proofs.RunStates.{Reached, reached-open, reached-next, reached-good}
 use Rattle.engine.proofs.RunStops.{numbered, end-number, stop-way}
-use Rattle.engine.proofs.SlotLaws.{outcome-done, outcome-refused, rejects, performs, accepted-below}
+use Rattle.engine.proofs.SlotLaws.{outcome-done, done-fits, rejects, performs, accepted-below}
 
 pub code-at : (bytes : Bytes) (at : ℕ) → code (drop at bytes) ≡ getD bytes at 0
 code-at bytes at = getD-drop at bytes 0 0 ∙ ap (λ (k : ℕ). getD bytes k 0) (add-zero at)
@@ -292,8 +295,8 @@ module _ (bytes stream : Bytes) (n size : ℕ) (all : Ran) where
 
     -- a command but UNDO, on the slot of its clock
     module _ (u : code i ≡ commands.undo → ⊥) (o : SlotOutcome) (t : ℕ) (named : t ≡ target (s .progress) (partOf bytes at w))
-        (slot : ClockSlot) (there : slot ≡ slotAt s t) {k written : Bytes}
-        (e : answeredOn o k written ≡ answerOn stream slot (s .progress) j answers (32 * count) (partOf bytes at w)) where
+        (slot : ClockSlot) (there : t < 16 → slot ≡ slotAt s t)
+        (e : onSlotOf o ≡ performOn stream (length j) slot (s .progress) (partOf bytes at w)) where
       abbrev c : Bytes
       c = partOf bytes at w
 
@@ -306,49 +309,50 @@ module _ (bytes stream : Bytes) (n size : ℕ) (all : Ran) where
       asked : classify E s i ≡ apply c
       asked = asks-command E s i (valid r) i-pos (x .wide) (x .long) u ∙ ap apply (sym is-cut)
 
-      did : onSlotOf o ≡ performOn stream n slot (s .progress) c
-      did = ap (λ (a : Answered). a .outcome) e ∙ ap (λ (m : ℕ). performOn stream m slot (s .progress) c) (r .same-journal)
+      -- as on the slot of its clock; above the sixteen every slot does
+      on-slot : performOn stream n slot (s .progress) c ≡ performOn stream n (slotAt s t) (s .progress) c
+      on-slot =
+          either-way (ltb t 16) (λ b. ap (λ (y : ClockSlot). performOn stream n y (s .progress) c) (there (ltb-true t 16 b)))
+          (λ b.
+          same-past stream n s c (running-good r) whole (subst (λ (k : ℕ). 16 ≤ k) named (ltb-false t 16 b)) slot (slotAt s t))
 
-      -- the journal and the answers, by the outcome
-      leaves-journal : {d : OnSlot} → performOn stream n slot (s .progress) c ≡ d → k ≡ journalAfter (s .progress) j c d
-      leaves-journal q =
-          ap (λ (a : Answered). a .journal) e
-          ∙ ap (λ (m : ℕ). journalAfter (s .progress) j c (performOn stream m slot (s .progress) c)) (r .same-journal)
-          ∙ ap (journalAfter (s .progress) j c) q
-
-      leaves-answers : {d : OnSlot} → performOn stream n slot (s .progress) c ≡ d → written ≡ withAnswer answers (32 * count) (slotAnswer d)
-      leaves-answers q =
-          ap (λ (a : Answered). a .answers) e
-          ∙ ap (λ (m : ℕ). withAnswer answers (32 * count) (slotAnswer (performOn stream m slot (s .progress) c))) (r .same-journal)
-          ∙ ap (λ (d : OnSlot). withAnswer answers (32 * count) (slotAnswer d)) q
+      did : onSlotOf o ≡ performOn stream n (slotAt s t) (s .progress) c
+      did = e ∙ ap (λ (m : ℕ). performOn stream m slot (s .progress) c) (r .same-journal) ∙ on-slot
 
       goes-on : {d : Performed EngineState Answer} → perform stream n s c ≡ d → endsRun (performedNumber d) ≡ false
       goes-on q = sym (ap (λ (d : Performed EngineState Answer). endsRun (performedNumber d)) q) ∙ perform-goes stream n s c
 
-      pub next-refused : (o .number ≡ 0 → ⊥) → length k ≡ n → length written ≡ size → Running k written result s (count + 1) (at + w)
-      next-refused z lk lw =
-          let d : perform stream n s c ≡ rejected (o .number) = rejects stream n s c o t named slot there did z in
-          let ek : k ≡ j = leaves-journal (outcome-refused o did z) in
-          let h =
-          turned (unchanged E s j (o .number)) (execute-refused E s j i c (o .number) asked d) (goes-on d)
-          (leaves-answers (outcome-refused o did z)) (r .same-journal) lw in
-          subst (λ (b : Bytes). Running b written result s (count + 1) (at + w)) (sym ek) h
+      -- an accepted command is about one of the sixteen, and has room in the journal
+      pub next-below : o .number ≡ 0 → t < 16
+      next-below z = accepted-below stream n s c o t named (slotAt s t) refl did z (running-good r) whole
 
-      module _ (z : o .number ≡ 0) where
-        abbrev next : EngineState
-        next = withSlot s t (o .slot) (o .progress)
+      pub next-fits : o .number ≡ 0 → s .progress .«applied_length» + length c ≤ length j
+      next-fits z = done-fits stream (length j) slot (s .progress) c (o .slot) (o .progress) (o .answer) (outcome-done o e z)
 
-        pub next-below : t < 16
-        next-below = accepted-below stream n s c o t named slot there did z (running-good r) whole
+      -- the journal and the answers after it
+      module _ {k written : Bytes}
+          (f : answeredBy k written ≡ answerAt (o .number) (o .answer) (s .progress .«applied_length») j answers (32 * count) c)
+          (lk : length k ≡ n) (lw : length written ≡ size) where
+        pub next-refused : (o .number ≡ 0 → ⊥) → Running k written result s (count + 1) (at + w)
+        next-refused z =
+            let d : perform stream n s c ≡ rejected (o .number) = rejects stream n s c o t named (slotAt s t) refl did z in
+            let g = f ∙ answer-refused (o .number) (o .answer) (s .progress .«applied_length») j answers (32 * count) c z in
+            let ek : k ≡ j = ap (λ (a : Answered). a .journal) g in
+            let h =
+            turned (unchanged E s j (o .number)) (execute-refused E s j i c (o .number) asked d) (goes-on d)
+            (ap (λ (a : Answered). a .answers) g) (r .same-journal) lw in
+            subst (λ (b : Bytes). Running b written result s (count + 1) (at + w)) (sym ek) h
 
-        pub next-performed : length k ≡ n → length written ≡ size → Running k written result next (count + 1) (at + w)
-        next-performed lk lw =
-            let d : perform stream n s c ≡ performed next (o .answer) = performs stream n s c o t named slot there did z in
+        pub next-performed : o .number ≡ 0 → Running k written result (withSlot s t (o .slot) (o .progress)) (count + 1) (at + w)
+        next-performed z =
+            let next : EngineState = withSlot s t (o .slot) (o .progress) in
+            let d : perform stream n s c ≡ performed next (o .answer) = performs stream n s c o t named (slotAt s t) refl did z in
             let pasted : Bytes = paste j (s .progress .«applied_length») c (length c) in
-            let ek : k ≡ pasted = leaves-journal (outcome-done o did z) in
+            let g = f ∙ answer-copied (o .number) (o .answer) (s .progress .«applied_length») j answers (32 * count) c z in
+            let ek : k ≡ pasted = ap (λ (a : Answered). a .journal) g in
             let h =
             turned (record { reply = answered (o .answer); state = next; journal = pasted })
-            (execute-performs E s j i c next (o .answer) asked d) (goes-on d) (leaves-answers (outcome-done o did z))
+            (execute-performs E s j i c next (o .answer) asked d) (goes-on d) (ap (λ (a : Answered). a .answers) g)
             (ap length (sym ek) ∙ lk) lw in
             subst (λ (b : Bytes). Running b written result next (count + 1) (at + w)) (sym ek) h
 

@@ -2,17 +2,14 @@
 ghost use mathlib.Core.Path.{_≡_};
 ghost use mathlib.Core.Bool.{cond, _&&_};
 ghost use mathlib.Core.List.{_++_};
-ghost use Prim.Native.Nat.{_*_, _%_, _≤_};
+ghost use Prim.Native.Nat.{_+_, _*_, _%_, _≤_};
 ghost use lib.Dec.{eqb};
 ghost use lib.ListN.{length, replicate};
 ghost use Rattle.hazards.specs.Fields.{bytesOf};
 ghost use Rattle.engine.specs.Refusals.{nothingApplied};
 ghost use Rattle.engine.specs.Run.{ran, endNumber, runOf};
-ghost use Rattle.engine.specs.ExecuteCode.{Appliable};
-ghost use Rattle.engine.specs.RunCode.{stop, stopAt, answeredOn, answerOn, openedRun};
-use crate::execution::SlotOutcome;
-use crate::state::ClockSlot;
-use crate::state::Progress;
+ghost use Rattle.engine.specs.RunCode.{stop, stopAt, answeredBy, answerAt, openedRun};
+use hazards::answers::Answer;
 
 pub const ANSWERS_FULL: u8 = 17;
 
@@ -74,28 +71,27 @@ fn end_run(input: &[u8], answers: &mut [u8], result: &mut [u8], answered: usize,
     number
 }
 
-// A command but UNDO on the slot of its clock, applied and answered at its place.
-fn answer_command(
-    slot: ClockSlot,
-    progress: Progress,
-    stream: &[u8],
+// The answer to a command at its place: a refusal's number alone, or the answer of an accepted command, which is copied into the
+// journal's free part.
+fn answer_at(
+    refusal: u8,
+    answer: Answer,
+    free: usize,
     journal: &mut [u8],
     answers: &mut [u8],
     place: usize,
     command: &[u8],
-) -> SlotOutcome
-    requires { ⌜ Appliable progress (now journal) ⌝ }
-    ensures { λ r. ⌜ answeredOn r (now (journal .exit)) (now (answers .exit))
-        ≡ answerOn (now (stream .entry)) slot progress (now (journal .entry)) (now (answers .entry)) place (now (command .entry)) ⌝ }
+)
+    requires { ⌜ (refusal ≡ 0 → free + length (now command) ≤ length (now journal)) ⌝ }
+    ensures { λ _. ⌜ answeredBy (now (journal .exit)) (now (answers .exit))
+        ≡ answerAt refusal answer free (now (journal .entry)) (now (answers .entry)) place (now (command .entry)) ⌝ }
 {
-    let outcome = crate::execute::apply_on(slot, progress, stream, journal, command);
-    if outcome.number != 0 {
-        let refusal = hazards::answers::no_event(outcome.number);
-        hazards::answers::put_answer(answers, place, refusal);
-        return outcome;
+    if refusal != 0 {
+        hazards::answers::put_answer(answers, place, hazards::answers::no_event(refusal));
+        return;
     }
-    hazards::answers::put_answer(answers, place, outcome.answer);
-    outcome
+    crate::journal::copy_into(&mut journal[free..], command);
+    hazards::answers::put_answer(answers, place, answer);
 }
 
 // UNDO is refused where nothing is applied; a reached state meets no other refusal.
@@ -144,14 +140,25 @@ fn run_commands(
             continue;
         }
         let command = &commands[start..at];
-        let before = state.progress;
-        let target = crate::execution::target(before, command);
-        let slot = if target < 16 {
-            state.slots[target]
-        } else {
-            crate::opening::empty_slot()
-        };
-        let outcome = answer_command(slot, before, stream, journal, answers, place, command);
+        let target = crate::execution::target(state.progress, command);
+        // A clock above 15 is refused before its slot is looked at, so any slot does.
+        let nearest = if target < 16 { target } else { 15 };
+        let outcome = crate::execution::perform_on(
+            state.slots[nearest],
+            state.progress,
+            stream,
+            journal.len(),
+            command,
+        );
+        answer_at(
+            outcome.number,
+            outcome.answer,
+            state.progress.applied_length,
+            journal,
+            answers,
+            place,
+            command,
+        );
         if outcome.number == 0 {
             let moved = outcome.slot;
             state.slots[target] = moved;

@@ -20,13 +20,13 @@ use Rattle.engine.specs.Good.{Good}
 use Rattle.engine.specs.ExecuteCode.{onlyNumber}
 use Rattle.engine.specs.Run.{ran}
 use Rattle.engine.specs.RunCode.{openedRun}
+use Rattle.engine.specs.declared.state.ClockSlot.{ClockSlot}
 use Rattle.engine.proofs.Asking.{undo-nothing}
 use Rattle.engine.proofs.EveryPlace.{getD-any}
 use Rattle.engine.proofs.ExecuteLaws.{left-refused}
 use Rattle.engine.proofs.RunStates.{reached-replays}
-use Rattle.engine.proofs.SlotLaws.{slot-past}
 use Rattle.engine.proofs.RunTurns.{Running, Input, code-at, running-begins, running-good, running-ends, run-stops, run-goes-on}
-use Rattle.engine.proofs.RunTurns.{input-fits, next-undo, next-refused, next-below, next-performed}
+use Rattle.engine.proofs.RunTurns.{input-fits, next-undo, next-below, next-fits, next-refused, next-performed}
 use Rattle.engine.proofs.run.run_commands.Statement.{statement}
 use Rattle.engine.proofs.run.run_commands.Tie as tie
 
@@ -219,53 +219,68 @@ part-command-end c = let f = fits (c .before) in omega (arith, f .1)
 target-requires : tie.Need-target-requires Inv-loop μ-loop
 target-requires c κs = search needs
 
-mul-slot : tie.Need-mul-slot Inv-loop μ-loop
-mul-slot c = omega arith
+-- the place of the slot that is read: that of the clock, where it is one of the sixteen
+near : (c : tie.Joined4 Inv-loop μ-loop) → c .if4 .nearest < 16
+near c = ⊎-elim (λ w. omega (arith, w .0 .taken, w .1)) (λ w. omega (arith, w .1)) (c .if4 .came)
 
-element-copy-out-slot : tie.Need-element-copy-out-slot Inv-loop μ-loop
-element-copy-out-slot c = omega arith
+near-is : (c : tie.Joined4 Inv-loop μ-loop) → c .before .target .result < 16 → c .if4 .nearest ≡ c .before .target .result
+near-is c b = ⊎-elim (λ w. w .1) (λ w. absurd (omega (arith, w .0 .left, b))) (c .if4 .came)
 
-empty-slot-requires : tie.Need-empty-slot-requires Inv-loop μ-loop
-empty-slot-requires c κs = search needs
+mul-perform-on : tie.Need-mul-perform-on Inv-loop μ-loop
+mul-perform-on c = omega (arith, near (c .before))
 
-answer-command-requires : tie.Need-answer-command-requires Inv-loop μ-loop
-answer-command-requires c κs =
-    let k = known (c .before .before .before .before .before .before .before) in
-    let l = turn (ended k) .loop in
+element-copy-out-perform-on : tie.Need-element-copy-out-perform-on Inv-loop μ-loop
+element-copy-out-perform-on c = omega (arith, near (c .before))
+
+perform-on-requires : tie.Need-perform-on-requires Inv-loop μ-loop
+perform-on-requires c κs =
+    let k = known (c .before .before .before .before .before .before .before .before) in
     let g = good k in
-    record {
-      counts = record { places = g .queued; requests = omega (arith, g .count, g .applied, l .inv .bound) };
-      within = omega (arith, g .applied, l .inv .same-journal);
-    }
+    record { places = g .queued; requests = omega (arith, g .count, g .applied, turn (ended k) .loop .inv .bound) }
 
--- the width of the command that is answered, and the slot of its clock
-abbrev widthed : tie.After-answer-command Inv-loop μ-loop → tie.After-width Inv-loop μ-loop
-widthed c = c .before .before .before .before .before .before .before .before
+-- the command that is performed: the slot read for it, the clock that it is about and its width
+abbrev chosen : tie.After-perform-on Inv-loop μ-loop → tie.Joined4 Inv-loop μ-loop
+chosen c = c .before .before .before .before
 
-abbrev targeted : tie.After-answer-command Inv-loop μ-loop → tie.After-target Inv-loop μ-loop
-targeted c = c .before .before .before .before
+abbrev targeted : tie.After-perform-on Inv-loop μ-loop → tie.After-target Inv-loop μ-loop
+targeted c = chosen c .before
+
+abbrev widthed : tie.After-perform-on Inv-loop μ-loop → tie.After-width Inv-loop μ-loop
+widthed c = targeted c .before .before .before .before
 
 -- it is no UNDO
-other : (c : tie.After-answer-command Inv-loop μ-loop)
+other : (c : tie.After-perform-on Inv-loop μ-loop)
     → code (drop (place (widthed c)) (bytes (widthed c))) ≡ commands.undo → ⊥
-other c q = c .before .before .before .before .before .before .before .if2 .left (sym (code-is (widthed c)) ∙ q)
+other c q = targeted c .before .before .before .if2 .left (sym (code-is (widthed c)) ∙ q)
 
-slot-is : (c : tie.After-answer-command Inv-loop μ-loop)
-    → c .before .before .before .if4 .slot ≡ slotAt (turn (ended (known (widthed c))) .loop .state) (targeted c .target .result)
-slot-is c =
+slot-is : (c : tie.After-perform-on Inv-loop μ-loop) (d : ClockSlot) → targeted c .target .result < 16
+    → getD (turn (ended (known (widthed c))) .loop .state .slots) (chosen c .if4 .nearest) d
+    ≡ slotAt (turn (ended (known (widthed c))) .loop .state) (targeted c .target .result)
+slot-is c d b =
     let s = turn (ended (known (widthed c))) .loop .state in
-    let t : ℕ = targeted c .target .result in
     let sixteen = good (known (widthed c)) .slots in
-    ⊎-elim (λ w. w .2 ∙ getD-any (s .slots) t _ emptySlot (omega (arith, w .0 .taken)))
-    (λ w. w .2 ∙ w .1 .ensures ∙ slot-past s t (omega (arith, w .0 .left))) (c .before .before .before .if4 .came)
+    getD-any (s .slots) (chosen c .if4 .nearest) d emptySlot (omega (arith, near (chosen c)))
+    ∙ ap (slotAt s) (near-is (chosen c) b)
+
+answer-at-requires : tie.Need-answer-at-requires Inv-loop μ-loop
+answer-at-requires c κs =
+    let m = c .before .before in
+    let w = widthed m in
+    next-fits _ _ _ _ _ (input (known w)) (w .width .result) (wide w) (other m) (m .perform-on .result) (targeted m .target .result)
+    (targeted m .target .ensures) _ (slot-is m _) (m .perform-on .ensures)
+
+-- the command that is answered
+abbrev performed : tie.After-answer-at Inv-loop μ-loop → tie.After-perform-on Inv-loop μ-loop
+performed c = c .before .before .before
 
 -- an accepted command is about one of the sixteen
-below : (c : tie.After-moved Inv-loop μ-loop) → targeted (c .before .before .before .before .before .before .before) .target .result < 16
+below : (c : tie.After-moved Inv-loop μ-loop)
+    → targeted (performed (c .before .before .before .before .before .before .before)) .target .result < 16
 below c =
-    let m = c .before .before .before .before .before .before .before in
+    let m = performed (c .before .before .before .before .before .before .before) in
     let w = widthed m in
-    next-below _ _ _ _ _ (input (known w)) (w .width .result) (wide w) (other m) (m .answer-command .result) (targeted m .target .result)
-    (targeted m .target .ensures) _ (slot-is m) (m .answer-command .ensures) (c .before .if5 .taken)
+    next-below _ _ _ _ _ (input (known w)) (w .width .result) (wide w) (other m) (m .perform-on .result) (targeted m .target .result)
+    (targeted m .target .ensures) _ (slot-is m _) (m .perform-on .ensures) (c .before .if5 .taken)
 
 mul-moved : tie.Need-mul-moved Inv-loop μ-loop
 mul-moved c = let b = below c in omega arith
@@ -274,28 +289,36 @@ element-set-from-moved : tie.Need-element-set-from-moved Inv-loop μ-loop
 element-set-from-moved c = let b = below c in omega arith
 
 loop-less-3 : tie.Need-loop-less-3 Inv-loop μ-loop
-loop-less-3 c = let f = fits (widthed (c .before .before .before .before .before .before .before .before)) in omega (arith, f .0, f .1)
+loop-less-3 c =
+    let f = fits (widthed (performed (c .before .before .before .before .before .before .before .before))) in
+    omega (arith, f .0, f .1)
 
 loop-again-3 : tie.Need-loop-again-3 Inv-loop μ-loop
 loop-again-3 c =
-    let m = c .before .before .before .before .before .before .before .before in
+    let done = c .before .before .before .before .before .before .before .before in
+    let m = performed done in
     let w = widthed m in
     let l = turn (ended (known w)) .loop in
-    next-performed _ _ _ _ _ (input (known w)) (w .width .result) (wide w) (other m)
-    (m .answer-command .result) (targeted m .target .result) (targeted m .target .ensures) _ (slot-is m) (m .answer-command .ensures)
-    (c .before .before .if5 .taken) (omega (arith, l .inv .same-journal)) (omega (arith, l .inv .same-answers))
+    next-performed _ _ _ _ _ (input (known w)) (w .width .result) (wide w) (other m) (m .perform-on .result) (targeted m .target .result)
+    (targeted m .target .ensures) _ (slot-is m _) (m .perform-on .ensures) (done .answer-at .ensures)
+    (omega (arith, l .inv .same-journal))
+    (c .before .before .before .before .before .answers3 .given ∙ input (known w) .running .same-answers) (c .before .before .if5 .taken)
 
 loop-less-4 : tie.Need-loop-less-4 Inv-loop μ-loop
-loop-less-4 c = let f = fits (widthed (c .before .before .before .before .before .before)) in omega (arith, f .0, f .1)
+loop-less-4 c =
+    let f = fits (widthed (performed (c .before .before .before .before .before .before))) in
+    omega (arith, f .0, f .1)
 
 loop-again-4 : tie.Need-loop-again-4 Inv-loop μ-loop
 loop-again-4 c =
-    let m = c .before .before .before .before .before .before in
+    let done = c .before .before .before .before .before .before in
+    let m = performed done in
     let w = widthed m in
     let l = turn (ended (known w)) .loop in
-    next-refused _ _ _ _ _ (input (known w)) (w .width .result) (wide w) (other m)
-    (m .answer-command .result) (targeted m .target .result) (targeted m .target .ensures) _ (slot-is m) (m .answer-command .ensures)
-    (c .if5 .left) (omega (arith, l .inv .same-journal)) (omega (arith, l .inv .same-answers))
+    next-refused _ _ _ _ _ (input (known w)) (w .width .result) (wide w) (other m) (m .perform-on .result) (targeted m .target .result)
+    (targeted m .target .ensures) _ (slot-is m _) (m .perform-on .ensures) (done .answer-at .ensures)
+    (omega (arith, l .inv .same-journal)) (c .before .before .before .answers3 .given ∙ input (known w) .running .same-answers)
+    (c .if5 .left)
 
 -- ---- the end of the list
 
@@ -349,10 +372,10 @@ run-commands-spec =
     part-command-start
     part-command-end
     target-requires
-    mul-slot
-    element-copy-out-slot
-    empty-slot-requires
-    answer-command-requires
+    mul-perform-on
+    element-copy-out-perform-on
+    perform-on-requires
+    answer-at-requires
     mul-moved
     element-set-from-moved
     loop-less-3
