@@ -8,7 +8,8 @@ use native.Mathlib.Omega.{arith}
 use lib.ListN.{length, take, drop, replicate, length-append, length-take, length-drop, length-map}
 use lib.ListN.{length-replicate, replicate-append-replicate}
 use lib.Seq.{length-take-le, take-append-add, drop-append-add, take-append-le, drop-append-le}
-use lib.Seq.{take-take, drop-drop, take-add, take-at, drop-at}
+use lib.Seq.{take-take, drop-drop, take-at, drop-at}
+use Rattle.hazards.proofs.Bytes.{drop-take}
 use Rattle.clocks.specs.Channels.{emptyChannel, onUsed, insertAt, removeAt}
 use Rattle.clocks.specs.declared.channels.HazardChannelState.{HazardChannelState}
 use Rattle.clocks.proofs.AscendingCauses.{putIn, takenOut}
@@ -20,9 +21,6 @@ module _ {A : Type 0} where
 
   drop-past : (xs ys : List A) (n i : ℕ) → length xs ≡ n → drop (n + i) (xs ++ ys) ≡ drop i ys
   drop-past xs ys n i e = rw (← e) (drop-append-add xs ys i)
-
-  drop-take : (n i : ℕ) (l : List A) → n ≤ length l → drop n (take (n + i) l) ≡ take i (drop n l)
-  drop-take n i l h = rw take-add (drop-at (take n l) (take i (drop n l)) n (length-take-le n l h))
 
   one-more : (n : ℕ) (a : A) → replicate n a ++ (a ∷ []) ≡ replicate (suc n) a
   one-more n a = replicate-append-replicate n 1 a ∙ ap (λ (i : ℕ). replicate i a) (add-one n)
@@ -47,7 +45,7 @@ module _ (cs : List HazardChannelState) (eight : length cs ≡ 8) where
           take-past (take at cs) (c ∷ take (7 - at) (drop at cs)) at (suc m) (before at (omega arith)),
           take-take m (7 - at) (drop at cs) (omega arith),
           take-take at (at + m) cs (omega arith),
-          drop-take at m cs (omega arith),
+          drop-take at m cs,
         )
 
     inserted-rest : drop (at + m) cs ≡ empties (8 - (at + m)) → drop (at + suc m) (insertAt at c cs) ≡ empties (8 - (at + suc m))
@@ -57,7 +55,7 @@ module _ (cs : List HazardChannelState) (eight : length cs ≡ 8) where
         let p : 7 - at ≡ m + r = omega arith in
         let q : 8 - (at + m) ≡ suc r = omega arith in
         drop-past (take at cs) (c ∷ take (7 - at) (drop at cs)) at (suc m) (before at (omega arith))
-        ∙ rw (p, drop-take m r (drop at cs) (simp length-drop (omega arith)), drop-drop, e, q) (one-less r emptyChannel)
+        ∙ rw (p, drop-take m r (drop at cs), drop-drop, e, q) (one-less r emptyChannel)
 
   module _ (at count : ℕ) (c : HazardChannelState) (within : at ≤ count) (room : count ≤ 7) where
     parts : at + (count - at) ≡ count
@@ -87,7 +85,7 @@ module _ (cs : List HazardChannelState) (eight : length cs ≡ 8) where
           take-append-le m (drop (at + 1) cs) (emptyChannel ∷ []) (simp (length-drop, eight) (omega arith)),
           take-take at (at + suc m) cs (omega arith),
           e,
-          drop-take (suc at) m cs (omega arith),
+          drop-take (suc at) m cs,
           add-one,
         )
 

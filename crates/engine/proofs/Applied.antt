@@ -231,7 +231,7 @@ module _ (E : Engine) (n : ℕ) (L : Laws E n) where
       let d : AppliedReplay u = applied-replay u h (omega (arith, h .counted)) in
       simp (lt-ltb 0 (E .appliedLength (u .state)) p, d .scans, r (u .state))
 
-  -- Demand 3, its first E half
+  -- demand 3, first half
   pub only-applied : (is : List Bytes) → OnlyApplied E n is
   unfolding newSession
   only-applied is =

@@ -1,8 +1,8 @@
--- Lists of requests of which no two share an index: parts of them, one more, and the request with an index.
+-- Lists of requests of which no two share an index: parts of them, and the request with an index.
 use mathlib.Core.Path.{_≡_, refl, sym, _∙_, ap}
-use mathlib.Core.Logic.{_⊎_, inl, inr}
-use mathlib.Core.Bool.{Bool, true, false, not, cond, _&&_, true≢false}
-use mathlib.Core.List.{List, [], _∷_, _++_}
+use mathlib.Core.Logic.{inl, inr}
+use mathlib.Core.Bool.{Bool, true, false, not, cond, true≢false}
+use mathlib.Core.List.{List, [], _∷_}
 use Prim.Native.Nat.{ℕ}
 use borrow.Author.Tests.{eq-eqb, ne-eqb, not-true}
 use lib.Dec.{eqb}
@@ -11,7 +11,7 @@ use Rattle.engine.specs.Queue.{keepIf, isThere}
 use Rattle.engine.specs.Validation.{distinct}
 use Rattle.engine.specs.declared.state.Request.{Request}
 use Rattle.engine.proofs.Conjunctions.{both-true}
-use Rattle.engine.proofs.RequestLists.{In, in-keep, in-append}
+use Rattle.engine.proofs.RequestLists.{In, in-keep}
 
 -- ---- whether a request with an index is there
 
@@ -56,7 +56,7 @@ one-request (z ∷ zs) x y d (inr i) (inl q) e =
     absurd (there-not x zs (z .index) (distinct-first z zs d .first) i (e ∙ ap (λ (r : Request). r .index) q))
 one-request (z ∷ zs) x y d (inr i) (inr j) e = one-request zs x y (distinct-first z zs d .rest) i j e
 
--- ---- parts, and one more
+-- ---- parts
 
 pub keep-distinct : (f : Request → Bool) (q : List Request) → distinct q ≡ true → distinct (keepIf f q) ≡ true
 keep-distinct f [] d = d
@@ -67,13 +67,3 @@ keep-distinct f (x ∷ xs) d = go (f x) (keep-distinct f xs (distinct-first x xs
     go true ih =
         distinct-cons x (keepIf f xs)
         (not-there (x .index) (keepIf f xs) (λ y i. there-not y xs (x .index) (distinct-first x xs d .first) (in-keep f y xs i))) ih
-
-pub snoc-distinct : (q : List Request) (r : Request) → distinct q ≡ true → isThere (r .index) q ≡ false → distinct (q ++ (r ∷ [])) ≡ true
-snoc-distinct [] r d e = distinct-cons r [] (unfold isThere in refl) d
-snoc-distinct (x ∷ xs) r d e =
-    distinct-cons x (xs ++ (r ∷ [])) (not-there (x .index) (xs ++ (r ∷ [])) (λ y i. other y (in-append y xs r i)))
-    (snoc-distinct xs r (distinct-first x xs d .rest) (not-there (r .index) xs (λ y i. there-not y (x ∷ xs) (r .index) e (inr i))))
-  where
-    other : (y : Request) → In y xs ⊎ (y ≡ r) → y .index ≡ x .index → ⊥
-    other y (inl i) h = there-not y xs (x .index) (distinct-first x xs d .first) i h
-    other y (inr q) h = there-not x (x ∷ xs) (r .index) e (inl refl) (sym h ∙ ap (λ (z : Request). z .index) q)

@@ -29,7 +29,7 @@ use Rattle.engine.specs.Refusals.{clockPresent, clockAbsent, queueEmpty,
 use Rattle.engine.specs.Queue.{nextRequest, without, isThere}
 use Rattle.engine.specs.QueueCode.{pickOf}
 use Rattle.engine.specs.State.{queuedRequests, withQueue, withRequest, withPosition, applied}
-use Rattle.engine.specs.Execution.{OnSlot, refused, done, byteAt, clockOf, createFaults, causeFaults, rescheduleFaults}
+use Rattle.engine.specs.Execution.{OnSlot, refused, done, byteAt, clockOf, createFaults, rescheduleFaults}
 use Rattle.engine.specs.Execution.{createdClock, settingOf}
 use Rattle.engine.specs.Execution.{nowOf, censorOf, unlessFull, unlessFaulty, onClock, holding, plain, isWithdrawn, withdraw}
 use Rattle.engine.specs.Execution.{requestOf, eventAnswer, withdrawnAnswer, clockOfRequest, target}

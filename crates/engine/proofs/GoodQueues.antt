@@ -21,7 +21,8 @@ use Rattle.engine.proofs.RequestLists.{In, isFor, in-keep, keep-sat, ke
 use Rattle.engine.proofs.RequestLists.{in-append}
 use Rattle.engine.proofs.RequestLists.{not-for-same, none-left, others-left}
 use Rattle.engine.proofs.RequestCounts.{each-in, in-each, counted, at-most}
-use Rattle.engine.proofs.DistinctIndices.{not-there, one-request, keep-distinct, snoc-distinct}
+use Rattle.engine.proofs.DistinctIndices.{not-there, one-request, keep-distinct}
+use Rattle.engine.proofs.IndexLaws.{distinct-more}
 
 one-or-none : (b : Bool) → cond b 1 0 ≤ 1
 one-or-none true = omega arith
@@ -123,7 +124,7 @@ module _ {slots slots′ : ℕ → ClockSlot} {count : ℕ} {q : List Request} (
       → GoodQueue slots′ (count + 1) (q ++ (r ∷ []))
   queue-adds e r c m new = record {
     requests = in-each (q ++ (r ∷ [])) (λ y j. each y (in-append y q r j));
-    indices = snoc-distinct q r (g .indices) (not-there (r .index) q (λ y j h. let l = request-of g y j .index in omega arith));
+    indices = distinct-more q r (g .indices) (not-there (r .index) q (λ y j h. let l = request-of g y j .index in omega arith));
     own = λ k. either-way (eqb k i) (λ t. here k (eqb-true k i t)) (λ t. there k (eqb-false k i t));
   }
     where

@@ -1,6 +1,6 @@
 -- Indices of requests that stand once: one request more, and one whose index is there before it.
 use mathlib.Core.Path.{_≡_, refl, sym}
-use mathlib.Core.Bool.{Bool, true, false, not, cond, _&&_, true≢false}
+use mathlib.Core.Bool.{Bool, true, false, not, cond, true≢false}
 use mathlib.Core.List.{List, [], _∷_, _++_, map, map-append}
 use Prim.Native.Nat.{ℕ, suc, _+_, _<_, _≤_}
 use native.Mathlib.Nat.{le-of-lt}
@@ -15,7 +15,7 @@ use Rattle.clocks.proofs.Cases.{either-way}
 use Rattle.engine.specs.Queue.{isThere}
 use Rattle.engine.specs.Validation.{distinct}
 use Rattle.engine.specs.declared.state.Request.{Request}
-use Rattle.engine.proofs.ValidationLaws.{and-false}
+use Rattle.engine.proofs.Conjunctions.{both-true, and-false}
 
 -- ---- indices
 
@@ -46,14 +46,6 @@ among-none x none = rw none
 
 -- ---- one request more
 
-and-left : (a b : Bool) → (a && b) ≡ true → a ≡ true
-and-left true b e = refl
-and-left false b e = e
-
-and-right : (a b : Bool) → (a && b) ≡ true → b ≡ true
-and-right true b e = e
-and-right false b e = absurd (true≢false (sym e))
-
 neither : (a b : Bool) → cond a true b ≡ false → (a ≡ false) × (b ≡ false)
 neither true b e = absurd (true≢false e)
 neither false b e = (refl, e)
@@ -75,17 +67,19 @@ pub distinct-none : distinct [] ≡ true
 unfolding distinct
 distinct-none = refl
 
-pub distinct-more : (rs : List Request) (r : Request) → distinct rs ≡ true → isThere (r .index) rs ≡ false → distinct (rs ++ (r ∷ [])) ≡ true
+pub distinct-more : (rs : List Request) (r : Request) → distinct rs ≡ true → isThere (r .index) rs ≡ false
+    → distinct (rs ++ (r ∷ [])) ≡ true
 unfolding distinct isThere
 distinct-more [] r h n = refl
 distinct-more (q ∷ rs) r h n =
     let f = neither (eqb (q .index) (r .index)) (isThere (r .index) rs) n in
     let unlike : r .index ≡ q .index → ⊥ = λ e. eqb-false (q .index) (r .index) (f .0) (sym e) in
-    let alone = not-true (isThere (q .index) rs) (and-left (not (isThere (q .index) rs)) (distinct rs) h) in
-    rw (there-more (q .index) rs r alone unlike)
-    (distinct-more rs r (and-right (not (isThere (q .index) rs)) (distinct rs) h) (f .1))
+    let b = both-true (not (isThere (q .index) rs)) (distinct rs) h in
+    let alone = not-true (isThere (q .index) rs) (b .0) in
+    rw (there-more (q .index) rs r alone unlike) (distinct-more rs r (b .1) (f .1))
 
-pub distinct-fails : (rs : List Request) (r : Request) (qs : List Request) → isThere (r .index) rs ≡ true → distinct (rs ++ (r ∷ qs)) ≡ false
+pub distinct-fails : (rs : List Request) (r : Request) (qs : List Request) → isThere (r .index) rs ≡ true
+    → distinct (rs ++ (r ∷ qs)) ≡ false
 unfolding distinct isThere
 distinct-fails [] r qs h = absurd (true≢false (sym h))
 distinct-fails (q ∷ rs) r qs h =

@@ -1,3 +1,4 @@
+-- Laws about the definitions of the engine crate, one subject to a file. The proof of each function stands in its own folder.
 pub mod AcceptedFields
 pub mod Applied
 pub mod Asking

@@ -1,6 +1,6 @@
 -- Only a NaN differs from itself, which is how the code tests for one.
-use mathlib.Core.Path.{_≡_, refl, sym, ap, _∙_, subst}
-use mathlib.Core.Bool.{Bool, true, false, not}
+use mathlib.Core.Path.{_≡_, refl, ap}
+use mathlib.Core.Bool.{Bool, true, false}
 use Prim.Native.Nat.{ℕ}
 use native.Mathlib.Omega.{arith}
 use lib.Dec.{T}
@@ -30,6 +30,3 @@ unfolding isNan
 differs-is-nan nan = nan-differs
 differs-is-nan (inf s) = unlike (inf s) refl
 differs-is-nan (fin s m d) = unlike (fin s m d) refl
-
-pub no-nan : (x : Float) → ne x x ≡ false → T (not (isNan x))
-no-nan x e = subst (λ (b : Bool). T (not b)) (sym e ∙ differs-is-nan x) tt

@@ -151,10 +151,6 @@ pub without-length : (index : ℕ) (us : List Request) → length (without index
 unfolding without
 without-length index us = keep-length (λ r. not (eqb (r .index) index)) us
 
-pub without-none : (index : ℕ) → without index [] ≡ []
-unfolding without
-without-none index = refl
-
 module _ (index : ℕ) (us : List Request) (r : Request) {vs : List Request} (last : vs ≡ us ++ (r ∷ [])) where
   without-kept : (r .index ≡ index → ⊥) → without index vs ≡ without index us ++ (r ∷ [])
   unfolding without

@@ -23,6 +23,7 @@ use Rattle.engine.specs.Validation.{validSlot, validRequest, distinct, v
 use Rattle.engine.specs.declared.state.Request.{Request}
 use Rattle.engine.specs.declared.state.ClockSlot.{ClockSlot}
 use Rattle.engine.specs.declared.state.EngineState.{EngineState}
+use Rattle.engine.proofs.Conjunctions.{and-false}
 
 -- ---- lists
 
@@ -37,10 +38,6 @@ module _ {A : Type 0} where
   drop-next l i d h = rw add-one (drop-cons l i d h)
 
 -- ---- tests joined
-
-pub and-false : (a : Bool) → (a && false) ≡ false
-and-false true = refl
-and-false false = refl
 
 and-assoc : (a b c : Bool) → (a && (b && c)) ≡ ((a && b) && c)
 and-assoc true b c = refl

@@ -1,5 +1,5 @@
--- Document 01, "A command comes in", "Clocks" and "Answer": what each command but UNDO does, and the refusals that it meets, in the table's order. A
--- command is its own bytes, cut to its width; the journal is never read here, only its length n.
+-- Document 01, "A command comes in", "Clocks" and "Answer": what each command but UNDO does, and the refusals that it meets, in the
+-- table's order. A command is its own bytes, cut to its width; the journal is never read here, only its length n.
 use mathlib.Core.Bool.{Bool, true, false, not, cond, _&&_, _||_}
 use mathlib.Core.List.{List, [], _∷_}
 use mathlib.Core.Option.{Option, none, some}
@@ -10,8 +10,7 @@ use lib.IntN.{ℤ}
 use lib.Ieee.{Float}
 use Rattle.hazards.specs.Floats.{inRange, isTime, zeroBits}
 use Rattle.hazards.specs.Fields.{fieldAt, f64At, i32At}
-use Rattle.hazards.specs.Refusals.{tooManyCauses, noFaults, rangeFaultUnless, identifierFaultIf, isReserved, joined, numberOf}
-use Rattle.hazards.specs.Rates.{intervalsFrom}
+use Rattle.hazards.specs.Refusals.{tooManyCauses, rangeFaultUnless, identifierFaultIf, isReserved, joined, numberOf}
 use Rattle.hazards.specs.Checks.{hazardFaults, hazardOf, intervalsOf}
 use Rattle.hazards.specs.Answers.{noEvent}
 use Rattle.hazards.specs.Ties.{tieBreakerOf}

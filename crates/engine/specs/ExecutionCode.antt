@@ -1,6 +1,6 @@
 -- What the execution's answers in the code mean, and what the code needs of the progress so that its counts do not wrap.
 use mathlib.Core.Bool.{cond}
-use Prim.Native.Nat.{ℕ, _≤_, _<_, _^_}
+use Prim.Native.Nat.{_≤_, _<_, _^_}
 use lib.Dec.{eqb}
 use Rattle.engine.specs.Execution.{OnSlot, refused, done}
 use Rattle.engine.specs.declared.execution.SlotOutcome.{SlotOutcome}

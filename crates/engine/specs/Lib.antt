@@ -1,3 +1,4 @@
+-- The definitions of the engine crate: commands, queue, execution, journal and undo, the batch run, demand 3 and the table of rows.
 pub mod Commands
 pub mod Comparison
 pub mod Demand3

@@ -1,12 +1,11 @@
 -- Document 01, "Queue and ticks": the order of requests, the one that is delivered next, and taking one out.
 use mathlib.Core.Bool.{Bool, true, false, not, cond}
-use mathlib.Core.List.{List, [], _∷_, _++_}
+use mathlib.Core.List.{List, [], _∷_}
 use mathlib.Core.Option.{Option, none, some}
 use Prim.Native.Nat.{ℕ, _+_, _*_, _^_}
 use lib.Dec.{eqb, ltb}
 use lib.Signed.{ltZ}
 use lib.ListN.{length}
-use Rattle.clocks.specs.declared.ticks.Ticks.{Ticks}
 use Rattle.engine.specs.declared.state.Request.{Request}
 
 abbrev pub ticksOf : Request → ℕ

@@ -1,12 +1,11 @@
 -- Document 01, "Run call and sampler": the batch run (document 01: run call). It opens an engine and answers command after command.
 use mathlib.Core.Bool.{Bool, cond, _&&_, _||_}
-use mathlib.Core.List.{List, [], _∷_, _++_}
+use mathlib.Core.List.{[], _∷_, _++_}
 use Prim.Native.Nat.{ℕ, zero, suc, _+_, _*_, _%_}
 use lib.Dec.{eqb, ltb, leb}
 use lib.ListN.{length, drop, replicate}
 use Rattle.hazards.specs.Fields.{bytesOf}
 use Rattle.hazards.specs.Answers.{answerWidth, withAnswer}
-use Rattle.hazards.specs.declared.answers.Answer.{Answer}
 use Rattle.engine.specs.Commands.{widthOf}
 use Rattle.engine.specs.Refusals.{noCommand, cutShort, answersFull, badBuffers}
 use Rattle.engine.specs.State.{openedState}
@@ -63,8 +62,8 @@ runFrom (suc turns) stream state journal answers answered read (b ∷ bs) =
     (runFrom turns stream (o .state) (o .journal) written (answered + 1) (read + widthOf b) (drop (widthOf b) (b ∷ bs))))
     (finished answersFull journal answers answered read)
 
--- 18, first of all and writing nothing, if the stream's bytes are not a multiple of 8 or the result is not 16 bytes; else from opening, which fills the
--- journal with zero
+-- 18, first of all and writing nothing, if the stream's bytes are not a multiple of 8 or the result is not 16 bytes; else from opening,
+-- which fills the journal with zero
 unfoldable pub runOf : Bytes → Bytes → Bytes → Bytes → Bytes → Ran
 runOf commands stream journal answers result =
     cond (eqb (length stream % 8) 0 && eqb (length result) 16)

@@ -1,10 +1,9 @@
 -- Document 01, "Journal and undo": an engine in use from its opening on, its applied commands, and demand 3's first half.
-use Prim.Native.Nat.{ℕ, zero, suc, _+_, _≤_}
+use Prim.Native.Nat.{ℕ, _+_, _≤_}
 use mathlib.Core.Path.{_≡_}
-use mathlib.Core.Bool.{true, cond}
+use mathlib.Core.Bool.{true}
 use mathlib.Core.List.{List, [], _∷_, _++_}
-use lib.Dec.{ltb, leb}
-use lib.ListN.{length, drop, replicate}
+use lib.ListN.{length, replicate}
 use Rattle.engine.specs.Journal.{Bytes, performed, Engine, Reply, refusal, reverted, answered, init, cut, Whole, execute}
 
 module _ (E : Engine) where
@@ -34,14 +33,6 @@ module _ (E : Engine) where
   unfoldable pub feedAll : Session → List Bytes → Session
   feedAll u [] = u
   feedAll u (i ∷ is) = feedAll (feed u i) is
-
-  -- the inputs of a batch run (document 01: run call): the bytes from each command on, up to one that is no command or not whole
-  unfoldable pub inputsOf : ℕ → Bytes → List Bytes
-  inputsOf zero bs = []
-  inputsOf (suc k) [] = []
-  inputsOf (suc k) (b ∷ bs) =
-      let more : List Bytes = inputsOf k (drop (E .width b) (b ∷ bs)) in
-      (b ∷ bs) ∷ cond (ltb 0 (E .width b)) (cond (leb (E .width b) (length (b ∷ bs))) more []) []
 
   -- a newly opened engine with a journal of n bytes, which opening fills with zero
   unfoldable pub newSession : ℕ → Session

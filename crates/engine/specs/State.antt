@@ -1,5 +1,5 @@
 -- The state at opening, and states with a part replaced.
-use mathlib.Core.Bool.{Bool, false, true}
+use mathlib.Core.Bool.{false}
 use mathlib.Core.List.{List, _++_}
 use Prim.Native.Nat.{ℕ, _+_, _-_}
 use lib.IntN.{pos}

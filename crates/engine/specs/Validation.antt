@@ -1,9 +1,9 @@
--- Document 01, refusal 1: what a state handed in is tested for, in the words of its row, and no more. Only present clocks and used places are looked at.
-use mathlib.Core.Bool.{Bool, true, false, not, cond, _&&_}
+-- Document 01, refusal 1: what a state handed in is tested for, in the words of its row, and no more. Only present clocks and used places
+-- are looked at.
+use mathlib.Core.Bool.{Bool, true, not, cond, _&&_}
 use mathlib.Core.List.{List, [], _∷_}
 use Prim.Native.Nat.{ℕ}
 use lib.Dec.{eqb, ltb, leb}
-use lib.ListN.{length, take}
 use Rattle.hazards.specs.Lists.{all}
 use Rattle.hazards.specs.Draws.{streamLength}
 use Rattle.clocks.specs.Validation.{validClock}

@@ -3,7 +3,7 @@ ghost use mathlib.Core.Path.{_≡_};
 ghost use mathlib.Core.Bool.{true};
 ghost use lib.ListN.{length};
 ghost use Rattle.hazards.specs.Answers.{noEvent};
-ghost use Rattle.engine.specs.Journal.{Whole, act, apply, execute};
+ghost use Rattle.engine.specs.Journal.{act, apply, execute};
 ghost use Rattle.engine.specs.Validation.{validState};
 ghost use Rattle.engine.specs.Instance.{engineOf};
 ghost use Rattle.engine.specs.ExecuteCode.{after, left, Appliable, applyOn, appliedOn};
@@ -77,6 +77,7 @@ fn apply(state: EngineState, stream: &[u8], journal: &mut [u8], command: &[u8]) 
     }
 }
 
+// One input (document 01: the command door) on a state and its journal: its answer or refusal, and the state after it.
 pub fn execute(state: EngineState, stream: &[u8], journal: &mut [u8], input: &[u8]) -> Executed
     ensures { λ r. ⌜ left r (now (journal .exit))
         ≡ after (now (stream .entry)) (length (now (journal .entry)))

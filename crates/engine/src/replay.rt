@@ -5,7 +5,7 @@ ghost use mathlib.Core.List.{List};
 ghost use Prim.Native.Nat.{ℕ, _≤_, _<_, _^_};
 ghost use lib.ListN.{length};
 ghost use Rattle.engine.specs.State.{slotAt, withSlot};
-ghost use Rattle.engine.specs.Journal.{fails, replayAll, cleared, undo};
+ghost use Rattle.engine.specs.Journal.{replayAll, cleared, undo};
 ghost use Rattle.engine.specs.Instance.{engineOf};
 ghost use Rattle.engine.specs.ReplayCode.{beforeLast, OwnReplay, wholeWidth, frontCommand, replayedOf};
 ghost use Rattle.engine.specs.ExecuteCode.{after, left, onlyNumber};
@@ -179,6 +179,7 @@ pub(crate) fn revert(stream: &[u8], journal: &mut [u8], applied: usize) -> Engin
     restored(end, journal, applied)
 }
 
+// UNDO (document 01: strikes the last standing command), by a replay of the applied commands; refused by 12 or 13.
 pub(crate) fn undo(state: EngineState, stream: &[u8], journal: &mut [u8]) -> Executed
     requires { ⌜ state .progress .«applied_length» ≤ length (now journal) ⌝ }
     ensures { λ r. ⌜ left r (now (journal .exit))

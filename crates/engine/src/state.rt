@@ -16,8 +16,8 @@ pub struct Request {
     pub index: u64,
 }
 
-// The queue with how many of its places are used, the requests made so far, the draw position, and the length of the applied commands in the journal
-// (document 01: standing length).
+// The queue with how many of its places are used, the requests made so far, the draw position, and the length of the applied commands in
+// the journal (document 01: standing length).
 pub struct Progress {
     pub queue: [Request; 16],
     pub queued: usize,

@@ -7,8 +7,7 @@ use lib.Dec.{eqb, ltb}
 use lib.Ieee.{Float, lt, le}
 use Rattle.hazards.specs.Floats.{z, limit, zeroBits, inRange}
 use Rattle.hazards.specs.Lists.{all}
-use Rattle.hazards.specs.Rates.{Pair, pairsFrom, usedCount, usedPairs}
-unfoldable pub use Rattle.hazards.specs.Rates.{mostPairs}
+use Rattle.hazards.specs.Rates.{Pair, pairsFrom, mostPairs, usedCount, usedPairs}
 use Rattle.hazards.specs.declared.checks.HazardFields.{HazardFields}
 use Rattle.hazards.specs.declared.refusals.Faults.{Faults}
 use Rattle.hazards.specs.declared.rates.HazardRate.{HazardRate}

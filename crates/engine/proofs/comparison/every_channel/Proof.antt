@@ -13,7 +13,9 @@ use Rattle.engine.proofs.comparison.every_channel.Statement.{statement}
 use Rattle.engine.proofs.comparison.every_channel.Tie as tie
 
 abbrev Inv-loop : tie.InvT-loop
-Inv-loop a b i₀ i = (i ≤ 8) × (everyBelow i (λ k. sameChannel (getD (a .channels) k emptyChannel) (getD (b .channels) k emptyChannel)) ≡ true)
+Inv-loop a b i₀ i =
+    (i ≤ 8)
+    × (everyBelow i (λ k. sameChannel (getD (a .channels) k emptyChannel) (getD (b .channels) k emptyChannel)) ≡ true)
 
 abbrev μ-loop : tie.MeasureT-loop
 μ-loop a b i₀ i = 8 - i

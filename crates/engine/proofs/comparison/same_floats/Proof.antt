@@ -1,8 +1,8 @@
 -- `comparison::same_floats` meets its contract.
-use mathlib.Core.Path.{_≡_, refl, sym, _∙_}
+use mathlib.Core.Path.{_≡_, sym, _∙_}
 use mathlib.Core.Bool.{true}
 use Prim.Native.Nat.{_≤_, _-_}
-use lib.ListN.{length, getD, length-map}
+use lib.ListN.{length, getD}
 use Rattle.hazards.specs.Floats.{z}
 use Rattle.engine.specs.Comparison.{everyBelow, sameFloat}
 use Rattle.engine.proofs.EveryPlace.{every-none, every-more, every-fails, at-place}

@@ -2,7 +2,6 @@
 use mathlib.Core.Path.{sym, _∙_}
 use native.Mathlib.Omega.{arith}
 use borrow.Author.Needs.{needs}
-use borrow.Author.Tests.{eqb-true}
 use Rattle.engine.proofs.ReplayLaws.{width-nothing, width-undo, width-whole, width-part}
 use Rattle.engine.proofs.replay.command_width.Statement.{statement}
 use Rattle.engine.proofs.replay.command_width.Tie as tie

@@ -31,7 +31,8 @@ returns c =
     let a = m .args in
     let clear = c .before .before .before .before .before .before .clear in (
       c .with-slot .ensures,
-      λ stream. cleared-journal stream (a .journal .now) (clear .last .0) (a .end .last) (a .applied) (m .pre .0) (m .pre .1) (clear .ensures),
+      λ stream.
+          cleared-journal stream (a .journal .now) (clear .last .0) (a .end .last) (a .applied) (m .pre .0) (m .pre .1) (clear .ensures),
     )
 
 pub restored-spec : {M : Type 1} → statement M

@@ -8,12 +8,15 @@ use lib.ListN.{length, drop, length-map}
 use Rattle.hazards.proofs.ListLaws.{slice-next, slice-none}
 use Rattle.clocks.specs.Clocks.{usedChannels}
 use Rattle.clocks.proofs.UsedChannels.{pastEnd}
-use Rattle.engine.proofs.ValidationLaws.{channelsPass, channels-next, channels-fail, channels-none, clock-over, clock-fails, clock-rest}
+use Rattle.engine.proofs.ValidationLaws.{channelsPass, channels-next, channels-fail, channels-none}
+use Rattle.engine.proofs.ValidationLaws.{clock-over, clock-fails, clock-rest}
 use Rattle.engine.proofs.validation.valid_clock.Statement.{statement}
 use Rattle.engine.proofs.validation.valid_clock.Tie as tie
 
 abbrev Inv-loop : tie.InvT-loop
-Inv-loop clock used least₀ i₀ least i = (i ≤ used) × (channelsPass least (drop i (usedChannels clock)) ≡ channelsPass 0 (usedChannels clock))
+Inv-loop clock used least₀ i₀ least i =
+    (i ≤ used)
+    × (channelsPass least (drop i (usedChannels clock)) ≡ channelsPass 0 (usedChannels clock))
 
 abbrev μ-loop : tie.MeasureT-loop
 μ-loop clock used least₀ i₀ least i = used - i
