@@ -7,7 +7,7 @@ use mathlib.Core.Path.{_≡_, refl, sym, ap, _∙_, subst}
 use mathlib.Core.Bool.{Bool, true, false, cond}
 use mathlib.Core.List.{List, [], _∷_, _++_, append-assoc, append-nil}
 use mathlib.Core.Option.{some}
-use lib.ListN.{length, take, replicate, length-append}
+use lib.ListN.{length, take, replicate, length-append, length-replicate}
 use lib.Seq.{paste, take-at}
 use lib.Dec.{ltb}
 use borrow.Author.Tests.{ltb-true, lt-ltb}
@@ -15,8 +15,10 @@ use Rattle.engine.specs.Refusals.{nothingApplied, replayFails}
 use Rattle.engine.specs.Journal.{Bytes, Performed, rejected, performed, Engine, Asked, reject, revert, apply, reverted, answered}
 use Rattle.engine.specs.Journal.{concat, init, Outcome, cut, Whole, classify, replay, cleared, unchanged}
 use Rattle.engine.specs.Journal.{Replayed, ends, replayFrom, replayAll, revertTo, undo, write, act, execute}
+use Rattle.engine.specs.Parts.{appliedPart}
 use Rattle.engine.specs.Sessions.{Session, appliedAfter, feed, feedAll, newSession, Accepted, AcceptsEach, Laws, OnlyApplied}
 use Rattle.engine.proofs.JournalBytes.{concat-snoc, split-last, write-zeros, blank-zeros}
+use Rattle.engine.proofs.PartLaws.{applied-front}
 use Rattle.engine.proofs.Replays.{Asks, asks, cut-whole, cut-self, classify-whole, AllWhole, all-append, all-init, replay-one}
 use Rattle.engine.proofs.Replays.{First, first, ReplaysTo, replays-to}
 
@@ -51,6 +53,28 @@ module _ (E : Engine) (n : ℕ) (L : Laws E n) where
         room = omega arith;
         counted = L .opens;
       }
+
+  pub journal-length : (u : Session E) → Inv u → length (u .journal) ≡ n
+  journal-length u h =
+      let left : ℕ = n - length (concat (u .applied)) in
+      let zeros : Bytes = replicate left 0 in
+      let z : length zeros ≡ left = length-replicate left 0 in
+      let l : length (u .journal) ≡ length (concat (u .applied)) + length zeros =
+      ap length (h .written) ∙ length-append (concat (u .applied)) zeros in
+      let r : length (concat (u .applied)) ≤ n = h .room in
+      omega arith
+
+  applied-bytes : (u : Session E) → Inv u → take (E .appliedLength (u .state)) (u .journal) ≡ concat (u .applied)
+  applied-bytes u h =
+      ap (λ (l : Bytes). take (E .appliedLength (u .state)) l) (h .written)
+      ∙ take-at (concat (u .applied)) (replicate (n - length (concat (u .applied))) 0) (E .appliedLength (u .state)) (sym (h .counted))
+
+  pub applied-part : (u : Session E) → Inv u → appliedPart (u .journal) (E .appliedLength (u .state)) ≡ concat (u .applied)
+  applied-part u h =
+      let l : length (u .journal) ≡ n = journal-length u h in
+      let k : E .appliedLength (u .state) ≡ length (concat (u .applied)) = h .counted in
+      let r : length (concat (u .applied)) ≤ n = h .room in
+      applied-front (u .journal) (E .appliedLength (u .state)) (omega arith) ∙ applied-bytes u h
 
   -- what one input leaves, by its outcome
   abbrev after : Session E → Bytes → Outcome E → Session E
@@ -142,15 +166,12 @@ module _ (E : Engine) (n : ℕ) (L : Laws E n) where
   pub applied-replay : (u : Session E) → Inv u → 0 < length (concat (u .applied)) → AppliedReplay u
   unfolding replayAll
   applied-replay u h p =
-      let bytes : take (E .appliedLength (u .state)) (u .journal) ≡ concat (u .applied) =
-      ap (λ (l : Bytes). take (E .appliedLength (u .state)) l) (h .written)
-      ∙ take-at (concat (u .applied)) (replicate (n - length (concat (u .applied))) 0) (E .appliedLength (u .state)) (sym (h .counted)) in
       let d : ReplaysTo E (length (concat (u .applied))) (E .opened) (E .opened) 0 0 (u .applied) (u .state) =
       replays-to E (length (concat (u .applied))) (E .opened) (E .opened) 0 0 (u .applied) (u .state) (omega arith) p (h .whole) (h .ran) in
       let z : 0 + length (concat (init (u .applied))) ≡ length (concat (init (u .applied))) = omega arith in
       record {
         rest = d .rest;
-        scans = ap (λ (l : Bytes). replayFrom E (length l) (E .opened) (E .opened) 0 0 l) bytes ∙ d .scans
+        scans = ap (λ (l : Bytes). replayFrom E (length l) (E .opened) (E .opened) 0 0 l) (applied-bytes u h) ∙ d .scans
             ∙ ap (ends (u .state) (d .rest)) z;
         ran = d .ran;
       }

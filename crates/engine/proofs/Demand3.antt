@@ -14,7 +14,7 @@ use Rattle.engine.specs.Instance.{engineOf, requestsOf}
 use Rattle.engine.specs.Good.{Good}
 use Rattle.engine.specs.Demand3.{undoReply, opened, after, Demand3}
 use Rattle.engine.proofs.Replays.{AllWhole}
-use Rattle.engine.proofs.Applied.{Inv, inv-open, inv-all, only-applied, undo-accepted}
+use Rattle.engine.proofs.Applied.{Inv, inv-open, inv-all, journal-length, applied-part, only-applied, undo-accepted}
 use Rattle.engine.proofs.Asking.{asks-undo, undo-nothing, execute-undo}
 use Rattle.engine.proofs.Reached.{never-invalid}
 use Rattle.engine.proofs.Balance.{balanced}
@@ -60,6 +60,8 @@ module _ (stream : List ℕ) (n : ℕ) (inputs : List Bytes) where
         same-state = first .same-state;
         same-journal = first .same-journal;
         accepts-each = first .accepts-each;
+        journal-length = journal-length E n (engine-laws stream n) u inv;
+        applied-part = applied-part E n (engine-laws stream n) u inv;
         balance = λ k. second k .balance;
         at-most-one = λ k. second k .at-most-one;
         valid = valid;

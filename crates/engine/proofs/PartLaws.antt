@@ -5,7 +5,8 @@ use Prim.Native.Nat.{ℕ, _<_, _≤_, min}
 use native.Mathlib.Omega.{arith}
 use borrow.Author.Tests.{le-leb, lt-leb}
 use lib.ListN.{length, take, drop, replicate}
-use Rattle.engine.specs.Parts.{copiedInto, clearedFront, appliedPart}
+use Rattle.hazards.specs.Refusals.{invalidState}
+use Rattle.engine.specs.Parts.{copiedInto, clearedFront, appliedPart, appliedNumber}
 
 module _ (free command : List ℕ) where
   pub copied-whole : length command ≤ length free → copiedInto free command ≡ command ++ drop (length command) free
@@ -32,3 +33,11 @@ module _ (journal : List ℕ) (n : ℕ) where
   pub applied-past : length journal < n → appliedPart journal n ≡ []
   unfolding appliedPart
   applied-past h = rw (lt-leb n (length journal) h)
+
+  pub number-within : n ≤ length journal → appliedNumber journal n ≡ 0
+  unfolding appliedNumber
+  number-within h = rw (le-leb n (length journal) h)
+
+  pub number-past : length journal < n → appliedNumber journal n ≡ invalidState
+  unfolding appliedNumber
+  number-past h = rw (lt-leb n (length journal) h)

@@ -5,13 +5,15 @@ use mathlib.Core.Path.{_≡_}
 use mathlib.Core.Bool.{true}
 use mathlib.Core.List.{List, [], _∷_}
 use Prim.Native.Nat.{ℕ, _+_, _≤_}
+use lib.ListN.{length}
 use Rattle.hazards.specs.declared.answers.Answer.{Answer}
 use Rattle.engine.specs.Commands as commands
 use Rattle.engine.specs.Refusals.{nothingApplied}
 use Rattle.engine.specs.Queue.{countFor}
 use Rattle.engine.specs.State.{queuedRequests}
 use Rattle.engine.specs.Validation.{validState}
-use Rattle.engine.specs.Journal.{Bytes, Reply, refusal, reverted, execute}
+use Rattle.engine.specs.Journal.{Bytes, Reply, refusal, reverted, concat, execute}
+use Rattle.engine.specs.Parts.{appliedPart}
 use Rattle.engine.specs.Sessions.{Session, feedAll, newSession, AcceptsEach}
 use Rattle.engine.specs.Ledger.{Ledger, emptyLedger, ledgerOf}
 use Rattle.engine.specs.Instance.{engineOf, requestsOf}
@@ -47,6 +49,10 @@ module _ (stream : List ℕ) (n : ℕ) (inputs : List Bytes) where
     pub same-state : after .state ≡ replayed .state
     pub same-journal : after .journal ≡ replayed .journal
     pub accepts-each : AcceptsEach (engineOf stream n) opened (after .applied)
+    -- the journal keeps the length n of the engine, which the contract of `execute` reads off it; the part of it that `applied_commands`
+    -- gives is the applied commands, one after another
+    pub journal-length : length (after .journal) ≡ n
+    pub applied-part : appliedPart (after .journal) (after .state .progress .«applied_length») ≡ concat (after .applied)
     -- requests made = withdrawn + delivered + queued, for each clock, and at most one is queued
     pub balance : (k : ℕ) → ledger .rows k .made ≡ ledger .rows k .withdrawn + ledger .rows k .delivered + queued k
     pub at-most-one : (k : ℕ) → queued k ≤ 1

@@ -1,12 +1,13 @@
 -- Document 01's engine over a threshold stream (document 01: tape) and a journal of n bytes, and what the request ledger reads of it.
-use mathlib.Core.List.{List}
+use mathlib.Core.List.{List, []}
 use Prim.Native.Nat.{ℕ}
 use Rattle.hazards.specs.declared.answers.Answer.{Answer}
 use Rattle.engine.specs.Commands.{widthOf}
 use Rattle.engine.specs.State.{openedState, queuedRequests}
 use Rattle.engine.specs.Validation.{validState}
 use Rattle.engine.specs.Comparison.{sameState}
-use Rattle.engine.specs.Journal.{Engine}
+use Rattle.engine.specs.Journal.{Bytes, Engine}
+use Rattle.engine.specs.Sessions.{Session}
 use Rattle.engine.specs.Execution.{clockOf, priorityOf, perform}
 use Rattle.engine.specs.Ledger.{Requests}
 use Rattle.engine.specs.declared.state.EngineState.{EngineState}
@@ -22,6 +23,10 @@ engineOf stream n = record {
   width = widthOf;
   perform = perform stream n;
 }
+
+-- an engine in use of this state and journal, with nothing applied
+abbrev pub openedWith : (stream : List ℕ) (n : ℕ) → EngineState → Bytes → Session (engineOf stream n)
+openedWith stream n s journal = record { state = s; journal = journal; applied = [] }
 
 abbrev pub requestsOf : (stream : List ℕ) (n : ℕ) → Requests (engineOf stream n)
 requestsOf stream n = record {

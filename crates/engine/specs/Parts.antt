@@ -4,6 +4,7 @@ use mathlib.Core.List.{List, [], _++_}
 use Prim.Native.Nat.{ℕ, min}
 use lib.Dec.{leb}
 use lib.ListN.{length, take, drop, replicate}
+use Rattle.hazards.specs.Refusals.{invalidState}
 
 -- a command over the first bytes of the free part; one that is longer than the free part changes nothing
 unfoldable pub copiedInto : List ℕ → List ℕ → List ℕ
@@ -16,3 +17,7 @@ clearedFront bytes count = replicate (min count (length bytes)) 0 ++ drop (min c
 -- the applied commands (document 01: standing commands) in the journal; empty where their length is above the journal's, which 1 refuses
 unfoldable pub appliedPart : List ℕ → ℕ → List ℕ
 appliedPart journal appliedLength = cond (leb appliedLength (length journal)) (take appliedLength journal) []
+
+-- the number that this part is given with: 1 tells a refusal's empty part from that of no applied commands
+unfoldable pub appliedNumber : List ℕ → ℕ → ℕ
+appliedNumber journal appliedLength = cond (leb appliedLength (length journal)) 0 invalidState

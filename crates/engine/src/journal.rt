@@ -1,7 +1,7 @@
 // The journal's bytes: a command copied into the free part, bytes cleared, and the part that the applied commands fill.
 ghost use mathlib.Core.Path.{_≡_};
 ghost use Prim.Native.Nat.{min};
-ghost use Rattle.engine.specs.Parts.{copiedInto, clearedFront, appliedPart};
+ghost use Rattle.engine.specs.Parts.{copiedInto, clearedFront, appliedPart, appliedNumber};
 
 // The command over the first bytes of the free part; one that is longer changes nothing.
 pub fn copy_into(free: &mut [u8], command: &[u8])
@@ -44,4 +44,14 @@ pub fn applied_commands<'a>(applied_length: usize, journal: &'a [u8]) -> &'a [u8
     } else {
         &journal[..0]
     }
+}
+
+// The number of the call above: 0, or 1 where the applied commands' length is past the journal's end.
+pub fn applied_number(applied_length: usize, journal: &[u8]) -> u8
+    ensures { λ r. ⌜ r ≡ appliedNumber (now (journal .entry)) «applied_length» ⌝ }
+{
+    if applied_length > journal.len() {
+        return hazards::refusals::INVALID_STATE;
+    }
+    0
 }

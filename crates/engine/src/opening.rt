@@ -1,6 +1,11 @@
-// The state of a newly opened engine.
+// Opening an engine: its state, and its journal.
+ghost use mathlib.Core.List.{List};
 ghost use mathlib.Core.Path.{_≡_};
+ghost use Prim.Native.Nat.{ℕ};
+ghost use lib.ListN.{length};
 ghost use Rattle.engine.specs.State.{emptySlot, openedState};
+ghost use Rattle.engine.specs.Sessions.{newSession};
+ghost use Rattle.engine.specs.Instance.{engineOf, openedWith};
 use crate::state::ClockSlot;
 use crate::state::EngineState;
 use crate::state::Progress;
@@ -34,7 +39,7 @@ pub fn empty_slot() -> ClockSlot
 }
 
 // At opening nothing exists.
-pub fn opened_state() -> EngineState
+pub(crate) fn opened_state() -> EngineState
     ensures { λ r. ⌜ r ≡ openedState ⌝ }
 {
     let slot = empty_slot();
@@ -54,4 +59,14 @@ pub fn opened_state() -> EngineState
             applied_length: 0,
         },
     }
+}
+
+// An engine is opened: nothing exists, and the journal is filled with zero.
+pub fn open(journal: &mut [u8]) -> EngineState
+    ensures { λ r. ⌜ ((stream : List ℕ) → openedWith stream (length (now (journal .entry))) r (now (journal .exit))
+        ≡ newSession (engineOf stream (length (now (journal .entry)))) (length (now (journal .entry)))) ⌝ }
+{
+    let length = journal.len();
+    crate::journal::clear(journal, length);
+    opened_state()
 }
