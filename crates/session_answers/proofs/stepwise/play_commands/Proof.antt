@@ -8,7 +8,9 @@ use Rattle.session_answers.proofs.stepwise.play_commands.Statement.{sta
 use Rattle.session_answers.proofs.stepwise.play_commands.Tie as tie
 
 abbrev Inv-loop : tie.InvT-loop
-Inv-loop commands stream journal₀ answers answered tally after₀ state₀ at₀ i₀ journal after state at i = (i ≤ answered) × (length journal ≡ length journal₀)
+Inv-loop commands stream journal₀ answers answered tally after₀ state₀ at₀ i₀ journal after state at i =
+    (i ≤ answered)
+    × (length journal ≡ length journal₀)
 
 abbrev μ-loop : tie.MeasureT-loop
 μ-loop commands stream journal₀ answers answered tally after₀ state₀ at₀ i₀ journal after state at i = answered - i
