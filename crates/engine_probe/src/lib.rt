@@ -5,10 +5,10 @@ pub mod clock_encoding;
 pub mod state_decoding;
 pub mod state_encoding;
 
-// The record of a newly opened state.
+// The record of a newly opened state, and its journal.
 #[no_mangle]
-pub extern "C" fn probe_open(state: &mut [u8]) {
-    state_encoding::put_state(state, engine::opening::opened_state());
+pub extern "C" fn probe_open(state: &mut [u8], journal: &mut [u8]) {
+    state_encoding::put_state(state, engine::opening::open(journal));
 }
 
 // One input given to the state of a record, which then holds the state after it; the answer's 32 bytes, and its number.
@@ -36,4 +36,10 @@ pub extern "C" fn probe_applied(state: &[u8], journal: &[u8], out: &mut [u8]) ->
     let applied = engine::journal::applied_commands(applied_length, journal);
     engine::journal::copy_into(out, applied);
     applied.len() as u64
+}
+
+// The number that they are given with.
+#[no_mangle]
+pub extern "C" fn probe_applied_number(state: &[u8], journal: &[u8]) -> u8 {
+    engine::journal::applied_number(state_decoding::applied_length_at(state), journal)
 }

@@ -51,8 +51,8 @@ pub fn journal() -> [u8; 400] {
 
 // The state that these commands give, with one request queued.
 pub fn state<'a>(commands: &'a [u8], stream: &'a [u8]) -> EngineState {
-    let mut journal = [0u8; 400];
-    let mut state = engine::opening::opened_state();
+    let mut journal = [0x5Au8; 400];
+    let mut state = engine::opening::open(&mut journal);
     let mut at: usize = 0;
     let mut left: usize = 4;
     while left > 0 {

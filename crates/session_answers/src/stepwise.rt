@@ -30,7 +30,7 @@ fn play_commands(
     requires { ⌜ answered ≤ 128 ⌝ }
 {
     let mut after = tally;
-    let mut state = engine::opening::opened_state();
+    let mut state = engine::opening::open(journal);
     let mut at: usize = 0;
     let mut i: usize = 0;
     while i < answered {
@@ -61,7 +61,7 @@ pub fn play(
     if number == engine::run::BAD_BUFFERS {
         return tally;
     }
-    let mut space = [0u8; 4096];
+    let mut space = [0x5Au8; 4096];
     let length = within(journal.len(), &space);
     let own = &mut space[..length];
     let answered = crate::commands::answered(result, number);

@@ -20,12 +20,13 @@ pub struct Both {
 pub type Outcome = Result<u8, String>;
 
 impl Both {
-    /// Two newly opened engines.
+    /// Two newly opened engines, over journals that opening has to fill.
     pub fn open(journal: usize) -> Self {
         let mut rust_journal = vec![0x5A; journal];
+        let mut journal = rust_journal.clone();
         Self {
-            record: probe::open(),
-            journal: vec![0; journal],
+            record: probe::open(&mut journal),
+            journal,
             state: open(&mut rust_journal),
             rust_journal,
         }
@@ -54,11 +55,20 @@ impl Both {
         same_answer(&rust, &rattle)?;
         same_journal(&self.rust_journal, &self.journal)?;
         self.same_state(fields)?;
-        let commands = applied(&self.state, &self.rust_journal).unwrap_or(&[]);
-        if commands != probe::applied(&self.record, &self.journal) {
-            return Err("the applied commands differ".to_string());
-        }
+        self.same_applied()?;
         Ok(rattle[0])
+    }
+
+    /// The applied commands and their number; a refusal's part is empty.
+    fn same_applied(&self) -> Result<(), String> {
+        let (number, commands) = match applied(&self.state, &self.rust_journal) {
+            Ok(commands) => (0, commands.to_vec()),
+            Err(refusal) => (refusal.number(), Vec::new()),
+        };
+        if (number, commands) == probe::applied(&self.record, &self.journal) {
+            return Ok(());
+        }
+        Err("the applied commands or their number differ".to_string())
     }
 
     /// Every field of the state.

@@ -96,7 +96,7 @@ fn tampered(
 ) -> Result<(), String> {
     let (mut record, mut journal) = (both.record.clone(), both.journal.clone());
     let what = if random.chance(20) {
-        let applied = probe::applied(&record, &journal).len();
+        let applied = probe::applied(&record, &journal).1.len();
         tampering::tamper_journal(random, &mut journal, applied);
         "applied commands".to_string()
     } else {

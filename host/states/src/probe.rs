@@ -7,7 +7,7 @@ use reference::record::STATE_BYTES;
 
 mod raw {
     unsafe extern "C" {
-        pub fn probe_open(state: *mut u8, state_len: usize);
+        pub fn probe_open(state: *mut u8, state_len: usize, journal: *mut u8, journal_len: usize);
 
         pub fn probe_execute(
             state: *mut u8,
@@ -30,14 +30,28 @@ mod raw {
             out: *mut u8,
             out_len: usize,
         ) -> u64;
+
+        pub fn probe_applied_number(
+            state: *const u8,
+            state_len: usize,
+            journal: *const u8,
+            journal_len: usize,
+        ) -> u8;
     }
 }
 
-/// The record of a newly opened state.
-pub fn open() -> Vec<u8> {
+/// The record of a newly opened state; opening fills the journal.
+pub fn open(journal: &mut [u8]) -> Vec<u8> {
     let mut state = vec![0xFF; STATE_BYTES];
-    // SAFETY: the pointer comes from a buffer that is ours and stands with its length.
-    unsafe { raw::probe_open(state.as_mut_ptr(), state.len()) };
+    // SAFETY: both pointers come from buffers that are ours alone and stand with their lengths.
+    unsafe {
+        raw::probe_open(
+            state.as_mut_ptr(),
+            state.len(),
+            journal.as_mut_ptr(),
+            journal.len(),
+        );
+    }
     state
 }
 
@@ -68,8 +82,8 @@ pub fn execute(
     answer
 }
 
-/// The applied commands of a record's state.
-pub fn applied(state: &[u8], journal: &[u8]) -> Vec<u8> {
+/// The applied commands of a record's state, and the number that they are given with.
+pub fn applied(state: &[u8], journal: &[u8]) -> (u8, Vec<u8>) {
     let mut out = vec![0; journal.len()];
     // SAFETY: as above.
     let length = unsafe {
@@ -83,5 +97,9 @@ pub fn applied(state: &[u8], journal: &[u8]) -> Vec<u8> {
         )
     };
     out.truncate(length as usize);
-    out
+    // SAFETY: as above.
+    let number = unsafe {
+        raw::probe_applied_number(state.as_ptr(), state.len(), journal.as_ptr(), journal.len())
+    };
+    (number, out)
 }

@@ -13,8 +13,11 @@ Inv-loop commands stream journal₀ state₀ at₀ left₀ journal state at left
 abbrev μ-loop : tie.MeasureT-loop
 μ-loop commands stream journal₀ state₀ at₀ left₀ journal state at left = left
 
-opened-state-requires : tie.Need-opened-state-requires Inv-loop μ-loop
-opened-state-requires c κs = search needs
+slice-aggregate-open : tie.Need-slice-aggregate-open Inv-loop μ-loop
+slice-aggregate-open c = search needs
+
+open-requires : tie.Need-open-requires Inv-loop μ-loop
+open-requires c κs = search needs
 
 loop-holds : tie.Need-loop-holds Inv-loop μ-loop
 loop-holds c = (search needs, search needs)
@@ -49,7 +52,8 @@ state-spec =
     (tie.spec
     Inv-loop
     μ-loop
-    opened-state-requires
+    slice-aggregate-open
+    open-requires
     loop-holds
     rest-from-requires
     slice-aggregate-execute

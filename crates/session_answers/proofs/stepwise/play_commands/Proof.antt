@@ -9,17 +9,16 @@ use Rattle.session_answers.proofs.stepwise.play_commands.Tie as tie
 
 abbrev Inv-loop : tie.InvT-loop
 Inv-loop commands stream journal₀ answers answered tally after₀ state₀ at₀ i₀ journal after state at i =
-    (i ≤ answered)
-    × (length journal ≡ length journal₀)
+    (i ≤ answered) × (length journal ≡ length journal₀) × (answered ≤ 128)
 
 abbrev μ-loop : tie.MeasureT-loop
 μ-loop commands stream journal₀ answers answered tally after₀ state₀ at₀ i₀ journal after state at i = answered - i
 
-opened-state-requires : tie.Need-opened-state-requires Inv-loop μ-loop
-opened-state-requires c κs = search needs
+open-requires : tie.Need-open-requires Inv-loop μ-loop
+open-requires c κs = search needs
 
 loop-holds : tie.Need-loop-holds Inv-loop μ-loop
-loop-holds c = (search needs, search needs)
+loop-holds c = (search needs, search needs, search needs)
 
 rest-from-requires : tie.Need-rest-from-requires Inv-loop μ-loop
 rest-from-requires c κs = search needs
@@ -43,13 +42,14 @@ place-after-requires : tie.Need-place-after-requires Inv-loop μ-loop
 place-after-requires c κs = search needs
 
 add-i : tie.Need-add-i Inv-loop μ-loop
-add-i c = omega arith
+add-i c =
+    let l = c .before .before .before .before .before .before .before .before .before .before .before .loop in omega (arith, l .inv .2)
 
 loop-less : tie.Need-loop-less Inv-loop μ-loop
 loop-less c = omega arith
 
 loop-again : tie.Need-loop-again Inv-loop μ-loop
-loop-again c = (search needs, search needs)
+loop-again c = (search needs, search needs, search needs)
 
 same-length : tie.Need-same-length Inv-loop μ-loop
 same-length c = search needs
@@ -63,7 +63,7 @@ play-commands-spec =
     (tie.spec
     Inv-loop
     μ-loop
-    opened-state-requires
+    open-requires
     loop-holds
     rest-from-requires
     execute-requires
