@@ -22,7 +22,7 @@ The engine's batch run. All sides are given the same bytes and leave the same by
 the journal of a run was written by the run before it.
 Oracle: document 01's rules over the Rust, as written: every state validated, UNDO with a journal of its own and a
 comparison of states. Rust: the same without these, which no run from opening needs; UNDO replays straight from the journal.
-Rattle: no state is validated (proved needless); UNDO compares states. ratio = the other's time / Rattle's.
+Rattle: no state is validated, and UNDO compares none (both proved needless). ratio = the other's time / Rattle's.
 An undo's time is a run of the commands and 8 times UNDO and the last command, less a run of the commands alone, by 8.";
 
 pub fn print() {
