@@ -17,7 +17,7 @@ use Rattle.engine.specs.Journal.{concat, init, Outcome, cut, Whole, clas
 use Rattle.engine.specs.Journal.{Replayed, ends, replayFrom, replayAll, revertTo, undo, write, act, execute}
 use Rattle.engine.specs.Parts.{appliedPart}
 use Rattle.engine.specs.Sessions.{Session, appliedAfter, feed, feedAll, newSession, Accepted, AcceptsEach, Laws, OnlyApplied}
-use Rattle.engine.proofs.JournalBytes.{concat-snoc, split-last, write-zeros, blank-zeros}
+use Rattle.engine.proofs.JournalBytes.{concat-snoc, split-last, init-snoc, write-zeros, blank-zeros}
 use Rattle.engine.proofs.PartLaws.{applied-front}
 use Rattle.engine.proofs.Replays.{Asks, asks, cut-whole, cut-self, classify-whole, AllWhole, all-append, all-init, replay-one}
 use Rattle.engine.proofs.Replays.{First, first, ReplaysTo, replays-to}
@@ -251,6 +251,42 @@ module _ (E : Engine) (n : ℕ) (L : Laws E n) where
       let h : Inv u = inv-all (newSession E n) is inv-open in
       let d : AppliedReplay u = applied-replay u h (omega (arith, h .counted)) in
       simp (lt-ltb 0 (E .appliedLength (u .state)) p, d .scans, r (u .state))
+
+  last-whole : (cs : List Bytes) (c : Bytes) → AllWhole E (cs ++ (c ∷ [])) → Whole E c
+  last-whole [] c h = h .0
+  last-whole (d ∷ cs) c h = last-whole cs c (h .1)
+
+  executed : (u : Session E) (i : Bytes) → Inv u → Inv (after u i (execute E (u .state) (u .journal) i))
+  unfolding execute
+  executed u i h = inv-act u i (classify E (u .state) i) h refl
+
+  reverts : ((s : E .State) → E .same s s ≡ true) → (v : Session E) (d : AppliedReplay v) → 0 < E .appliedLength (v .state)
+      → undo E (v .state) (v .journal) ≡ lastReverted v (d .rest)
+  unfolding undo
+  reverts r v d p = simp (lt-ltb 0 (E .appliedLength (v .state)) p, d .scans, r (v .state))
+
+  -- an UNDO right after an accepted command leaves state and journal as they were before it
+  pub taken-back : ((s : E .State) → E .same s s ≡ true) → (u : Session E) (i : Bytes) (a : E .Answer) (t : E .State) (k : Bytes) → Inv u
+      → execute E (u .state) (u .journal) i ≡ record { reply = answered a; state = t; journal = k }
+      → undo E t k ≡ record { reply = reverted; state = u .state; journal = u .journal }
+  taken-back r u i a t k h e =
+      let c : Bytes = cut E i in
+      let v : Session E = record { state = t; journal = k; applied = u .applied ++ (c ∷ []) } in
+      let hv : Inv v = subst (λ (o : Outcome E). Inv (after u i o)) e (executed u i h) in
+      let w : Whole E c = last-whole (u .applied) c (hv .whole) in
+      let l : length (concat (v .applied)) ≡ length (concat (u .applied)) + length c =
+      ap length (concat-snoc (u .applied) c) ∙ length-append (concat (u .applied)) c in
+      let p : 0 < length (concat (v .applied)) = omega (arith, w .pos) in
+      let d : AppliedReplay v = applied-replay v hv p in
+      let same-commands : init (v .applied) ≡ u .applied = init-snoc (u .applied) c in
+      let ran : replay E (some (E .opened)) (u .applied) ≡ some (d .rest) =
+      subst (λ (cs : List Bytes). replay E (some (E .opened)) cs ≡ some (d .rest)) same-commands (d .ran) in
+      let same-state : d .rest ≡ u .state = cc (sym ran ∙ h .ran) in
+      let same-journal : lastReverted v (d .rest) .journal ≡ u .journal =
+      inv-reverted v [] (d .rest) hv p (d .ran) .written
+      ∙ ap (λ (cs : List Bytes). concat cs ++ replicate (n - length (concat cs)) 0) same-commands
+      ∙ sym (h .written) in
+      reverts r v d (omega (arith, p, hv .counted)) ∙ λ x. record { reply = reverted; state = same-state x; journal = same-journal x }
 
   -- demand 3, first half
   pub only-applied : (is : List Bytes) → OnlyApplied E n is

@@ -28,6 +28,12 @@ pub split-last : (c : Bytes) (cs : List Bytes) → (d : Bytes) × (c ∷ cs ≡ 
 split-last c [] = (c, refl)
 split-last c (e ∷ cs) = (split-last e cs .0, ap (λ (l : List Bytes). c ∷ l) (split-last e cs .1))
 
+-- all but the last of a list with c at its end
+pub init-snoc : (cs : List Bytes) (c : Bytes) → init (cs ++ (c ∷ [])) ≡ cs
+init-snoc [] c = refl
+init-snoc (d ∷ []) c = refl
+init-snoc (d ∷ e ∷ cs) c = ap (λ (l : List Bytes). d ∷ l) (init-snoc (e ∷ cs) c)
+
 -- a command written behind the bytes p, over zeros
 pub write-zeros : (p c : Bytes) (k m : ℕ) → length p ≡ k → length c ≤ m
     → paste (p ++ replicate m 0) k c (length c) ≡ (p ++ c) ++ replicate (m - length c) 0

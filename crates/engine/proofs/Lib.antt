@@ -39,6 +39,7 @@ pub mod Rows
 pub mod RunAnswers
 pub mod RunNumbers
 pub mod RunOpening
+pub mod RunReverts
 pub mod RunStates
 pub mod RunStops
 pub mod RunTurns

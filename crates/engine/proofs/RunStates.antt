@@ -5,13 +5,15 @@ use Prim.Native.Nat.{ℕ, _<_}
 use native.Mathlib.Omega.{arith}
 use lib.ListN.{length, replicate, take}
 use Rattle.engine.specs.State.{openedState}
-use Rattle.engine.specs.Journal.{Bytes, Engine, Outcome, concat, init, ends, replayAll, execute}
+use Rattle.engine.specs.Journal.{Bytes, Engine, Outcome, reverted, answered, concat, init, ends, replayAll, undo, execute}
 use Rattle.engine.specs.Sessions.{Session, appliedAfter, feed, feedAll, newSession}
 use Rattle.engine.specs.Instance.{engineOf}
 use Rattle.engine.specs.Good.{Good}
 use Rattle.engine.specs.ReplayCode.{OwnReplay}
+use Rattle.hazards.specs.declared.answers.Answer.{Answer}
 use Rattle.engine.specs.declared.state.EngineState.{EngineState}
-use Rattle.engine.proofs.Applied.{Inv, inv-open, inv-all, AppliedReplay, applied-replay}
+use Rattle.engine.proofs.Applied.{Inv, inv-open, inv-all, AppliedReplay, applied-replay, taken-back}
+use Rattle.engine.proofs.ComparisonLaws.{state-same}
 use Rattle.engine.proofs.Reached.{good-replay}
 use Rattle.engine.proofs.EngineLaws.{engine-laws}
 use Rattle.engine.proofs.GoodKept.{engine-sound}
@@ -46,6 +48,12 @@ module _ (stream : Bytes) (n : ℕ) where
     reached-good =
         good-replay E (Good stream n) (engine-sound stream n) openedState (r .applied) s (r .inv .whole) (r .inv .ran)
         (engine-sound stream n .opens)
+
+    -- an accepted command that UNDO reverts at once
+    pub reached-back : (i : Bytes) (a : Answer) (t : EngineState) (k : Bytes)
+        → execute E s j i ≡ record { reply = answered a; state = t; journal = k }
+        → undo E t k ≡ record { reply = reverted; state = s; journal = j }
+    reached-back i a t k e = taken-back E n (engine-laws stream n) state-same session i a t k (r .inv) e
 
     abbrev lastPlace : ℕ
     lastPlace = length (concat (init (r .applied)))

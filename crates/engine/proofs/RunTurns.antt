@@ -329,6 +329,16 @@ module _ (bytes stream : Bytes) (n size : ℕ) (all : Ran) where
       pub next-fits : o .number ≡ 0 → s .progress .«applied_length» + length c ≤ length j
       next-fits z = done-fits stream (length j) slot (s .progress) c (o .slot) (o .progress) (o .answer) (outcome-done o e z)
 
+      -- what the definition gives for it
+      pub input-performs : o .number ≡ 0 → execute E s j i ≡ record {
+        reply = answered (o .answer);
+        state = withSlot s t (o .slot) (o .progress);
+        journal = paste j (s .progress .«applied_length») c (length c);
+      }
+      input-performs z =
+          execute-performs E s j i c (withSlot s t (o .slot) (o .progress)) (o .answer) asked
+          (performs stream n s c o t named (slotAt s t) refl did z)
+
       -- the journal and the answers after it
       module _ {k written : Bytes}
           (f : answeredBy k written ≡ answerAt (o .number) (o .answer) (s .progress .«applied_length») j answers (32 * count) c)
@@ -352,7 +362,7 @@ module _ (bytes stream : Bytes) (n size : ℕ) (all : Ran) where
             let ek : k ≡ pasted = ap (λ (a : Answered). a .journal) g in
             let h =
             turned (record { reply = answered (o .answer); state = next; journal = pasted })
-            (execute-performs E s j i c next (o .answer) asked d) (goes-on d) (ap (λ (a : Answered). a .answers) g)
+            (input-performs z) (goes-on d) (ap (λ (a : Answered). a .answers) g)
             (ap length (sym ek) ∙ lk) lw in
             subst (λ (b : Bytes). Running b written result next (count + 1) (at + w)) (sym ek) h
 

@@ -1,5 +1,5 @@
 -- A batch run in the parts that the code has: what ends it before an input, one command answered, and the run from opening.
-use mathlib.Core.Bool.{cond}
+use mathlib.Core.Bool.{Bool, cond, _&&_}
 use mathlib.Core.List.{_++_}
 use Prim.Native.Nat.{ℕ, _+_, _*_}
 use lib.Dec.{eqb, leb}
@@ -10,7 +10,8 @@ use Rattle.hazards.specs.Answers.{answerWidth, noEvent, withAnswer}
 use Rattle.hazards.specs.declared.answers.Answer.{Answer}
 use Rattle.engine.specs.Refusals.{answersFull}
 use Rattle.engine.specs.State.{openedState}
-use Rattle.engine.specs.Journal.{Bytes}
+use Rattle.engine.specs.Commands as commands
+use Rattle.engine.specs.Journal.{Bytes, code}
 use Rattle.engine.specs.Run.{Ran, endNumber, runFrom}
 
 -- the number that ends a run, or 0, with the answers and the result
@@ -49,6 +50,15 @@ abbrev pub answerAt : ℕ → Answer → ℕ → Bytes → Bytes → ℕ → Byt
 answerAt number a free journal answers place c =
     cond (eqb number 0) (answeredBy (paste journal free c (length c)) (withAnswer answers place a))
     (answeredBy journal (withAnswer answers place (noEvent number)))
+
+-- whether the next input is an UNDO that reverts a command that was accepted, and its answer has room
+abbrev pub isReverted : ℕ → Bytes → Bytes → ℕ → Bool
+isReverted number rest answers place =
+    eqb number 0 && (eqb (code rest) commands.undo && leb (place + (answerWidth + answerWidth)) (length answers))
+
+-- a command's answer, and that of the UNDO after it
+abbrev pub bothAnswered : Answer → Bytes → ℕ → Bytes
+bothAnswered a answers place = withAnswer (withAnswer answers place a) (place + answerWidth) (noEvent 0)
 
 -- the run from opening, with a journal of n bytes
 abbrev pub openedRun : Bytes → Bytes → ℕ → Bytes → Ran

@@ -8,8 +8,11 @@ ghost use lib.ListN.{length, replicate};
 ghost use Rattle.hazards.specs.Fields.{bytesOf};
 ghost use Rattle.engine.specs.Refusals.{nothingApplied};
 ghost use Rattle.engine.specs.Run.{ran, endNumber, runOf};
-ghost use Rattle.engine.specs.RunCode.{stop, stopAt, answeredBy, answerAt, openedRun};
+ghost use Rattle.engine.specs.RunCode.{stop, stopAt, answeredBy, answerAt, isReverted, bothAnswered, openedRun};
+use crate::execution::perform_on;
 use hazards::answers::Answer;
+use hazards::answers::no_event;
+use hazards::answers::put_answer;
 
 pub const ANSWERS_FULL: u8 = 17;
 
@@ -65,7 +68,7 @@ fn end_run(input: &[u8], answers: &mut [u8], result: &mut [u8], answered: usize,
     }
     let number = end_number(input);
     if number != 0 {
-        hazards::answers::put_answer(answers, place, hazards::answers::no_event(number));
+        put_answer(answers, place, no_event(number));
         finish(result, answered + 1, read);
     }
     number
@@ -87,11 +90,38 @@ fn answer_at(
         ≡ answerAt refusal answer free (now (journal .entry)) (now (answers .entry)) place (now (command .entry)) ⌝ }
 {
     if refusal != 0 {
-        hazards::answers::put_answer(answers, place, hazards::answers::no_event(refusal));
+        put_answer(answers, place, no_event(refusal));
         return;
     }
     crate::journal::copy_into(&mut journal[free..], command);
-    hazards::answers::put_answer(answers, place, answer);
+    put_answer(answers, place, answer);
+}
+
+// Answers an accepted command that the next input, an UNDO, reverts, and that UNDO: state and journal stay as they were, so nothing is
+// replayed. Tells whether there is such an UNDO whose answer has room; otherwise nothing is written.
+fn answer_reverted(
+    number: u8,
+    answer: Answer,
+    rest: &[u8],
+    answers: &mut [u8],
+    place: usize,
+) -> bool
+    requires { ⌜ place + 32 ≤ length (now answers) ⌝ }
+    ensures { λ r. ⌜ (r ≡ isReverted number (now (rest .entry)) (now (answers .entry)) place)
+        × (now (answers .exit) ≡ cond r (bothAnswered answer (now (answers .entry)) place) (now (answers .entry))) ⌝ }
+{
+    if number != 0 {
+        return false;
+    }
+    if crate::commands::byte_at(rest, 0) != crate::commands::UNDO {
+        return false;
+    }
+    if answers.len() - place < 64 {
+        return false;
+    }
+    put_answer(answers, place, answer);
+    put_answer(answers, place + 32, no_event(0));
+    true
 }
 
 // UNDO is refused where nothing is applied; a reached state meets no other refusal.
@@ -132,8 +162,7 @@ fn run_commands(
         answered = answered + 1;
         if code == crate::commands::UNDO {
             let applied = state.progress.applied_length;
-            let answer = hazards::answers::no_event(undo_number(applied));
-            hazards::answers::put_answer(answers, place, answer);
+            put_answer(answers, place, no_event(undo_number(applied)));
             if applied != 0 {
                 state = crate::replay::revert(stream, journal, applied);
             }
@@ -142,24 +171,19 @@ fn run_commands(
         let command = &commands[start..at];
         let target = crate::execution::target(state.progress, command);
         // A clock above 15 is refused before its slot is looked at, so any slot does.
-        let nearest = if target < 16 { target } else { 15 };
-        let outcome = crate::execution::perform_on(
-            state.slots[nearest],
-            state.progress,
-            stream,
-            journal.len(),
-            command,
-        );
-        answer_at(
-            outcome.number,
-            outcome.answer,
-            state.progress.applied_length,
-            journal,
-            answers,
-            place,
-            command,
-        );
-        if outcome.number == 0 {
+        let near = if target < 16 { target } else { 15 };
+        let size = journal.len();
+        let outcome = perform_on(state.slots[near], state.progress, stream, size, command);
+        let refusal = outcome.number;
+        let answer = outcome.answer;
+        if answer_reverted(refusal, answer, &commands[at..], answers, place) {
+            at = at + 1;
+            answered = answered + 1;
+            continue;
+        }
+        let free = state.progress.applied_length;
+        answer_at(refusal, answer, free, journal, answers, place, command);
+        if refusal == 0 {
             let moved = outcome.slot;
             state.slots[target] = moved;
             let next = outcome.progress;

@@ -3,7 +3,7 @@ use mathlib.Core.Logic.{⊎-elim}
 use mathlib.Core.List.{List}
 use mathlib.Core.Path.{_≡_, refl, sym, ap, _∙_}
 use mathlib.Core.Bool.{Bool, cond}
-use Prim.Native.Nat.{ℕ, _+_, _-_, _<_, _≤_, _^_}
+use Prim.Native.Nat.{ℕ, _+_, _-_, _*_, _<_, _≤_, _^_}
 use native.Mathlib.Omega.{arith}
 use borrow.Author.Needs.{needs}
 use borrow.Author.Tests.{eq-eqb, ne-eqb}
@@ -19,11 +19,13 @@ use Rattle.engine.specs.Instance.{engineOf}
 use Rattle.engine.specs.Good.{Good}
 use Rattle.engine.specs.ExecuteCode.{onlyNumber}
 use Rattle.engine.specs.Run.{ran}
-use Rattle.engine.specs.RunCode.{openedRun}
+use Rattle.engine.specs.RunCode.{answerAt, openedRun}
 use Rattle.engine.specs.declared.state.ClockSlot.{ClockSlot}
 use Rattle.engine.proofs.Asking.{undo-nothing}
 use Rattle.engine.proofs.EveryPlace.{getD-any}
 use Rattle.engine.proofs.ExecuteLaws.{left-refused}
+use Rattle.engine.proofs.JournalBytes.{partOf}
+use Rattle.engine.proofs.RunReverts.{when-true, when-false, reverted-within, next-reverted}
 use Rattle.engine.proofs.RunStates.{reached-replays}
 use Rattle.engine.proofs.RunTurns.{Running, Input, code-at, running-begins, running-good, running-ends, run-stops, run-goes-on}
 use Rattle.engine.proofs.RunTurns.{input-fits, next-undo, next-below, next-fits, next-refused, next-performed}
@@ -163,8 +165,8 @@ undone c = c .before .before .before .before .before
 
 undo-answer : (c : tie.After-put-answer Inv-loop μ-loop) (number : ℕ)
     → cond (eqb (turn (ended (known (undone c))) .loop .state .progress .«applied_length») 0) nothingApplied 0 ≡ number
-    → c .before .before .no-event .result ≡ noEvent number
-undo-answer c number e = c .before .before .no-event .ensures ∙ ap noEvent (c .before .before .before .undo-number .ensures ∙ e)
+    → c .before .no-event .result ≡ noEvent number
+undo-answer c number e = c .before .no-event .ensures ∙ ap noEvent (c .before .before .undo-number .ensures ∙ e)
 
 abbrev by-test : Bool → ℕ
 by-test b = cond b nothingApplied 0
@@ -220,10 +222,10 @@ target-requires : tie.Need-target-requires Inv-loop μ-loop
 target-requires c κs = search needs
 
 -- the place of the slot that is read: that of the clock, where it is one of the sixteen
-near : (c : tie.Joined4 Inv-loop μ-loop) → c .if4 .nearest < 16
+near : (c : tie.Joined4 Inv-loop μ-loop) → c .if4 .near < 16
 near c = ⊎-elim (λ w. omega (arith, w .0 .taken, w .1)) (λ w. omega (arith, w .1)) (c .if4 .came)
 
-near-is : (c : tie.Joined4 Inv-loop μ-loop) → c .before .target .result < 16 → c .if4 .nearest ≡ c .before .target .result
+near-is : (c : tie.Joined4 Inv-loop μ-loop) → c .before .target .result < 16 → c .if4 .near ≡ c .before .target .result
 near-is c b = ⊎-elim (λ w. w .1) (λ w. absurd (omega (arith, w .0 .left, b))) (c .if4 .came)
 
 mul-perform-on : tie.Need-mul-perform-on Inv-loop μ-loop
@@ -254,33 +256,97 @@ other : (c : tie.After-perform-on Inv-loop μ-loop)
 other c q = targeted c .before .before .before .if2 .left (sym (code-is (widthed c)) ∙ q)
 
 slot-is : (c : tie.After-perform-on Inv-loop μ-loop) (d : ClockSlot) → targeted c .target .result < 16
-    → getD (turn (ended (known (widthed c))) .loop .state .slots) (chosen c .if4 .nearest) d
+    → getD (turn (ended (known (widthed c))) .loop .state .slots) (chosen c .if4 .near) d
     ≡ slotAt (turn (ended (known (widthed c))) .loop .state) (targeted c .target .result)
 slot-is c d b =
     let s = turn (ended (known (widthed c))) .loop .state in
     let sixteen = good (known (widthed c)) .slots in
-    getD-any (s .slots) (chosen c .if4 .nearest) d emptySlot (omega (arith, near (chosen c)))
+    getD-any (s .slots) (chosen c .if4 .near) d emptySlot (omega (arith, near (chosen c)))
     ∙ ap (slotAt s) (near-is (chosen c) b)
+
+-- ---- the next input reverts it
+
+sub-answer-reverted : tie.Need-sub-answer-reverted Inv-loop μ-loop
+sub-answer-reverted c = let f = fits (widthed (c .before)) in omega (arith, f .1)
+
+part-answer-reverted-start : tie.Need-part-answer-reverted-start Inv-loop μ-loop
+part-answer-reverted-start c = let f = fits (widthed (c .before)) in omega (arith, f .1)
+
+part-answer-reverted-end : tie.Need-part-answer-reverted-end Inv-loop μ-loop
+part-answer-reverted-end c = omega arith
+
+answer-reverted-requires : tie.Need-answer-reverted-requires Inv-loop μ-loop
+answer-reverted-requires c κs = input (known (widthed (c .before .before .before))) .space
+
+-- the command whose answer may be followed by that of an UNDO
+abbrev tested : tie.After-answer-reverted Inv-loop μ-loop → tie.After-perform-on Inv-loop μ-loop
+tested c = c .before .before .before .before
+
+-- the UNDO after it is there
+within : (c : tie.Then5 Inv-loop μ-loop)
+    → place (widthed (tested (c .before .before .before))) + widthed (tested (c .before .before .before)) .width .result
+    < length (bytes (widthed (tested (c .before .before .before))))
+within c =
+    let m = c .before .before .before in
+    let w = widthed (tested m) in
+    reverted-within (tested m .perform-on .result .number) (bytes w) (place w + w .width .result) (ended (known w) .end-run .last .1 .0)
+    (32 * turn (ended (known w)) .loop .answered) (sym (m .answer-reverted .ensures .0) ∙ c .if5 .taken)
+
+add-at-2 : tie.Need-add-at-2 Inv-loop μ-loop
+add-at-2 c =
+    let w = widthed (tested (c .before .before .before)) in
+    omega (arith, within c, start (known w) .good .0 .0)
+
+add-answered-2 : tie.Need-add-answered-2 Inv-loop μ-loop
+add-answered-2 c =
+    let w = widthed (tested (c .before .before .before)) in
+    let f = fits w in
+    omega (arith, within c, f .0, turn (ended (known w)) .loop .inv .few, start (known w) .good .0 .0)
+
+loop-less-3 : tie.Need-loop-less-3 Inv-loop μ-loop
+loop-less-3 c = let f = fits (widthed (tested (c .before .before .before))) in omega (arith, f .0, f .1)
+
+loop-again-3 : tie.Need-loop-again-3 Inv-loop μ-loop
+loop-again-3 c =
+    let answered = c .before .before .before in
+    let m = tested answered in
+    let w = widthed m in
+    let yes = c .if5 .taken in
+    next-reverted _ _ _ _ _ (input (known w)) (w .width .result) (wide w) (other m) (m .perform-on .result) (targeted m .target .result)
+    (targeted m .target .ensures) _ (slot-is m _) (m .perform-on .ensures) (sym (answered .answer-reverted .ensures .0) ∙ yes)
+    (when-true _ _ _ _ (answered .answer-reverted .ensures .1) yes) (c .before .before .answers3 .given ∙ input (known w) .running .same-answers)
+
+-- ---- it is applied or refused
+
+-- the command that is answered, and the answers as they were before
+abbrev kept : tie.Else5 Inv-loop μ-loop → tie.After-answer-reverted Inv-loop μ-loop
+kept c = c .before .before .before
+
+same-answers : (c : tie.Else5 Inv-loop μ-loop)
+    → kept c .answer-reverted .last .1 .1 .1 .0 ≡ ended (known (widthed (tested (kept c)))) .end-run .last .1 .0
+same-answers c = when-false _ _ _ _ (kept c .answer-reverted .ensures .1) (c .if5 .left)
 
 answer-at-requires : tie.Need-answer-at-requires Inv-loop μ-loop
 answer-at-requires c κs =
-    let m = c .before .before in
+    let m = tested (kept (c .before .before)) in
     let w = widthed m in
     next-fits _ _ _ _ _ (input (known w)) (w .width .result) (wide w) (other m) (m .perform-on .result) (targeted m .target .result)
     (targeted m .target .ensures) _ (slot-is m _) (m .perform-on .ensures)
 
--- the command that is answered
+abbrev unreverted : tie.After-answer-at Inv-loop μ-loop → tie.Else5 Inv-loop μ-loop
+unreverted c = c .before .before .before
+
 abbrev performed : tie.After-answer-at Inv-loop μ-loop → tie.After-perform-on Inv-loop μ-loop
-performed c = c .before .before .before
+performed c = tested (kept (unreverted c))
 
 -- an accepted command is about one of the sixteen
 below : (c : tie.After-moved Inv-loop μ-loop)
-    → targeted (performed (c .before .before .before .before .before .before .before)) .target .result < 16
+    → targeted (performed (c .before .before .before .before .before .before)) .target .result < 16
 below c =
-    let m = performed (c .before .before .before .before .before .before .before) in
+    let m = performed (c .before .before .before .before .before .before) in
     let w = widthed m in
     next-below _ _ _ _ _ (input (known w)) (w .width .result) (wide w) (other m) (m .perform-on .result) (targeted m .target .result)
-    (targeted m .target .ensures) _ (slot-is m _) (m .perform-on .ensures) (c .before .if5 .taken)
+    (targeted m .target .ensures) _ (slot-is m _) (m .perform-on .ensures) (c .before .if6 .taken)
 
 mul-moved : tie.Need-mul-moved Inv-loop μ-loop
 mul-moved c = let b = below c in omega arith
@@ -288,37 +354,48 @@ mul-moved c = let b = below c in omega arith
 element-set-from-moved : tie.Need-element-set-from-moved Inv-loop μ-loop
 element-set-from-moved c = let b = below c in omega arith
 
-loop-less-3 : tie.Need-loop-less-3 Inv-loop μ-loop
-loop-less-3 c =
-    let f = fits (widthed (performed (c .before .before .before .before .before .before .before .before))) in
-    omega (arith, f .0, f .1)
-
-loop-again-3 : tie.Need-loop-again-3 Inv-loop μ-loop
-loop-again-3 c =
-    let done = c .before .before .before .before .before .before .before .before in
-    let m = performed done in
-    let w = widthed m in
-    let l = turn (ended (known w)) .loop in
-    next-performed _ _ _ _ _ (input (known w)) (w .width .result) (wide w) (other m) (m .perform-on .result) (targeted m .target .result)
-    (targeted m .target .ensures) _ (slot-is m _) (m .perform-on .ensures) (done .answer-at .ensures)
-    (omega (arith, l .inv .same-journal))
-    (c .before .before .before .before .before .answers3 .given ∙ input (known w) .running .same-answers) (c .before .before .if5 .taken)
-
 loop-less-4 : tie.Need-loop-less-4 Inv-loop μ-loop
 loop-less-4 c =
-    let f = fits (widthed (performed (c .before .before .before .before .before .before))) in
+    let f = fits (widthed (performed (c .before .before .before .before .before .before .before))) in
     omega (arith, f .0, f .1)
 
 loop-again-4 : tie.Need-loop-again-4 Inv-loop μ-loop
 loop-again-4 c =
-    let done = c .before .before .before .before .before .before in
+    let done = c .before .before .before .before .before .before .before in
+    let m = performed done in
+    let w = widthed m in
+    let l = turn (ended (known w)) .loop in
+    next-performed _ _ _ _ _ (input (known w)) (w .width .result) (wide w) (other m) (m .perform-on .result) (targeted m .target .result)
+    (targeted m .target .ensures) _ (slot-is m _) (m .perform-on .ensures)
+    (done .answer-at .ensures
+    ∙ ap (λ (b : List ℕ). answerAt (m .perform-on .result .number) (m .perform-on .result .answer)
+    (l .state .progress .«applied_length») (l .journal) b (32 * l .answered) (partOf (bytes w) (place w) (w .width .result)))
+    (same-answers (unreverted done)))
+    (omega (arith, l .inv .same-journal))
+    (c .before .before .before .before .answers4 .given ∙ unreverted done .before .before .answers3 .given
+    ∙ input (known w) .running .same-answers)
+    (c .before .before .if6 .taken)
+
+loop-less-5 : tie.Need-loop-less-5 Inv-loop μ-loop
+loop-less-5 c =
+    let f = fits (widthed (performed (c .before .before .before .before .before))) in
+    omega (arith, f .0, f .1)
+
+loop-again-5 : tie.Need-loop-again-5 Inv-loop μ-loop
+loop-again-5 c =
+    let done = c .before .before .before .before .before in
     let m = performed done in
     let w = widthed m in
     let l = turn (ended (known w)) .loop in
     next-refused _ _ _ _ _ (input (known w)) (w .width .result) (wide w) (other m) (m .perform-on .result) (targeted m .target .result)
-    (targeted m .target .ensures) _ (slot-is m _) (m .perform-on .ensures) (done .answer-at .ensures)
-    (omega (arith, l .inv .same-journal)) (c .before .before .before .answers3 .given ∙ input (known w) .running .same-answers)
-    (c .if5 .left)
+    (targeted m .target .ensures) _ (slot-is m _) (m .perform-on .ensures)
+    (done .answer-at .ensures
+    ∙ ap (λ (b : List ℕ). answerAt (m .perform-on .result .number) (m .perform-on .result .answer)
+    (l .state .progress .«applied_length») (l .journal) b (32 * l .answered) (partOf (bytes w) (place w) (w .width .result)))
+    (same-answers (unreverted done)))
+    (omega (arith, l .inv .same-journal))
+    (c .before .before .answers4 .given ∙ unreverted done .before .before .answers3 .given ∙ input (known w) .running .same-answers)
+    (c .if6 .left)
 
 -- ---- the end of the list
 
@@ -375,13 +452,21 @@ run-commands-spec =
     mul-perform-on
     element-copy-out-perform-on
     perform-on-requires
+    sub-answer-reverted
+    part-answer-reverted-start
+    part-answer-reverted-end
+    answer-reverted-requires
+    add-at-2
+    add-answered-2
+    loop-less-3
+    loop-again-3
     answer-at-requires
     mul-moved
     element-set-from-moved
-    loop-less-3
-    loop-again-3
     loop-less-4
     loop-again-4
+    loop-less-5
+    loop-again-5
     finish-requires
     same-length-4
     same-length-5
