@@ -14,21 +14,23 @@ const OPENED_JOURNAL: usize = 1 << 20;
 const SESSION_COMMANDS: usize = 1000;
 /// UNDOs in a thousand commands.
 const SOME_UNDOS: u64 = 10;
-/// UNDO and the last command again, so often.
-const UNDO_PAIRS: usize = 8;
+/// UNDO and the last command again, so often for each side: where nothing is replayed, 8 could not be told from none.
+const PAIRS: [usize; 3] = [8, 8, 1024];
+const IN_A_ROW: usize = 8;
 
 const HEAD: &str = "
 The engine's batch run. All sides are given the same bytes and leave the same bytes; nothing is cleared between runs, and
 the journal of a run was written by the run before it.
 Oracle: document 01's rules over the Rust, as written: every state validated, UNDO with a journal of its own and a
 comparison of states. Rust: the same without these, which no run from opening needs; UNDO replays straight from the journal.
-Rattle: no state is validated, and UNDO compares none (both proved needless). ratio = the other's time / Rattle's.
-An undo's time is a run of the commands and 8 times UNDO and the last command, less a run of the commands alone, by 8.";
+Rattle: no state is validated, UNDO compares none, and an UNDO right after an accepted command replays nothing (all proved
+needless). ratio = the other's time / Rattle's. An undo's time is a run of the commands and of some undos, each followed by
+the command again or one after another, less a run of the commands alone, for one undo.";
 
 pub fn print() {
     println!("{HEAD}");
     println!(
-        "{:<46}{:>11}{:>10}{:>10}{:>8}{:>7}",
+        "{:<50}{:>9}{:>9}{:>9}{:>9}{:>8}",
         "", "Oracle", "Rust", "Rattle", "Oracle/", "Rust/"
     );
     print_sessions();
@@ -52,7 +54,7 @@ fn print_sessions() {
         row(&format!("{name}, ns per command"), times);
         let [oracle, rust, rattle] = times.map(|ns| 1e9 / ns);
         println!(
-            "{:<46}{oracle:>11.0}{rust:>10.0}{rattle:>10.0}",
+            "{:<50}{oracle:>9.0}{rust:>9.0}{rattle:>9.0}",
             "    commands per second"
         );
     }
@@ -69,7 +71,7 @@ fn print_opening() {
         [oracle, rust, rattle],
     );
     println!(
-        "{:<46}{memset:>11.0}   Rattle / memset {:.2}",
+        "{:<50}{memset:>9.0}   Rattle / memset {:.2}",
         "    memset of 2^20 bytes, ns",
         rattle / memset
     );
@@ -80,19 +82,40 @@ fn memset(_: &[u8], _: &[u8], journal: &mut [u8], _: &mut [u8], _: &mut [u8]) ->
     0
 }
 
-/// A run with the pairs less a run without them, for one pair.
+/// After so many applied commands: an UNDO right after a command, then each of several in a row.
 fn print_undos() {
     for count in [100, 1000, 5000] {
-        let without = checked_times(&workloads::undone(count, 0));
-        let with = checked_times(&workloads::undone(count, UNDO_PAIRS));
-        let one = [0, 1, 2].map(|side| (with[side] - without[side]) / UNDO_PAIRS as f64);
-        row(&format!("one UNDO after {count} applied commands, ns"), one);
+        row(
+            &format!("UNDO of the command before it, {count} applied, ns"),
+            added_time(count, PAIRS, workloads::undone),
+        );
     }
+    for count in [100, 1000, 5000] {
+        row(
+            &format!("each of {IN_A_ROW} UNDOs in a row, {count} applied, ns"),
+            added_time(count, [IN_A_ROW; 3], workloads::reverted),
+        );
+    }
+}
+
+/// For each side, a run of `count` commands and its `added` undos less a run of the commands alone, for one undo.
+fn added_time(
+    count: usize,
+    added: [usize; 3],
+    workload: fn(usize, usize) -> EngineWorkload,
+) -> [f64; 3] {
+    let alone = checked_times(&workload(count, 0));
+    [0, 1, 2].map(|side| {
+        let workload = workload(count, added[side]);
+        hold_to_same_bytes(&workload);
+        let [with] = times([SIDES[side]], &workload);
+        (with - alone[side]) / added[side] as f64
+    })
 }
 
 fn row(name: &str, [oracle, rust, rattle]: [f64; 3]) {
     println!(
-        "{name:<46}{oracle:>11.0}{rust:>10.0}{rattle:>10.0}{:>8.2}{:>7.2}",
+        "{name:<50}{oracle:>9.0}{rust:>9.0}{rattle:>9.0}{:>9.2}{:>8.2}",
         oracle / rattle,
         rust / rattle
     );

@@ -65,6 +65,13 @@ pub fn undone(count: usize, pairs: usize) -> EngineWorkload {
     EngineWorkload::new(&commands)
 }
 
+/// `count` commands without UNDO, then `undos` times UNDO.
+pub fn reverted(count: usize, undos: usize) -> EngineWorkload {
+    let mut commands = mixed_commands(count, 0);
+    commands.extend([Command::Undo].repeat(undos));
+    EngineWorkload::new(&commands)
+}
+
 fn mixed_commands(count: usize, undo: u64) -> Vec<Command> {
     let mut random = Random::new(SEED);
     let mut commands = set_up(&mut random);
