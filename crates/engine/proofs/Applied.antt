@@ -114,7 +114,7 @@ module _ (E : Engine) (n : ℕ) (L : Laws E n) where
   has-last (c ∷ cs) p = split-last c cs
 
   -- the last command reverted, to the state v
-  abbrev lastReverted : Session E → E .State → Outcome E
+  abbrev pub lastReverted : Session E → E .State → Outcome E
   lastReverted u v = record {
     reply = reverted;
     state = v;
@@ -157,7 +157,7 @@ module _ (E : Engine) (n : ℕ) (L : Laws E n) where
       go true = inv-reverted u i rest h p e
       go false = h
 
-  -- the replay of the applied bytes
+  -- the replay of the applied bytes; `rest` is the state before the last command
   pub record AppliedReplay (u : Session E) : Type 0 where
     pub rest : E .State
     pub scans : replayAll E (take (E .appliedLength (u .state)) (u .journal)) ≡ ends (u .state) rest (length (concat (init (u .applied))))
@@ -175,6 +175,27 @@ module _ (E : Engine) (n : ℕ) (L : Laws E n) where
             ∙ ap (ends (u .state) (d .rest)) z;
         ran = d .ran;
       }
+
+  opened-replay : (v : E .State) → replay E (some (E .opened)) [] ≡ some v → some (E .opened) ≡ some v
+  unfolding replay
+  opened-replay v r = r
+
+  pub rest-counted : (u : Session E) → Inv u → (d : AppliedReplay u)
+      → E .appliedLength (d .rest) ≡ length (concat (init (u .applied)))
+  rest-counted u h d =
+      replay-counted (E .opened) (init (u .applied)) (d .rest) (all-init E (u .applied) (h .whole)) (d .ran)
+      ∙ ap (λ (k : ℕ). k + length (concat (init (u .applied)))) (L .opens)
+      ∙ omega arith
+
+  -- with nothing applied the state is that at opening
+  pub nothing-applied : (u : Session E) → Inv u → E .appliedLength (u .state) ≡ 0 → u .state ≡ E .opened
+  nothing-applied u h e = go (u .applied) (h .whole) (sym (h .counted) ∙ e) (h .ran)
+    where
+      go : (cs : List Bytes) → AllWhole E cs → length (concat cs) ≡ 0 → replay E (some (E .opened)) cs ≡ some (u .state)
+          → u .state ≡ E .opened
+      go [] w z r = sym (cc (opened-replay (u .state) r))
+      go (c ∷ cs) w z r =
+          absurd (omega (arith, w .0 .pos, length-append c (concat cs)))
 
   inv-undo : (u : Session E) (i : Bytes) → Inv u → Inv (after u i (undo E (u .state) (u .journal)))
   unfolding undo
@@ -260,7 +281,7 @@ module _ (E : Engine) (n : ℕ) (L : Laws E n) where
   unfolding execute
   executed u i h = inv-act u i (classify E (u .state) i) h refl
 
-  reverts : ((s : E .State) → E .same s s ≡ true) → (v : Session E) (d : AppliedReplay v) → 0 < E .appliedLength (v .state)
+  pub reverts : ((s : E .State) → E .same s s ≡ true) → (v : Session E) (d : AppliedReplay v) → 0 < E .appliedLength (v .state)
       → undo E (v .state) (v .journal) ≡ lastReverted v (d .rest)
   unfolding undo
   reverts r v d p = simp (lt-ltb 0 (E .appliedLength (v .state)) p, d .scans, r (v .state))

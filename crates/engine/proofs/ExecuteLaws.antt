@@ -82,14 +82,11 @@ module _ (stream : List ℕ) (n : ℕ) (r : Replay) {x : Replayed (engineOf stre
   replay-ended q = sym e ∙ rw q
 
   -- one that is known to end in s
-  pub replay-own : (s before : EngineState) (last : ℕ) → x ≡ ends s before last
-      → (x ≡ ends (r .state) (beforeLast r) (r .last)) × (sameState (r .state) s ≡ true)
-  replay-own s before last q = go (r .ok) refl
+  pub replay-state : (s before : EngineState) (last : ℕ) → x ≡ ends s before last → r .state ≡ s
+  replay-state s before last q = go (r .ok) refl
     where
-      go : (b : Bool) → r .ok ≡ b → (x ≡ ends (r .state) (beforeLast r) (r .last)) × (sameState (r .state) s ≡ true)
-      go true h =
-          let p = replay-ended h in
-          (p, ap (λ (t : EngineState). sameState t s) (ap (endState stream n s) (sym p ∙ q)) ∙ state-same s)
+      go : (b : Bool) → r .ok ≡ b → r .state ≡ s
+      go true h = ap (endState stream n s) (sym (replay-ended h) ∙ q)
       go false h = absurd (true≢false (sym (ap (doesEnd stream n) (sym (replay-failed h) ∙ q))))
 
 -- the last command reverted, and its bytes cleared in the part of the journal from its place on

@@ -1,6 +1,6 @@
 -- Laws of lists that the journal needs: zeros after the applied bytes, the concatenation of commands, and parts of the journal.
 use Prim.Native.Nat.{ℕ, zero, suc, _+_, _-_, _≤_, _<_}
-use native.Mathlib.Nat.{sub-zero, zero-sub, suc-sub-suc}
+use native.Mathlib.Nat.{add-zero, sub-zero, zero-sub, suc-sub-suc}
 use native.Mathlib.Omega.{arith}
 use mathlib.Core.Path.{_≡_, refl, sym, ap, _∙_}
 use mathlib.Core.List.{List, [], _∷_, _++_, append-assoc, append-nil}
@@ -8,8 +8,8 @@ use lib.ListN.{length-drop, drop-of-length-le, length, getD, take, drop, set, re
 use lib.ListN.{replicate-append-replicate}
 use native.Mathlib.Numerals.{add-one}
 use lib.Seq.{take-all, paste, take-at, drop-at, take-length, drop-append-add, drop-cons, set-at, append-snoc, take-suc, length-take-le}
-use lib.Seq.{drop-drop}
-use Rattle.engine.specs.Journal.{Bytes, concat, init}
+use lib.Seq.{drop-drop, getD-drop}
+use Rattle.engine.specs.Journal.{Bytes, concat, init, code}
 
 pub drop-replicate : (k m : ℕ) (a : ℕ) → drop k (replicate m a) ≡ replicate (m - k) a
 drop-replicate zero m a = ap (λ (i : ℕ). replicate i a) (sym (sub-zero m))
@@ -124,3 +124,7 @@ pasted-part j z c k h q =
     ∙ ap (λ (l : Bytes). take k j ++ l) q
     ∙ ap (λ (l : Bytes). take k j ++ (c ++ drop (length c) l)) (part-all j k)
     ∙ paste-part j c k
+
+-- the code of what begins at a place
+pub code-at : (bytes : Bytes) (at : ℕ) → code (drop at bytes) ≡ getD bytes at 0
+code-at bytes at = getD-drop at bytes 0 0 ∙ ap (λ (k : ℕ). getD bytes k 0) (add-zero at)

@@ -31,6 +31,7 @@ pub mod QueueLaws
 pub mod QueuePlaces
 pub mod Reached
 pub mod ReplayLaws
+pub mod ReplaySteps
 pub mod Replays
 pub mod RequestCounts
 pub mod RequestLists
@@ -43,6 +44,7 @@ pub mod RunReverts
 pub mod RunStates
 pub mod RunStops
 pub mod RunTurns
+pub mod RunUndos
 pub mod SlotLaws
 pub mod ValidationLaws
 pub mod Worked

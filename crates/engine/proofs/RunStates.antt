@@ -1,20 +1,23 @@
 -- The states that a batch run reaches: each is one of an engine in use, so it is good, and the replay of its applied commands ends in it.
-use mathlib.Core.Path.{_≡_, sym, subst}
+use mathlib.Core.Path.{_≡_, refl, sym, ap, _∙_, subst}
+use mathlib.Core.Bool.{Bool, true, false}
 use mathlib.Core.List.{List, [], _∷_}
 use Prim.Native.Nat.{ℕ, _<_}
 use native.Mathlib.Omega.{arith}
+use borrow.Author.Tests.{ltb-true, ltb-false}
+use lib.Dec.{ltb}
 use lib.ListN.{length, replicate, take}
 use Rattle.engine.specs.State.{openedState}
-use Rattle.engine.specs.Journal.{Bytes, Engine, Outcome, reverted, answered, concat, init, ends, replayAll, undo, execute}
+use Rattle.engine.specs.Journal.{Bytes, Engine, Outcome, reverted, answered, concat, init, ends, replayAll, cleared, undo, execute}
 use Rattle.engine.specs.Sessions.{Session, appliedAfter, feed, feedAll, newSession}
 use Rattle.engine.specs.Instance.{engineOf}
 use Rattle.engine.specs.Good.{Good}
-use Rattle.engine.specs.ReplayCode.{OwnReplay}
 use Rattle.hazards.specs.declared.answers.Answer.{Answer}
 use Rattle.engine.specs.declared.state.EngineState.{EngineState}
-use Rattle.engine.proofs.Applied.{Inv, inv-open, inv-all, AppliedReplay, applied-replay, taken-back}
+use Rattle.engine.proofs.Applied.{Inv, inv-open, inv-all, AppliedReplay, applied-replay, rest-counted, nothing-applied, reverts, taken-back}
 use Rattle.engine.proofs.ComparisonLaws.{state-same}
 use Rattle.engine.proofs.Reached.{good-replay}
+use Rattle.engine.proofs.Replays.{replay-end}
 use Rattle.engine.proofs.EngineLaws.{engine-laws}
 use Rattle.engine.proofs.GoodKept.{engine-sound}
 
@@ -30,6 +33,10 @@ module _ (stream : Bytes) (n : ℕ) where
   pub reached-open : Reached openedState (replicate n 0)
   unfolding newSession
   reached-open = record { applied = []; inv = inv-open E n (engine-laws stream n) }
+
+  pub replay-nothing : replayAll E [] ≡ ends openedState openedState 0
+  unfolding replayAll
+  replay-nothing = replay-end E 0 openedState openedState 0 0
 
   module _ (s : EngineState) (j : Bytes) (r : Reached s j) where
     abbrev session : Session E
@@ -55,17 +62,47 @@ module _ (stream : Bytes) (n : ℕ) where
         → undo E t k ≡ record { reply = reverted; state = s; journal = j }
     reached-back i a t k e = taken-back E n (engine-laws stream n) state-same session i a t k (r .inv) e
 
-    abbrev lastPlace : ℕ
-    lastPlace = length (concat (init (r .applied)))
+    -- what UNDO gives where something is applied: the state before the last command, which was at the place `last`
+    pub record Undone : Type 0 where
+      pub before : EngineState
+      pub last : ℕ
+      pub ending : replayAll E (take (s .progress .«applied_length») j) ≡ ends s before last
+      pub outcome : undo E s j ≡ record { reply = reverted; state = before; journal = cleared E j last (s .progress .«applied_length») }
+      pub counted : before .progress .«applied_length» ≡ last
 
-    pub reached-replays : length j ≡ n → 0 < s .progress .«applied_length» → OwnReplay stream s j
-    reached-replays l p =
+    pub reached-undo : 0 < s .progress .«applied_length» → Undone
+    reached-undo p =
         let d : AppliedReplay E n (engine-laws stream n) session =
         applied-replay E n (engine-laws stream n) session (r .inv) (omega (arith, r .inv .counted)) in
         record {
           before = d .rest;
-          last = lastPlace;
-          ending =
-              subst (λ (m : ℕ). replayAll (engineOf stream m) (take (s .progress .«applied_length») j) ≡ ends s (d .rest) lastPlace)
-              (sym l) (d .scans);
+          last = length (concat (init (r .applied)));
+          ending = d .scans;
+          outcome = reverts E n (engine-laws stream n) state-same session d p;
+          counted = rest-counted E n (engine-laws stream n) session (r .inv) d;
         }
+
+    -- the replay of the applied commands ends in the state
+    pub record Replays : Type 0 where
+      pub before : EngineState
+      pub last : ℕ
+      pub ending : replayAll E (take (s .progress .«applied_length») j) ≡ ends s before last
+
+    pub reached-replays : Replays
+    reached-replays = go (ltb 0 (s .progress .«applied_length»)) refl
+      where
+        go : (b : Bool) → ltb 0 (s .progress .«applied_length») ≡ b → Replays
+        go true e =
+            let u = reached-undo (ltb-true 0 (s .progress .«applied_length») e) in
+            record { before = u .before; last = u .last; ending = u .ending }
+        go false e =
+            let z : s .progress .«applied_length» ≡ 0 = omega (arith, ltb-false 0 (s .progress .«applied_length») e) in
+            let o : s ≡ openedState = nothing-applied E n (engine-laws stream n) session (r .inv) z in
+            record {
+              before = openedState;
+              last = 0;
+              ending =
+                  ap (λ (k : ℕ). replayAll E (take k j)) z
+                  ∙ replay-nothing
+                  ∙ ap (λ (t : EngineState). ends t openedState 0) (sym o);
+            }

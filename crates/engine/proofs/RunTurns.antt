@@ -3,12 +3,12 @@ use mathlib.Core.Path.{_≡_, refl, sym, _∙_, ap, subst}
 use mathlib.Core.Bool.{Bool, true, false, cond}
 use mathlib.Core.List.{[], _∷_}
 use Prim.Native.Nat.{ℕ, zero, suc, _+_, _-_, _*_, _^_, _<_, _≤_}
-use native.Mathlib.Nat.{add-zero, sub-zero}
+use native.Mathlib.Nat.{sub-zero}
 use native.Mathlib.Omega.{arith}
 use borrow.Author.Tests.{ltb-true, ltb-false, leb-true, leb-false, le-leb, lt-leb}
 use lib.Dec.{ltb, leb}
-use lib.ListN.{length, getD, take, drop, replicate, length-drop, drop-of-length-le, length-replicate}
-use lib.Seq.{drop-drop, getD-drop, paste}
+use lib.ListN.{length, take, drop, replicate, length-drop, drop-of-length-le, length-replicate}
+use lib.Seq.{drop-drop, paste}
 use Rattle.hazards.specs.Answers.{answerWidth, noEvent, withAnswer}
 use Rattle.hazards.specs.declared.answers.Answer.{Answer}
 use Rattle.clocks.proofs.Cases.{either-way}
@@ -41,9 +41,6 @@ use Rattle.engine.proofs.RunNumbers.{performedNumber, perform-goes, und
 use Rattle.engine.proofs.RunStates.{Reached, reached-open, reached-next, reached-good}
 use Rattle.engine.proofs.RunStops.{numbered, end-number, stop-way}
 use Rattle.engine.proofs.SlotLaws.{outcome-done, done-fits, rejects, performs, accepted-below}
-
-pub code-at : (bytes : Bytes) (at : ℕ) → code (drop at bytes) ≡ getD bytes at 0
-code-at bytes at = getD-drop at bytes 0 0 ∙ ap (λ (k : ℕ). getD bytes k 0) (add-zero at)
 
 -- ---- one turn of the definition
 

@@ -1,5 +1,4 @@
 -- What the replay's answers in the code mean, and the whole command at the front of some bytes with its clock.
-use mathlib.Core.Path.{_≡_}
 use mathlib.Core.Bool.{cond}
 use mathlib.Core.List.{List}
 use Prim.Native.Nat.{ℕ}
@@ -38,9 +37,3 @@ beforeLast r = withSlot (r .state) (r .clock) (r .slot) (r .progress)
 
 abbrev pub replayedOf : (stream : List ℕ) (n : ℕ) → Replay → Replayed (engineOf stream n)
 replayedOf stream n r = cond (r .ok) (ends (r .state) (beforeLast r) (r .last)) fails
-
--- the replay of a state's applied commands ends in it
-pub record OwnReplay (stream : List ℕ) (s : EngineState) (j : Bytes) : Type 0 where
-  pub before : EngineState
-  pub last : ℕ
-  pub ending : replayAll (engineOf stream (length j)) (take (s .progress .«applied_length») j) ≡ ends s before last

@@ -3,12 +3,12 @@ ghost use mathlib.Core.Path.{_≡_};
 ghost use mathlib.Core.Bool.{false};
 ghost use mathlib.Core.List.{List};
 ghost use Prim.Native.Nat.{ℕ, _≤_, _<_, _^_};
-ghost use lib.ListN.{length};
+ghost use lib.ListN.{length, take};
 ghost use Rattle.engine.specs.State.{slotAt, withSlot};
-ghost use Rattle.engine.specs.Journal.{replayAll, cleared, undo};
+ghost use Rattle.engine.specs.Journal.{ends, replayAll, cleared, undo};
 ghost use Rattle.engine.specs.Instance.{engineOf};
-ghost use Rattle.engine.specs.ReplayCode.{beforeLast, OwnReplay, wholeWidth, frontCommand, replayedOf};
-ghost use Rattle.engine.specs.ExecuteCode.{after, left, onlyNumber};
+ghost use Rattle.engine.specs.ReplayCode.{beforeLast, wholeWidth, frontCommand, replayedOf};
+ghost use Rattle.engine.specs.ExecuteCode.{after, left};
 use crate::execute::Executed;
 use crate::state::ClockSlot;
 use crate::state::EngineState;
@@ -166,17 +166,49 @@ fn restored(end: Replay, journal: &mut [u8], applied: usize) -> EngineState
     with_slot(all, end.clock, slot, progress)
 }
 
-// UNDO in a state that ends the replay of its own applied commands, as a reached one does: nothing is compared.
-pub(crate) fn revert(stream: &[u8], journal: &mut [u8], applied: usize) -> EngineState
-    requires { ⌜ applied ≤ length (now journal) ⌝ }
-    ensures { λ r. ⌜ ((s : EngineState) → s .progress .«applied_length» ≡ applied → 0 < applied
-        → OwnReplay (now (stream .entry)) s (now (journal .entry))
-        → left (onlyNumber 0 r) (now (journal .exit))
-        ≡ after (now (stream .entry)) (length (now (journal .entry)))
-        (undo (engineOf (now (stream .entry)) (length (now (journal .entry)))) s (now (journal .entry)))) ⌝ }
+// The place of the last of some applied commands; 0 where there is none.
+fn last_command(bytes: &[u8]) -> usize
+    ensures { λ r. ⌜ (r ≤ length (now (bytes .entry)))
+        × ((stream : List ℕ) (n : ℕ) (s before : EngineState) (last : ℕ)
+        → replayAll (engineOf stream n) (now (bytes .entry)) ≡ ends s before last → r ≡ last) ⌝ }
 {
-    let end = replay_all(stream, journal.len(), &journal[..applied]);
-    restored(end, journal, applied)
+    let mut last: usize = 0;
+    let mut at: usize = 0;
+    while at < bytes.len() {
+        last = at;
+        let width = crate::commands::width(bytes[at]);
+        if width == 0 {
+            return last;
+        }
+        if bytes.len() - at < width {
+            return last;
+        }
+        at = at + width;
+    }
+    last
+}
+
+// Takes the last applied command out of the journal: its bytes are cleared. Gives its place, the length of the applied commands after it.
+pub(crate) fn revert(journal: &mut [u8], applied: usize) -> usize
+    requires { ⌜ applied ≤ length (now journal) ⌝ }
+    ensures { λ r. ⌜ ((stream : List ℕ) (n : ℕ) (s before : EngineState) (last : ℕ)
+        → replayAll (engineOf stream n) (take applied (now (journal .entry))) ≡ ends s before last → r ≡ last)
+        × ((stream : List ℕ) → now (journal .exit)
+        ≡ cleared (engineOf stream (length (now (journal .entry)))) (now (journal .entry)) r applied) ⌝ }
+{
+    let last = last_command(&journal[..applied]);
+    crate::journal::clear(&mut journal[last..], applied - last);
+    last
+}
+
+// The state after applied commands that none refuses.
+pub(crate) fn replayed(stream: &[u8], journal_length: usize, bytes: &[u8]) -> EngineState
+    requires { ⌜ «journal_length» < 2 ^ 63 ⌝ }
+    ensures { λ r. ⌜ ((s before : EngineState) (last : ℕ)
+        → replayAll (engineOf (now (stream .entry)) «journal_length») (now (bytes .entry)) ≡ ends s before last → r ≡ s) ⌝ }
+{
+    let end = replay_all(stream, journal_length, bytes);
+    end.state
 }
 
 // UNDO (document 01: strikes the last standing command), by a replay of the applied commands; refused by 12 or 13.

@@ -135,7 +135,8 @@ fn undo_number(applied: usize) -> u8
     }
 }
 
-// The commands, one after another, from opening. A state that is reached from opening needs no validation.
+// The commands, one after another, from opening. A state that is reached from opening needs no validation. UNDO changes the journal alone;
+// the state is stale after it until a command needs it, when the applied commands are replayed.
 fn run_commands(
     commands: &[u8],
     stream: &[u8],
@@ -148,6 +149,8 @@ fn run_commands(
         ≡ openedRun (now (commands .entry)) (now (stream .entry)) (length (now (journal .entry))) (now (answers .entry)) ⌝ }
 {
     let mut state = crate::opening::opened_state();
+    let mut applied: usize = 0;
+    let mut stale = false;
     let mut answered: usize = 0;
     let mut at: usize = 0;
     while at < commands.len() {
@@ -161,12 +164,14 @@ fn run_commands(
         at = start + crate::commands::width(code);
         answered = answered + 1;
         if code == crate::commands::UNDO {
-            let applied = state.progress.applied_length;
             put_answer(answers, place, no_event(undo_number(applied)));
-            if applied != 0 {
-                state = crate::replay::revert(stream, journal, applied);
-            }
+            applied = crate::replay::revert(journal, applied);
+            stale = true;
             continue;
+        }
+        if stale {
+            state = crate::replay::replayed(stream, journal.len(), &journal[..applied]);
+            stale = false;
         }
         let command = &commands[start..at];
         let target = crate::execution::target(state.progress, command);
@@ -181,13 +186,13 @@ fn run_commands(
             answered = answered + 1;
             continue;
         }
-        let free = state.progress.applied_length;
-        answer_at(refusal, answer, free, journal, answers, place, command);
+        answer_at(refusal, answer, applied, journal, answers, place, command);
         if refusal == 0 {
             let moved = outcome.slot;
             state.slots[target] = moved;
             let next = outcome.progress;
             state.progress = next;
+            applied = state.progress.applied_length;
         }
     }
     finish(result, answered, at);

@@ -1,63 +1,72 @@
 -- `replay::revert` meets its contract.
-use mathlib.Core.Path.{refl, sym, ap, _∙_}
-use Prim.Native.Nat.{ℕ, _≤_}
+use mathlib.Core.Path.{_≡_, sym, ap, _∙_}
+use Prim.Native.Nat.{_≤_}
 use native.Mathlib.Omega.{arith}
 use borrow.Author.Needs.{needs}
 use lib.ListN.{length, take}
 use lib.Seq.{length-take-le}
-use Rattle.hazards.specs.Answers.{noEvent}
-use Rattle.engine.specs.Journal.{Engine, replayAll, cleared}
-use Rattle.engine.specs.Instance.{engineOf}
-use Rattle.engine.proofs.ExecuteLaws.{replay-own, reverted-left}
+use Rattle.engine.proofs.ExecuteLaws.{cleared-journal}
 use Rattle.engine.proofs.replay.revert.Statement.{statement}
 use Rattle.engine.proofs.replay.revert.Tie as tie
 
-slice-reshare-prefix-replay-all : tie.Need-slice-reshare-prefix-replay-all
-slice-reshare-prefix-replay-all c = search needs
+slice-reshare-prefix-last-command : tie.Need-slice-reshare-prefix-last-command
+slice-reshare-prefix-last-command c = search needs
 
-slice-aggregate-replay-all : tie.Need-slice-aggregate-replay-all
-slice-aggregate-replay-all c = let m = c .before .before .before in sym (length-take-le _ (m .args .journal .now) (m .pre))
+slice-aggregate-last-command : tie.Need-slice-aggregate-last-command
+slice-aggregate-last-command c = let m = c .before .before in sym (length-take-le _ (m .args .journal .now) (m .pre))
 
-replay-all-requires : tie.Need-replay-all-requires
-replay-all-requires c κs = search needs
+last-command-requires : tie.Need-last-command-requires
+last-command-requires c κs = search needs
 
-abbrev start : tie.After-replay-all → tie.Start
-start c = c .before .before .before .before
+abbrev start : tie.After-last-command → tie.Start
+start c = c .before .before .before
 
-within : (c : tie.After-replay-all) → c .replay-all .result .last ≤ start c .args .applied
+within : (c : tie.After-last-command) → c .last-command .result ≤ start c .args .applied
 within c =
     let m = start c in
     let k = length-take-le (m .args .applied) (m .args .journal .now) (m .pre) in
-    omega (arith, c .replay-all .ensures .1)
+    omega (arith, c .last-command .ensures .0)
 
-restored-requires : tie.Need-restored-requires
-restored-requires c κs = (within (c .before), start (c .before) .pre)
+sub-clear : tie.Need-sub-clear
+sub-clear c = omega (arith, within c, start c .pre)
+
+part-clear-start : tie.Need-part-clear-start
+part-clear-start c = omega (arith, within c, start c .pre)
+
+part-clear-end : tie.Need-part-clear-end
+part-clear-end c = search needs
+
+sub-clear-2 : tie.Need-sub-clear-2
+sub-clear-2 c = within (c .before)
+
+clear-requires : tie.Need-clear-requires
+clear-requires c κs = search needs
 
 same-length : tie.Need-same-length
 same-length c = search needs
 
 returns : tie.Need-returns
 returns c =
-    let x = c .before .before .before .before in
-    let a = start x .args in
-    let j = a .journal .now in
-    let stream = a .stream .now in
-    let r = x .replay-all .result in
-    let E : Engine = engineOf stream (length j) in
-    let left = c .before .before .restored .ensures in
-    λ s named some own.
-    let e = x .replay-all .ensures .0 ∙ ap (λ (k : ℕ). replayAll E (take k j)) (sym named) in
-    let w = replay-own stream (length j) r e s (own .before) (own .last) (own .ending) in
-    reverted-left stream s j r (w .0) (w .1) (noEvent 0) refl _ (left .0) _
-    (left .1 stream ∙ ap (cleared E j (r .last)) (sym named)) (omega (arith, named, some))
+    let clear = c .before .before .clear in
+    let m = c .before .before .before .before in
+    let a = start m .args in (
+      m .last-command .ensures .1,
+      λ stream.
+          cleared-journal stream (a .journal .now) (clear .last .0) (m .last-command .result) (a .applied) (within m) (start m .pre)
+          (clear .ensures),
+    )
 
 pub revert-spec : {M : Type 1} → statement M
 revert-spec =
     tie.close
     (tie.spec
-    slice-reshare-prefix-replay-all
-    slice-aggregate-replay-all
-    replay-all-requires
-    restored-requires
+    slice-reshare-prefix-last-command
+    slice-aggregate-last-command
+    last-command-requires
+    sub-clear
+    part-clear-start
+    part-clear-end
+    sub-clear-2
+    clear-requires
     same-length
     returns)

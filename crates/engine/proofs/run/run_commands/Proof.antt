@@ -1,7 +1,7 @@
 -- `run::run_commands` meets its contract: at each turn, what is left of the run gives what the whole run gives.
 use mathlib.Core.Logic.{⊎-elim}
 use mathlib.Core.List.{List}
-use mathlib.Core.Path.{_≡_, refl, sym, ap, _∙_}
+use mathlib.Core.Path.{_≡_, refl, sym, ap, _∙_, subst}
 use mathlib.Core.Bool.{Bool, cond}
 use Prim.Native.Nat.{ℕ, _+_, _-_, _*_, _<_, _≤_, _^_}
 use native.Mathlib.Omega.{arith}
@@ -9,36 +9,36 @@ use borrow.Author.Needs.{needs}
 use borrow.Author.Tests.{eq-eqb, ne-eqb}
 use lib.Dec.{eqb}
 use lib.ListN.{length, getD, drop}
+use lib.Seq.{length-take-le}
 use Rattle.hazards.specs.Answers.{noEvent, withAnswer}
 use Rattle.engine.specs.Refusals.{nothingApplied}
 use Rattle.engine.specs.Commands as commands
 use Rattle.engine.specs.Commands.{widthOf}
 use Rattle.engine.specs.State.{emptySlot, slotAt}
 use Rattle.engine.specs.Journal.{code}
-use Rattle.engine.specs.Instance.{engineOf}
 use Rattle.engine.specs.Good.{Good}
-use Rattle.engine.specs.ExecuteCode.{onlyNumber}
 use Rattle.engine.specs.Run.{ran}
-use Rattle.engine.specs.RunCode.{answerAt, openedRun}
+use Rattle.engine.specs.RunCode.{answeredBy, answerAt, openedRun}
 use Rattle.engine.specs.declared.state.ClockSlot.{ClockSlot}
-use Rattle.engine.proofs.Asking.{undo-nothing}
+use Rattle.engine.specs.declared.state.EngineState.{EngineState}
 use Rattle.engine.proofs.EveryPlace.{getD-any}
-use Rattle.engine.proofs.ExecuteLaws.{left-refused}
-use Rattle.engine.proofs.JournalBytes.{partOf}
+use Rattle.engine.proofs.JournalBytes.{partOf, code-at}
 use Rattle.engine.proofs.RunReverts.{when-true, when-false, reverted-within, next-reverted}
-use Rattle.engine.proofs.RunStates.{reached-replays}
-use Rattle.engine.proofs.RunTurns.{Running, Input, code-at, running-begins, running-good, running-ends, run-stops, run-goes-on}
-use Rattle.engine.proofs.RunTurns.{input-fits, next-undo, next-below, next-fits, next-refused, next-performed}
+use Rattle.engine.proofs.RunTurns.{Input, running-good, running-ends, run-stops, run-goes-on}
+use Rattle.engine.proofs.RunTurns.{input-fits, next-below, next-fits, next-refused, next-performed}
+use Rattle.engine.proofs.RunUndos.{Deferred, deferred-begins, goes-on-in, replayed-current, next-deferred}
 use Rattle.engine.proofs.run.run_commands.Statement.{statement}
 use Rattle.engine.proofs.run.run_commands.Tie as tie
 
 abbrev Inv-loop : tie.InvT-loop
-Inv-loop commands stream journal₀ answers₀ result₀ state₀ answered₀ at₀ journal answers result state answered at =
-    Running commands stream (length journal₀) (length answers₀) (openedRun commands stream (length journal₀) answers₀) journal answers
-    result state answered at
+Inv-loop commands stream journal₀ answers₀ result₀ state₀ applied₀ stale₀ answered₀ at₀ journal answers result state applied stale
+    answered at =
+    Deferred commands stream (length journal₀) (length answers₀) (openedRun commands stream (length journal₀) answers₀) journal answers
+    result state applied stale answered at
 
 abbrev μ-loop : tie.MeasureT-loop
-μ-loop commands stream journal₀ answers₀ result₀ state₀ answered₀ at₀ journal answers result state answered at =
+μ-loop commands stream journal₀ answers₀ result₀ state₀ applied₀ stale₀ answered₀ at₀ journal answers result state applied stale
+    answered at =
     length commands - at
 
 opened-state-requires : tie.Need-opened-state-requires Inv-loop μ-loop
@@ -49,7 +49,7 @@ loop-holds c =
     let m = c .before .before .before .before .before .before in
     let a = m .args in
     let bound : length (a .journal .now) < 2 ^ 63 = omega arith in
-    running-begins (a .commands .now) (a .stream .now) (length (a .journal .now)) (a .answers .now) (a .result .now)
+    deferred-begins (a .commands .now) (a .stream .now) (length (a .journal .now)) (a .answers .now) (a .result .now)
     (c .opened-state .ensures) (m .pre .0) bound (m .pre .1)
 
 sub-end-run : tie.Need-sub-end-run Inv-loop μ-loop
@@ -62,7 +62,7 @@ part-end-run-end : tie.Need-part-end-run-end Inv-loop μ-loop
 part-end-run-end c = omega arith
 
 end-run-requires : tie.Need-end-run-requires Inv-loop μ-loop
-end-run-requires c κs = let l = c .before .before .before .before .loop in (l .inv .room, l .inv .result-width)
+end-run-requires c κs = let l = c .before .before .before .before .loop in (l .inv .running .room, l .inv .running .result-width)
 
 -- ---- the run ends before the input
 
@@ -76,7 +76,7 @@ more : (c : tie.After-end-run Inv-loop μ-loop) → turn c .loop .at < length (b
 more c = c .before .before .before .before .loop-test .taken
 
 same-length : tie.Need-same-length Inv-loop μ-loop
-same-length c = turn (c .before .before .before .before .before) .loop .inv .same-journal
+same-length c = turn (c .before .before .before .before .before) .loop .inv .running .same-journal
 
 same-length-2 : tie.Need-same-length-2 Inv-loop μ-loop
 same-length-2 c = omega arith
@@ -87,7 +87,7 @@ same-length-3 c = omega arith
 returns : tie.Need-returns Inv-loop μ-loop
 returns c =
     let m = c .before .before .before .before .before in
-    run-stops _ _ _ _ _ (turn m .loop .inv) (more m) (m .end-run .ensures) (c .if1 .taken)
+    run-stops _ _ _ _ _ (turn m .loop .inv .running) (more m) (m .end-run .ensures) (c .if1 .taken)
 
 -- ---- the input is a whole command
 
@@ -97,18 +97,25 @@ ended c = c .before .before .before .before .before
 abbrev start : tie.Else1 Inv-loop μ-loop → tie.Start Inv-loop μ-loop
 start c = begin (ended c)
 
-input : (c : tie.Else1 Inv-loop μ-loop)
-    → Input (start c .args .commands .now) (start c .args .stream .now) (length (start c .args .journal .now))
+-- at this input; s is the state that it is executed in
+abbrev Here : tie.Else1 Inv-loop μ-loop → EngineState → Type 0
+Here c s =
+    Input (start c .args .commands .now) (start c .args .stream .now) (length (start c .args .journal .now))
     (length (start c .args .answers .now))
     (openedRun (start c .args .commands .now) (start c .args .stream .now) (length (start c .args .journal .now))
     (start c .args .answers .now))
-    (turn (ended c) .loop .journal) (ended c .end-run .last .1 .0) (ended c .end-run .last .1 .1 .0) (turn (ended c) .loop .state)
-    (turn (ended c) .loop .answered) (turn (ended c) .loop .at)
-input c = run-goes-on _ _ _ _ _ (turn (ended c) .loop .inv) (more (ended c)) (ended c .end-run .ensures) (c .if1 .left)
+    (turn (ended c) .loop .journal) (ended c .end-run .last .1 .0) (ended c .end-run .last .1 .1 .0) s (turn (ended c) .loop .answered)
+    (turn (ended c) .loop .at)
 
-good : (c : tie.Else1 Inv-loop μ-loop)
-    → Good (start c .args .stream .now) (length (start c .args .journal .now)) (turn (ended c) .loop .state)
-good c = running-good _ _ _ _ _ (turn (ended c) .loop .inv)
+input : (c : tie.Else1 Inv-loop μ-loop) → Here c (turn (ended c) .loop .inv .current)
+input c = run-goes-on _ _ _ _ _ (turn (ended c) .loop .inv .running) (more (ended c)) (ended c .end-run .ensures) (c .if1 .left)
+
+-- what is applied lies in the journal
+within-journal : (c : tie.Else1 Inv-loop μ-loop) → turn (ended c) .loop .applied ≤ length (turn (ended c) .loop .journal)
+within-journal c =
+    let d = turn (ended c) .loop .inv in
+    let g = running-good _ _ _ _ _ (d .running) in
+    omega (arith, g .applied, d .running .same-journal, d .counted)
 
 mul-place : tie.Need-mul-place Inv-loop μ-loop
 mul-place c = omega (arith, input c .space)
@@ -155,59 +162,63 @@ put-answer-requires : tie.Need-put-answer-requires Inv-loop μ-loop
 put-answer-requires c κs = search needs
 
 revert-requires : tie.Need-revert-requires Inv-loop μ-loop
-revert-requires c κs =
-    let k = known (c .before .before .before .before .before .before .before .before .before) in
-    omega (arith, good k .applied, turn (ended k) .loop .inv .same-journal)
+revert-requires c κs = within-journal (known (c .before .before .before .before .before .before .before .before))
 
--- the width of an UNDO that is answered, and the number of its answer
+-- the width of an UNDO that is answered, and its answer
 abbrev undone : tie.After-put-answer Inv-loop μ-loop → tie.After-width Inv-loop μ-loop
 undone c = c .before .before .before .before .before
 
-undo-answer : (c : tie.After-put-answer Inv-loop μ-loop) (number : ℕ)
-    → cond (eqb (turn (ended (known (undone c))) .loop .state .progress .«applied_length») 0) nothingApplied 0 ≡ number
-    → c .before .no-event .result ≡ noEvent number
-undo-answer c number e = c .before .no-event .ensures ∙ ap noEvent (c .before .before .undo-number .ensures ∙ e)
-
-abbrev by-test : Bool → ℕ
-by-test b = cond b nothingApplied 0
+undo-answer : (c : tie.After-put-answer Inv-loop μ-loop)
+    → c .before .no-event .result ≡ noEvent (cond (eqb (turn (ended (known (undone c))) .loop .applied) 0) nothingApplied 0)
+undo-answer c = c .before .no-event .ensures ∙ ap noEvent (c .before .before .undo-number .ensures)
 
 loop-less : tie.Need-loop-less Inv-loop μ-loop
-loop-less c = let f = fits (undone (c .before .before .before .before .before .before .before)) in omega (arith, f .0, f .1)
+loop-less c = let f = fits (undone (c .before .before .before .before .before .before)) in omega (arith, f .0, f .1)
 
 loop-again : tie.Need-loop-again Inv-loop μ-loop
 loop-again c =
-    let put = c .before .before .before .before .before .before .before in
+    let put = c .before .before .before .before .before .before in
     let w = undone put in
-    let a = start (known w) .args in
     let l = turn (ended (known w)) .loop in
-    let some = c .before .before .before .before .if3 .taken in
-    let pos : 0 < l .state .progress .«applied_length» = omega (arith, some) in
-    let own = reached-replays (a .stream .now) _ (l .state) (l .journal) (l .inv .reached) (l .inv .same-journal) pos in
     let reverted = c .before .before .revert in
-    next-undo _ _ _ _ _ (input (known w)) (w .width .result) (wide w) (code-is w ∙ put .before .before .before .before .if2 .taken)
-    (onlyNumber 0 (reverted .result)) (reverted .ensures (l .state) refl pos own)
-    (put .put-answer .ensures ∙ ap (withAnswer _ _) (undo-answer put 0 (ap by-test (ne-eqb _ 0 some))))
-    (omega (arith, l .inv .same-journal)) (omega (arith, l .inv .same-answers))
+    next-deferred _ _ _ _ _ (input (known w)) (w .width .result) (wide w) (code-is w ∙ put .before .before .before .before .if2 .taken)
+    (l .applied) (l .inv .counted) (reverted .ensures .0) (reverted .ensures .1) (omega (arith, l .inv .running .same-journal))
+    (omega (arith, l .inv .running .same-answers)) (l .state) (put .put-answer .ensures ∙ ap (withAnswer _ _) (undo-answer put))
 
-loop-less-2 : tie.Need-loop-less-2 Inv-loop μ-loop
-loop-less-2 c = let f = fits (undone (c .before .before .before)) in omega (arith, f .0, f .1)
+-- ---- another command: a stale state is replayed first
 
-loop-again-2 : tie.Need-loop-again-2 Inv-loop μ-loop
-loop-again-2 c =
-    let put = c .before .before .before in
-    let w = undone put in
-    let a = start (known w) .args in
-    let l = turn (ended (known w)) .loop in
-    let n = length (l .journal) in
-    next-undo _ _ _ _ _ (input (known w)) (w .width .result) (wide w) (code-is w ∙ put .before .before .before .before .if2 .taken)
-    (onlyNumber nothingApplied (l .state))
-    (left-refused (a .stream .now) n (onlyNumber nothingApplied (l .state)) (l .state) (l .journal) (refl, refl)
-    (undo-nothing (engineOf (a .stream .now) n) (l .state) (l .journal) (omega (arith, c .if3 .left))))
-    (put .put-answer .ensures
-    ∙ ap (withAnswer _ _) (undo-answer put nothingApplied (ap by-test (eq-eqb _ 0 (c .if3 .left)))))
-    (omega (arith, l .inv .same-journal)) (omega (arith, l .inv .same-answers))
+slice-reshare-prefix-replayed : tie.Need-slice-reshare-prefix-replayed Inv-loop μ-loop
+slice-reshare-prefix-replayed c = within-journal (known (c .before .before))
 
--- ---- another command
+slice-aggregate-replayed : tie.Need-slice-aggregate-replayed Inv-loop μ-loop
+slice-aggregate-replayed c =
+    let k = known (c .before .before .before) in sym (length-take-le _ (turn (ended k) .loop .journal) (within-journal k))
+
+replayed-requires : tie.Need-replayed-requires Inv-loop μ-loop
+replayed-requires c κs =
+    let d = turn (ended (known (c .before .before .before))) .loop .inv in omega (arith, d .running .bound, d .running .same-journal)
+
+abbrev knownAt : tie.Joined3 Inv-loop μ-loop → tie.Else1 Inv-loop μ-loop
+knownAt c = known (c .before .before)
+
+fresh : (c : tie.Joined3 Inv-loop μ-loop) → c .if3 .state ≡ turn (ended (knownAt c)) .loop .inv .current
+fresh c =
+    let l = turn (ended (knownAt c)) .loop in
+    ⊎-elim
+    (λ w. w .3 ∙ replayed-current _ _ _ _ _ (l .inv .running) (l .applied) (l .inv .counted) _ (w .2 .ensures))
+    (λ w. w .1 ∙ l .inv .fresh (w .0 .left))
+    (c .if3 .came)
+
+counted : (c : tie.Joined3 Inv-loop μ-loop) → turn (ended (knownAt c)) .loop .applied ≡ c .if3 .state .progress .«applied_length»
+counted c =
+    turn (ended (knownAt c)) .loop .inv .counted ∙ ap (λ (s : EngineState). s .progress .«applied_length») (sym (fresh c))
+
+now-input : (c : tie.Joined3 Inv-loop μ-loop) → Here (knownAt c) (c .if3 .state)
+now-input c = subst (Here (knownAt c)) (sym (fresh c)) (input (knownAt c))
+
+good : (c : tie.Joined3 Inv-loop μ-loop)
+    → Good (start (knownAt c) .args .stream .now) (length (start (knownAt c) .args .journal .now)) (c .if3 .state)
+good c = running-good _ _ _ _ _ (now-input c .running)
 
 sub-command : tie.Need-sub-command Inv-loop μ-loop
 sub-command c = omega arith
@@ -216,7 +227,7 @@ part-command-start : tie.Need-part-command-start Inv-loop μ-loop
 part-command-start c = omega arith
 
 part-command-end : tie.Need-part-command-end Inv-loop μ-loop
-part-command-end c = let f = fits (c .before) in omega (arith, f .1)
+part-command-end c = let f = fits (c .before .before) in omega (arith, f .1)
 
 target-requires : tie.Need-target-requires Inv-loop μ-loop
 target-requires c κs = search needs
@@ -236,31 +247,33 @@ element-copy-out-perform-on c = omega (arith, near (c .before))
 
 perform-on-requires : tie.Need-perform-on-requires Inv-loop μ-loop
 perform-on-requires c κs =
-    let k = known (c .before .before .before .before .before .before .before .before) in
+    let k = c .before .before .before .before .before .before .before in
     let g = good k in
-    record { places = g .queued; requests = omega (arith, g .count, g .applied, turn (ended k) .loop .inv .bound) }
+    record { places = g .queued; requests = omega (arith, g .count, g .applied, now-input k .running .bound) }
 
--- the command that is performed: the slot read for it, the clock that it is about and its width
+-- the command that is performed: the slot read for it, the clock that it is about, the state that it is performed on and its width
 abbrev chosen : tie.After-perform-on Inv-loop μ-loop → tie.Joined4 Inv-loop μ-loop
 chosen c = c .before .before .before .before
 
 abbrev targeted : tie.After-perform-on Inv-loop μ-loop → tie.After-target Inv-loop μ-loop
 targeted c = chosen c .before
 
+abbrev freshened : tie.After-perform-on Inv-loop μ-loop → tie.Joined3 Inv-loop μ-loop
+freshened c = targeted c .before .before .before
+
 abbrev widthed : tie.After-perform-on Inv-loop μ-loop → tie.After-width Inv-loop μ-loop
-widthed c = targeted c .before .before .before .before
+widthed c = freshened c .before .before
 
 -- it is no UNDO
 other : (c : tie.After-perform-on Inv-loop μ-loop)
     → code (drop (place (widthed c)) (bytes (widthed c))) ≡ commands.undo → ⊥
-other c q = targeted c .before .before .before .if2 .left (sym (code-is (widthed c)) ∙ q)
+other c q = freshened c .before .if2 .left (sym (code-is (widthed c)) ∙ q)
 
 slot-is : (c : tie.After-perform-on Inv-loop μ-loop) (d : ClockSlot) → targeted c .target .result < 16
-    → getD (turn (ended (known (widthed c))) .loop .state .slots) (chosen c .if4 .near) d
-    ≡ slotAt (turn (ended (known (widthed c))) .loop .state) (targeted c .target .result)
+    → getD (freshened c .if3 .state .slots) (chosen c .if4 .near) d ≡ slotAt (freshened c .if3 .state) (targeted c .target .result)
 slot-is c d b =
-    let s = turn (ended (known (widthed c))) .loop .state in
-    let sixteen = good (known (widthed c)) .slots in
+    let s = freshened c .if3 .state in
+    let sixteen = good (freshened c) .slots in
     getD-any (s .slots) (chosen c .if4 .near) d emptySlot (omega (arith, near (chosen c)))
     ∙ ap (slotAt s) (near-is (chosen c) b)
 
@@ -276,7 +289,7 @@ part-answer-reverted-end : tie.Need-part-answer-reverted-end Inv-loop μ-loop
 part-answer-reverted-end c = omega arith
 
 answer-reverted-requires : tie.Need-answer-reverted-requires Inv-loop μ-loop
-answer-reverted-requires c κs = input (known (widthed (c .before .before .before))) .space
+answer-reverted-requires c κs = now-input (freshened (c .before .before .before)) .space
 
 -- the command whose answer may be followed by that of an UNDO
 abbrev tested : tie.After-answer-reverted Inv-loop μ-loop → tie.After-perform-on Inv-loop μ-loop
@@ -301,20 +314,23 @@ add-answered-2 : tie.Need-add-answered-2 Inv-loop μ-loop
 add-answered-2 c =
     let w = widthed (tested (c .before .before .before)) in
     let f = fits w in
-    omega (arith, within c, f .0, turn (ended (known w)) .loop .inv .few, start (known w) .good .0 .0)
+    omega (arith, within c, f .0, turn (ended (known w)) .loop .inv .running .few, start (known w) .good .0 .0)
 
-loop-less-3 : tie.Need-loop-less-3 Inv-loop μ-loop
-loop-less-3 c = let f = fits (widthed (tested (c .before .before .before))) in omega (arith, f .0, f .1)
+loop-less-2 : tie.Need-loop-less-2 Inv-loop μ-loop
+loop-less-2 c = let f = fits (widthed (tested (c .before .before .before))) in omega (arith, f .0, f .1)
 
-loop-again-3 : tie.Need-loop-again-3 Inv-loop μ-loop
-loop-again-3 c =
+loop-again-2 : tie.Need-loop-again-2 Inv-loop μ-loop
+loop-again-2 c =
     let answered = c .before .before .before in
     let m = tested answered in
     let w = widthed m in
     let yes = c .if5 .taken in
-    next-reverted _ _ _ _ _ (input (known w)) (w .width .result) (wide w) (other m) (m .perform-on .result) (targeted m .target .result)
-    (targeted m .target .ensures) _ (slot-is m _) (m .perform-on .ensures) (sym (answered .answer-reverted .ensures .0) ∙ yes)
-    (when-true _ _ _ _ (answered .answer-reverted .ensures .1) yes) (c .before .before .answers3 .given ∙ input (known w) .running .same-answers)
+    goes-on-in _ _ _ _ _
+    (next-reverted _ _ _ _ _ (now-input (freshened m)) (w .width .result) (wide w) (other m) (m .perform-on .result)
+    (targeted m .target .result) (targeted m .target .ensures) _ (slot-is m _) (m .perform-on .ensures)
+    (sym (answered .answer-reverted .ensures .0) ∙ yes) (when-true _ _ _ _ (answered .answer-reverted .ensures .1) yes)
+    (c .before .before .answers3 .given ∙ now-input (freshened m) .running .same-answers))
+    (turn (ended (known w)) .loop .applied) (counted (freshened m)) (freshened m .if3 .stale)
 
 -- ---- it is applied or refused
 
@@ -327,11 +343,13 @@ same-answers : (c : tie.Else5 Inv-loop μ-loop)
 same-answers c = when-false _ _ _ _ (kept c .answer-reverted .ensures .1) (c .if5 .left)
 
 answer-at-requires : tie.Need-answer-at-requires Inv-loop μ-loop
-answer-at-requires c κs =
+answer-at-requires c κs z =
     let m = tested (kept (c .before .before)) in
     let w = widthed m in
-    next-fits _ _ _ _ _ (input (known w)) (w .width .result) (wide w) (other m) (m .perform-on .result) (targeted m .target .result)
-    (targeted m .target .ensures) _ (slot-is m _) (m .perform-on .ensures)
+    let f =
+    next-fits _ _ _ _ _ (now-input (freshened m)) (w .width .result) (wide w) (other m) (m .perform-on .result)
+    (targeted m .target .result) (targeted m .target .ensures) _ (slot-is m _) (m .perform-on .ensures) z in
+    omega (arith, counted (freshened m), f)
 
 abbrev unreverted : tie.After-answer-at Inv-loop μ-loop → tie.Else5 Inv-loop μ-loop
 unreverted c = c .before .before .before
@@ -345,7 +363,7 @@ below : (c : tie.After-moved Inv-loop μ-loop)
 below c =
     let m = performed (c .before .before .before .before .before .before) in
     let w = widthed m in
-    next-below _ _ _ _ _ (input (known w)) (w .width .result) (wide w) (other m) (m .perform-on .result) (targeted m .target .result)
+    next-below _ _ _ _ _ (now-input (freshened m)) (w .width .result) (wide w) (other m) (m .perform-on .result) (targeted m .target .result)
     (targeted m .target .ensures) _ (slot-is m _) (m .perform-on .ensures) (c .before .if6 .taken)
 
 mul-moved : tie.Need-mul-moved Inv-loop μ-loop
@@ -354,53 +372,67 @@ mul-moved c = let b = below c in omega arith
 element-set-from-moved : tie.Need-element-set-from-moved Inv-loop μ-loop
 element-set-from-moved c = let b = below c in omega arith
 
+loop-less-3 : tie.Need-loop-less-3 Inv-loop μ-loop
+loop-less-3 c =
+    let f = fits (widthed (performed (c .before .before .before .before .before .before .before))) in
+    omega (arith, f .0, f .1)
+
+-- the journal and the answers as the definition has them
+answered : (c : tie.After-answer-at Inv-loop μ-loop)
+    → answeredBy (c .answer-at .last .1 .1 .1 .0) (c .answer-at .last .1 .1 .1 .1 .0)
+    ≡ answerAt (performed c .perform-on .result .number) (performed c .perform-on .result .answer)
+    (freshened (performed c) .if3 .state .progress .«applied_length») (turn (ended (known (widthed (performed c)))) .loop .journal)
+    (ended (known (widthed (performed c))) .end-run .last .1 .0) (32 * turn (ended (known (widthed (performed c)))) .loop .answered)
+    (partOf (bytes (widthed (performed c))) (place (widthed (performed c))) (widthed (performed c) .width .result))
+answered c =
+    let m = performed c in
+    let w = widthed m in
+    let l = turn (ended (known w)) .loop in
+    let o = m .perform-on .result in
+    let command = partOf (bytes w) (place w) (w .width .result) in
+    c .answer-at .ensures
+    ∙ ap (λ (b : List ℕ). answerAt (o .number) (o .answer) (l .applied) (l .journal) b (32 * l .answered) command)
+    (same-answers (unreverted c))
+    ∙ ap (λ (k : ℕ). answerAt (o .number) (o .answer) k (l .journal) (ended (known w) .end-run .last .1 .0) (32 * l .answered) command)
+    (counted (freshened m))
+
+loop-again-3 : tie.Need-loop-again-3 Inv-loop μ-loop
+loop-again-3 c =
+    let done = c .before .before .before .before .before .before .before in
+    let m = performed done in
+    let w = widthed m in
+    goes-on-in _ _ _ _ _
+    (next-performed _ _ _ _ _ (now-input (freshened m)) (w .width .result) (wide w) (other m) (m .perform-on .result)
+    (targeted m .target .result) (targeted m .target .ensures) _ (slot-is m _) (m .perform-on .ensures) (answered done)
+    (omega (arith, now-input (freshened m) .running .same-journal))
+    (c .before .before .before .before .answers4 .given ∙ unreverted done .before .before .answers3 .given
+    ∙ now-input (freshened m) .running .same-answers)
+    (c .before .before .if6 .taken))
+    _ refl (freshened m .if3 .stale)
+
 loop-less-4 : tie.Need-loop-less-4 Inv-loop μ-loop
 loop-less-4 c =
-    let f = fits (widthed (performed (c .before .before .before .before .before .before .before))) in
+    let f = fits (widthed (performed (c .before .before .before .before .before))) in
     omega (arith, f .0, f .1)
 
 loop-again-4 : tie.Need-loop-again-4 Inv-loop μ-loop
 loop-again-4 c =
-    let done = c .before .before .before .before .before .before .before in
-    let m = performed done in
-    let w = widthed m in
-    let l = turn (ended (known w)) .loop in
-    next-performed _ _ _ _ _ (input (known w)) (w .width .result) (wide w) (other m) (m .perform-on .result) (targeted m .target .result)
-    (targeted m .target .ensures) _ (slot-is m _) (m .perform-on .ensures)
-    (done .answer-at .ensures
-    ∙ ap (λ (b : List ℕ). answerAt (m .perform-on .result .number) (m .perform-on .result .answer)
-    (l .state .progress .«applied_length») (l .journal) b (32 * l .answered) (partOf (bytes w) (place w) (w .width .result)))
-    (same-answers (unreverted done)))
-    (omega (arith, l .inv .same-journal))
-    (c .before .before .before .before .answers4 .given ∙ unreverted done .before .before .answers3 .given
-    ∙ input (known w) .running .same-answers)
-    (c .before .before .if6 .taken)
-
-loop-less-5 : tie.Need-loop-less-5 Inv-loop μ-loop
-loop-less-5 c =
-    let f = fits (widthed (performed (c .before .before .before .before .before))) in
-    omega (arith, f .0, f .1)
-
-loop-again-5 : tie.Need-loop-again-5 Inv-loop μ-loop
-loop-again-5 c =
     let done = c .before .before .before .before .before in
     let m = performed done in
     let w = widthed m in
-    let l = turn (ended (known w)) .loop in
-    next-refused _ _ _ _ _ (input (known w)) (w .width .result) (wide w) (other m) (m .perform-on .result) (targeted m .target .result)
-    (targeted m .target .ensures) _ (slot-is m _) (m .perform-on .ensures)
-    (done .answer-at .ensures
-    ∙ ap (λ (b : List ℕ). answerAt (m .perform-on .result .number) (m .perform-on .result .answer)
-    (l .state .progress .«applied_length») (l .journal) b (32 * l .answered) (partOf (bytes w) (place w) (w .width .result)))
-    (same-answers (unreverted done)))
-    (omega (arith, l .inv .same-journal))
-    (c .before .before .answers4 .given ∙ unreverted done .before .before .answers3 .given ∙ input (known w) .running .same-answers)
-    (c .if6 .left)
+    goes-on-in _ _ _ _ _
+    (next-refused _ _ _ _ _ (now-input (freshened m)) (w .width .result) (wide w) (other m) (m .perform-on .result)
+    (targeted m .target .result) (targeted m .target .ensures) _ (slot-is m _) (m .perform-on .ensures) (answered done)
+    (omega (arith, now-input (freshened m) .running .same-journal))
+    (c .before .before .answers4 .given ∙ unreverted done .before .before .answers3 .given
+    ∙ now-input (freshened m) .running .same-answers)
+    (c .if6 .left))
+    (turn (ended (known w)) .loop .applied) (counted (freshened m)) (freshened m .if3 .stale)
 
 -- ---- the end of the list
 
 finish-requires : tie.Need-finish-requires Inv-loop μ-loop
-finish-requires c κs = c .before .before .loop .inv .result-width
+finish-requires c κs = c .before .before .loop .inv .running .result-width
 
 same-length-4 : tie.Need-same-length-4 Inv-loop μ-loop
 same-length-4 c = omega arith
@@ -414,7 +446,7 @@ same-length-6 c = omega arith
 returns-2 : tie.Need-returns-2 Inv-loop μ-loop
 returns-2 c =
     let l = c .before .before .before .before .before .loop in
-    ap (ran 0 (l .journal) (l .answers)) (c .before .before .finish .ensures) ∙ running-ends _ _ _ _ _ (l .inv) (omega arith)
+    ap (ran 0 (l .journal) (l .answers)) (c .before .before .finish .ensures) ∙ running-ends _ _ _ _ _ (l .inv .running) (omega arith)
 
 pub run-commands-spec : {M : Type 1} → statement M
 run-commands-spec =
@@ -443,8 +475,9 @@ run-commands-spec =
     revert-requires
     loop-less
     loop-again
-    loop-less-2
-    loop-again-2
+    slice-reshare-prefix-replayed
+    slice-aggregate-replayed
+    replayed-requires
     sub-command
     part-command-start
     part-command-end
@@ -458,15 +491,15 @@ run-commands-spec =
     answer-reverted-requires
     add-at-2
     add-answered-2
-    loop-less-3
-    loop-again-3
+    loop-less-2
+    loop-again-2
     answer-at-requires
     mul-moved
     element-set-from-moved
+    loop-less-3
+    loop-again-3
     loop-less-4
     loop-again-4
-    loop-less-5
-    loop-again-5
     finish-requires
     same-length-4
     same-length-5

@@ -1,0 +1,122 @@
+-- UNDO in a batch run changes the journal alone. The state is stale after it: it is replayed from the journal when a command needs it.
+use mathlib.Core.Path.{_≡_, refl, sym, ap, _∙_, subst}
+use mathlib.Core.Bool.{Bool, true, false, cond, true≢false}
+use Prim.Native.Nat.{ℕ, _+_, _*_, _<_, _^_}
+use native.Mathlib.Omega.{arith}
+use borrow.Author.Tests.{eqb-true, eqb-false}
+use lib.Dec.{eqb}
+use lib.ListN.{length, take, drop, replicate}
+use Rattle.hazards.specs.Answers.{noEvent, withAnswer}
+use Rattle.engine.specs.Commands as commands
+use Rattle.engine.specs.Commands.{widthOf}
+use Rattle.engine.specs.Refusals.{nothingApplied}
+use Rattle.engine.specs.State.{openedState}
+use Rattle.engine.specs.Journal.{Bytes, Engine, code, ends, replayAll, cleared, undo}
+use Rattle.engine.specs.Instance.{engineOf}
+use Rattle.engine.specs.ExecuteCode.{after, left, onlyNumber}
+use Rattle.engine.specs.Run.{Ran}
+use Rattle.engine.specs.RunCode.{openedRun}
+use Rattle.engine.specs.declared.state.EngineState.{EngineState}
+use Rattle.engine.proofs.Asking.{undo-nothing}
+use Rattle.engine.proofs.ExecuteLaws.{left-refused}
+use Rattle.engine.proofs.RunStates.{Undone, reached-undo, reached-replays, replay-nothing}
+use Rattle.engine.proofs.RunTurns.{Running, Input, running-begins, next-undo}
+
+module _ (bytes stream : Bytes) (n size : ℕ) (all : Ran) where
+  abbrev E : Engine
+  E = engineOf stream n
+
+  -- a run whose definition is in the state `current`: that is the state in the code where it is not stale
+  pub record Deferred (j answers result : Bytes) (state : EngineState) (applied : ℕ) (stale : Bool) (count at : ℕ) : Type 0 where
+    pub current : EngineState
+    pub running : Running bytes stream n size all j answers result current count at
+    pub fresh : stale ≡ false → state ≡ current
+    pub counted : applied ≡ current .progress .«applied_length»
+
+  -- the state that the run goes on in, where it is not stale
+  pub goes-on-in : {j answers result : Bytes} {s : EngineState} {count at : ℕ} → Running bytes stream n size all j answers result s count at
+      → (applied : ℕ) → applied ≡ s .progress .«applied_length» → (stale : Bool) → Deferred j answers result s applied stale count at
+  goes-on-in {s = s} r applied counted stale = record { current = s; running = r; fresh = λ e. refl; counted = counted }
+
+  -- what the code replays is the state of the definition
+  pub replayed-current : {j answers result : Bytes} {s : EngineState} {count at : ℕ} → Running bytes stream n size all j answers result s count at
+      → (applied : ℕ) → applied ≡ s .progress .«applied_length» → (state : EngineState)
+      → ((t before : EngineState) (last : ℕ) → replayAll (engineOf stream (length j)) (take applied j) ≡ ends t before last → state ≡ t)
+      → state ≡ s
+  replayed-current {j = j} {s = s} r applied counted state e =
+      let own = reached-replays stream n s j (r .reached) in
+      e s (own .before) (own .last)
+      (subst (λ (m : ℕ). replayAll (engineOf stream m) (take applied j) ≡ ends s (own .before) (own .last)) (sym (r .same-journal))
+      (ap (λ (k : ℕ). replayAll E (take k j)) counted ∙ own .ending))
+
+  module _ {j answers result : Bytes} {s : EngineState} {count at : ℕ} (x : Input bytes stream n size all j answers result s count at)
+      (w : ℕ) (ew : w ≡ widthOf (code (drop at bytes))) (u : code (drop at bytes) ≡ commands.undo) (applied : ℕ)
+      (counted : applied ≡ s .progress .«applied_length») {k written : Bytes} {r : ℕ}
+      (place : (v : Bytes) (m : ℕ) (t before : EngineState) (last : ℕ) → replayAll (engineOf v m) (take applied j) ≡ ends t before last
+      → r ≡ last)
+      (journal : (v : Bytes) → k ≡ cleared (engineOf v (length j)) j r applied) (lk : length k ≡ n) (lw : length written ≡ size)
+      (state : EngineState) where
+    nothing-undone : applied ≡ 0 → written ≡ withAnswer answers (32 * count) (noEvent nothingApplied)
+        → Deferred k written result state r true (count + 1) (at + w)
+    nothing-undone z q =
+        let er : r ≡ 0 = place stream n openedState openedState 0
+        (ap (λ (m : ℕ). replayAll E (take m j)) z ∙ replay-nothing stream n) in
+        let ek : k ≡ j = journal stream ∙ λ i. cleared E j (er i) (z i) in
+        record {
+          current = s;
+          running =
+              next-undo bytes stream n size all x w ew u (onlyNumber nothingApplied s)
+              (ap (left (onlyNumber nothingApplied s)) ek
+              ∙ left-refused stream (length j) (onlyNumber nothingApplied s) s j (refl, refl)
+              (undo-nothing (engineOf stream (length j)) s j (omega (arith, counted, z))))
+              q lk lw;
+          fresh = λ e. absurd (true≢false e);
+          counted = er ∙ sym z ∙ counted;
+        }
+
+    last-undone : 0 < applied → written ≡ withAnswer answers (32 * count) (noEvent 0)
+        → Deferred k written result state r true (count + 1) (at + w)
+    last-undone p q =
+        let own = reached-undo stream n s j (x .running .reached) (omega (arith, counted, p)) in
+        let er : r ≡ own .last =
+        place stream n s (own .before) (own .last) (ap (λ (m : ℕ). replayAll E (take m j)) counted ∙ own .ending) in
+        let ek : k ≡ cleared E j (own .last) (s .progress .«applied_length») =
+        journal stream ∙ λ i. cleared E j (er i) (counted i) in
+        record {
+          current = own .before;
+          running =
+              next-undo bytes stream n size all x w ew u (onlyNumber 0 (own .before))
+              (ap (left (onlyNumber 0 (own .before))) ek
+              ∙ sym
+              (ap (λ (m : ℕ). after stream m (undo (engineOf stream m) s j)) (x .running .same-journal)
+              ∙ ap (after stream n) (own .outcome)))
+              q lk lw;
+          fresh = λ e. absurd (true≢false e);
+          counted = er ∙ sym (own .counted);
+        }
+
+    pub next-deferred : written ≡ withAnswer answers (32 * count) (noEvent (cond (eqb applied 0) nothingApplied 0))
+        → Deferred k written result state r true (count + 1) (at + w)
+    next-deferred q = go (eqb applied 0) refl
+      where
+        by : Bool → Bytes
+        by b = withAnswer answers (32 * count) (noEvent (cond b nothingApplied 0))
+
+        go : (b : Bool) → eqb applied 0 ≡ b → Deferred k written result state r true (count + 1) (at + w)
+        go true e = nothing-undone (eqb-true applied 0 e) (q ∙ ap by e)
+        go false e =
+            let some = eqb-false applied 0 e in
+            last-undone (omega (arith, some)) (q ∙ ap by e)
+
+opened-length : openedState .progress .«applied_length» ≡ 0
+unfolding openedState
+opened-length = refl
+
+-- at opening
+pub deferred-begins : (bytes stream : Bytes) (n : ℕ) (answers result : Bytes) {s : EngineState} → s ≡ openedState
+    → {j : Bytes} → j ≡ replicate n 0 → n < 2 ^ 63 → length result ≡ 16
+    → Deferred bytes stream n (length answers) (openedRun bytes stream n answers) j answers result s 0 false 0 0
+deferred-begins bytes stream n answers result {s} es ej bound width =
+    goes-on-in bytes stream n (length answers) (openedRun bytes stream n answers)
+    (running-begins bytes stream n answers result es ej bound width) 0
+    (sym (ap (λ (t : EngineState). t .progress .«applied_length») es ∙ opened-length)) false
