@@ -172,20 +172,20 @@ fn last_command(bytes: &[u8]) -> usize
         × ((stream : List ℕ) (n : ℕ) (s before : EngineState) (last : ℕ)
         → replayAll (engineOf stream n) (now (bytes .entry)) ≡ ends s before last → r ≡ last) ⌝ }
 {
-    let mut last: usize = 0;
+    let mut place: usize = 0;
     let mut at: usize = 0;
     while at < bytes.len() {
-        last = at;
+        place = at;
         let width = crate::commands::width(bytes[at]);
         if width == 0 {
-            return last;
+            return place;
         }
         if bytes.len() - at < width {
-            return last;
+            return place;
         }
         at = at + width;
     }
-    last
+    place
 }
 
 // Takes the last applied command out of the journal: its bytes are cleared. Gives its place, the length of the applied commands after it.
@@ -196,9 +196,9 @@ pub(crate) fn revert(journal: &mut [u8], applied: usize) -> usize
         × ((stream : List ℕ) → now (journal .exit)
         ≡ cleared (engineOf stream (length (now (journal .entry)))) (now (journal .entry)) r applied) ⌝ }
 {
-    let last = last_command(&journal[..applied]);
-    crate::journal::clear(&mut journal[last..], applied - last);
-    last
+    let place = last_command(&journal[..applied]);
+    crate::journal::clear(&mut journal[place..], applied - place);
+    place
 }
 
 // The state after applied commands that none refuses.

@@ -15,14 +15,14 @@ use Rattle.engine.proofs.replay.last_command.Statement.{statement}
 use Rattle.engine.proofs.replay.last_command.Tie as tie
 
 abbrev Inv-loop : tie.InvT-loop
-Inv-loop bytes last₀ at₀ last at =
-    (last ≤ length bytes)
+Inv-loop bytes place₀ at₀ place at =
+    (place ≤ length bytes)
     × (at ≤ length bytes)
     × ((stream : List ℕ) (n : ℕ) (s before : EngineState) (l : ℕ) → replayAll (engineOf stream n) bytes ≡ ends s before l
-    → Rest (engineOf stream n) bytes (ends s before l) last at)
+    → Rest (engineOf stream n) bytes (ends s before l) place at)
 
 abbrev μ-loop : tie.MeasureT-loop
-μ-loop bytes last₀ at₀ last at = length bytes - at
+μ-loop bytes place₀ at₀ place at = length bytes - at
 
 loop-holds : tie.Need-loop-holds Inv-loop μ-loop
 loop-holds c = (search needs, search needs, λ stream n s before l e. rest-begins (engineOf stream n) _ s before l e)
@@ -51,7 +51,7 @@ returns c =
     let l = turn m .loop in (
       omega (arith, more m),
       λ stream n s before k e.
-          let f = rest-front (engineOf stream n) (bytes m) s before k (l .last) (l .at) (l .inv .2 stream n s before k e) (more m) in
+          let f = rest-front (engineOf stream n) (bytes m) s before k (l .place) (l .at) (l .inv .2 stream n s before k e) (more m) in
           absurd (omega (arith, f .wide, wide m, c .if1 .taken)),
     )
 
@@ -64,7 +64,7 @@ returns-2 c =
     let l = turn m .loop in (
       omega (arith, more m),
       λ stream n s before k e.
-          let f = rest-front (engineOf stream n) (bytes m) s before k (l .last) (l .at) (l .inv .2 stream n s before k e) (more m) in
+          let f = rest-front (engineOf stream n) (bytes m) s before k (l .place) (l .at) (l .inv .2 stream n s before k e) (more m) in
           absurd (omega (arith, f .long, wide m, length-drop (l .at) (bytes m), c .if2 .taken)),
     )
 
@@ -81,7 +81,7 @@ loop-again c =
       omega (arith, more m),
       omega arith,
       λ stream n s before k e.
-          rest-goes-on (engineOf stream n) (bytes m) s before k (l .last) (l .at) (l .inv .2 stream n s before k e) (more m)
+          rest-goes-on (engineOf stream n) (bytes m) s before k (l .place) (l .at) (l .inv .2 stream n s before k e) (more m)
           (m .width .result) (wide m),
     )
 
@@ -90,7 +90,7 @@ returns-3 c =
     let l = c .before .loop in (
       l .inv .0,
       λ stream n s before k e.
-          rest-ends (engineOf stream n) _ s before k (l .last) (l .at) (l .inv .2 stream n s before k e) (omega arith),
+          rest-ends (engineOf stream n) _ s before k (l .place) (l .at) (l .inv .2 stream n s before k e) (omega arith),
     )
 
 pub last-command-spec : {M : Type 1} → statement M

@@ -37,7 +37,7 @@ part-clear-end : tie.Need-part-clear-end
 part-clear-end c = search needs
 
 sub-clear-2 : tie.Need-sub-clear-2
-sub-clear-2 c = within (c .before)
+sub-clear-2 c = omega (arith, within (c .before))
 
 clear-requires : tie.Need-clear-requires
 clear-requires c κs = search needs
