@@ -13,13 +13,16 @@ use lib.Dec.{ltb}
 use borrow.Author.Tests.{ltb-true, lt-ltb}
 use Rattle.engine.specs.Refusals.{nothingApplied, replayFails}
 use Rattle.engine.specs.Journal.{Bytes, Performed, rejected, performed, Engine, Asked, reject, revert, apply, reverted, answered}
-use Rattle.engine.specs.Journal.{concat, init, Outcome, cut, Whole, classify, replay, cleared, unchanged}
+use Rattle.engine.specs.Journal.{concat, init, Outcome, cut, classify, cleared, unchanged}
 use Rattle.engine.specs.Journal.{Replayed, ends, replayFrom, replayAll, revertTo, undo, write, act, execute}
 use Rattle.engine.specs.Parts.{appliedPart}
-use Rattle.engine.specs.Sessions.{Session, appliedAfter, feed, feedAll, newSession, Accepted, AcceptsEach, Laws, OnlyApplied}
+use Rattle.engine.specs.Sessions.{Session, appliedAfter, feed, feedAll, newSession, Accepted, AcceptsEach}
+use Rattle.engine.proofs.DemandHalves.{OnlyApplied}
+use Rattle.engine.proofs.Supplied.{Laws}
+use Rattle.engine.proofs.CommandLists.{Whole, replay, AllWhole}
 use Rattle.engine.proofs.JournalBytes.{concat-snoc, split-last, write-zeros, blank-zeros}
 use Rattle.engine.proofs.PartLaws.{applied-front}
-use Rattle.engine.proofs.Replays.{Asks, asks, cut-whole, cut-self, classify-whole, AllWhole, all-append, all-init, replay-one}
+use Rattle.engine.proofs.Replays.{Asks, asks, cut-whole, cut-self, classify-whole, all-append, all-init, replay-one}
 use Rattle.engine.proofs.Replays.{First, first, ReplaysTo, replays-to}
 
 module _ (E : Engine) (n : ℕ) (L : Laws E n) where

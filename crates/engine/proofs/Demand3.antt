@@ -11,9 +11,10 @@ use Rattle.engine.specs.Validation.{validState}
 use Rattle.engine.specs.Journal.{Bytes, Engine, concat, revert, classify, Outcome, undo}
 use Rattle.engine.specs.Sessions.{Session}
 use Rattle.engine.specs.Instance.{engineOf, requestsOf}
-use Rattle.engine.specs.Good.{Good}
 use Rattle.engine.specs.Demand3.{undoReply, opened, after, Demand3}
-use Rattle.engine.proofs.Replays.{AllWhole}
+use Rattle.engine.proofs.CommandLists.{AllWhole}
+use Rattle.engine.proofs.Good.{Good}
+use Rattle.engine.proofs.Supplied.{queueingOf}
 use Rattle.engine.proofs.Applied.{Inv, inv-open, inv-all, journal-length, applied-part, only-applied, undo-accepted}
 use Rattle.engine.proofs.Asking.{asks-undo, undo-nothing, execute-undo}
 use Rattle.engine.proofs.Reached.{never-invalid}
@@ -54,7 +55,7 @@ module _ (stream : List ℕ) (n : ℕ) (inputs : List Bytes) where
   pub demand-3 : Demand3 stream n inputs
   demand-3 =
       let first = only-applied E n (engine-laws stream n) inputs in
-      let second = balanced E (requestsOf stream n) n (engine-laws stream n) (Good stream n) (engine-sound stream n)
+      let second = balanced E (requestsOf stream n) (queueingOf stream n) n (engine-laws stream n) (Good stream n) (engine-sound stream n)
       (engine-queue stream n) inputs in
       record {
         same-state = first .same-state;

@@ -22,7 +22,8 @@ use Rattle.engine.specs.Instance.{engineOf}
 use Rattle.engine.specs.Comparison.{sameState}
 use Rattle.engine.specs.Parts.{copiedInto, clearedFront}
 use Rattle.engine.specs.ReplayCode.{beforeLast, replayedOf}
-use Rattle.engine.specs.ExecuteCode.{after, left, Applied, appliedOn, journalAfter, applyOn}
+use Rattle.engine.specs.ExecuteCode.{left, Applied, appliedOn, journalAfter, applyOn}
+use Rattle.engine.specs.Answers.{after}
 use Rattle.engine.specs.declared.execute.Executed.{Executed}
 use Rattle.engine.specs.declared.execution.SlotOutcome.{SlotOutcome}
 use Rattle.engine.specs.declared.replay.Replay.{Replay}

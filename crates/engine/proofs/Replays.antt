@@ -15,8 +15,9 @@ use Rattle.hazards.specs.Refusals.{invalidState}
 use Rattle.engine.specs.Commands as commands
 use Rattle.engine.specs.Refusals.{cutShort, noCommand}
 use Rattle.engine.specs.Journal.{Bytes, Performed, rejected, performed, Engine, Asked, reject, revert, apply, code}
-use Rattle.engine.specs.Journal.{concat, init, cut, Whole, classify, stateOf, afterOne, thenOne, replay, widthAfter, commandAt}
-use Rattle.engine.specs.Journal.{ends, replayFrom, undo}
+use Rattle.engine.specs.Journal.{concat, init, cut, classify, widthAfter, commandAt}
+use Rattle.engine.specs.Journal.{ends, replayFrom}
+use Rattle.engine.proofs.CommandLists.{Whole, AllWhole, stateOf, afterOne, thenOne, replay}
 
 reject-apply : (n : ℕ) (c : Bytes) → reject n ≡ apply c → ⊥
 reject-apply n c e = let z : _≡_ {A = ℕ} 0 1 = cc in omega arith
@@ -87,15 +88,11 @@ module _ (E : Engine) where
         cut-self c w,
       )
 
-  abbrev pub AllWhole : List Bytes → Type 0
-  AllWhole [] = Unit {0}
-  AllWhole (c ∷ cs) = Whole E c × AllWhole cs
-
-  pub all-append : (cs ds : List Bytes) → AllWhole cs → AllWhole ds → AllWhole (cs ++ ds)
+  pub all-append : (cs ds : List Bytes) → AllWhole E cs → AllWhole E ds → AllWhole E (cs ++ ds)
   all-append [] ds h k = k
   all-append (c ∷ cs) ds h k = (h .0, all-append cs ds (h .1) k)
 
-  pub all-init : (cs : List Bytes) → AllWhole cs → AllWhole (init cs)
+  pub all-init : (cs : List Bytes) → AllWhole E cs → AllWhole E (init cs)
   all-init [] h = tt
   all-init (c ∷ []) h = tt
   all-init (c ∷ d ∷ cs) h = (h .0, all-init (d ∷ cs) (h .1))
@@ -190,7 +187,7 @@ module _ (E : Engine) where
 
   pub replays-to : (k : ℕ) (s before : E .State) (last at : ℕ) (cs : List Bytes) (v : E .State) → length (concat cs) ≤ k
       → 0 < length (concat cs)
-      → AllWhole cs → replay E (some s) cs ≡ some v → ReplaysTo k s before last at cs v
+      → AllWhole E cs → replay E (some s) cs ≡ some v → ReplaysTo k s before last at cs v
   unfolding replay replayFrom
   replays-to k s before last at [] v l p h e = absurd (not-suc-le-zero p)
   replays-to zero s before last at (c ∷ cs) v l p h e = absurd (omega arith)

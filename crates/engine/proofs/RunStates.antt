@@ -8,9 +8,9 @@ use Rattle.engine.specs.State.{openedState}
 use Rattle.engine.specs.Journal.{Bytes, Engine, Outcome, concat, init, ends, replayAll, execute}
 use Rattle.engine.specs.Sessions.{Session, appliedAfter, feed, feedAll, newSession}
 use Rattle.engine.specs.Instance.{engineOf}
-use Rattle.engine.specs.Good.{Good}
 use Rattle.engine.specs.ReplayCode.{OwnReplay}
 use Rattle.engine.specs.declared.state.EngineState.{EngineState}
+use Rattle.engine.proofs.Good.{Good}
 use Rattle.engine.proofs.Applied.{Inv, inv-open, inv-all, AppliedReplay, applied-replay}
 use Rattle.engine.proofs.Reached.{good-replay}
 use Rattle.engine.proofs.EngineLaws.{engine-laws}

@@ -16,20 +16,22 @@ use Rattle.engine.specs.Commands as commands
 use Rattle.engine.specs.Commands.{widthOf}
 use Rattle.engine.specs.Refusals.{noCommand, cutShort, answersFull}
 use Rattle.engine.specs.State.{openedState, slotAt, withSlot}
-use Rattle.engine.specs.Journal.{Bytes, Engine, Performed, Outcome, Whole, code, cut, reject, apply, classify, rejected, performed}
+use Rattle.engine.specs.Journal.{Bytes, Engine, Performed, Outcome, code, cut, reject, apply, classify, rejected, performed}
 use Rattle.engine.specs.Journal.{unchanged, answered, undo, execute}
 use Rattle.engine.specs.Instance.{engineOf}
-use Rattle.engine.specs.Good.{Good}
 use Rattle.engine.specs.Validation.{validState}
 use Rattle.engine.specs.ExecutionCode.{onSlotOf}
-use Rattle.engine.specs.ExecuteCode.{After, after, left, answerOf}
+use Rattle.engine.specs.ExecuteCode.{left}
 use Rattle.engine.specs.Execution.{performOn, target, perform}
-use Rattle.engine.specs.Run.{Ran, ran, finished, endsRun, endNumber, executed, runFrom}
-use Rattle.engine.specs.RunCode.{Stop, stop, stopAt, Answered, answeredBy, answerAt, openedRun}
+use Rattle.engine.specs.Run.{Ran, finished, endsRun, executed, runFrom}
+use Rattle.engine.specs.RunCode.{Stop, stop, stopAt, Answered, answeredBy, answerAt, openedRun, endNumber, ran}
+use Rattle.engine.specs.Answers.{After, after, answerOf}
 use Rattle.engine.specs.declared.execute.Executed.{Executed}
 use Rattle.engine.specs.declared.execution.SlotOutcome.{SlotOutcome}
 use Rattle.engine.specs.declared.state.ClockSlot.{ClockSlot}
 use Rattle.engine.specs.declared.state.EngineState.{EngineState}
+use Rattle.engine.proofs.Good.{Good}
+use Rattle.engine.proofs.CommandLists.{Whole}
 use Rattle.engine.proofs.Asking.{asks-no-command, asks-part, asks-undo, asks-command}
 use Rattle.engine.proofs.Asking.{execute-rejects, execute-undo, execute-refused, execute-performs}
 use Rattle.engine.proofs.GoodValid.{good-valid}

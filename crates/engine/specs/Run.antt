@@ -2,16 +2,16 @@
 use mathlib.Core.Bool.{Bool, cond, _&&_, _||_}
 use mathlib.Core.List.{[], _∷_, _++_}
 use Prim.Native.Nat.{ℕ, zero, suc, _+_, _*_, _%_}
-use lib.Dec.{eqb, ltb, leb}
+use lib.Dec.{eqb, leb}
 use lib.ListN.{length, drop, replicate}
 use Rattle.hazards.specs.Fields.{bytesOf}
 use Rattle.hazards.specs.Answers.{answerWidth, withAnswer}
 use Rattle.engine.specs.Commands.{widthOf}
 use Rattle.engine.specs.Refusals.{noCommand, cutShort, answersFull, badBuffers}
 use Rattle.engine.specs.State.{openedState}
-use Rattle.engine.specs.Journal.{Bytes, code, execute}
+use Rattle.engine.specs.Journal.{Bytes, execute}
 use Rattle.engine.specs.Instance.{engineOf}
-use Rattle.engine.specs.ExecuteCode.{After, after}
+use Rattle.engine.specs.Answers.{After, after}
 use Rattle.engine.specs.declared.state.EngineState.{EngineState}
 
 -- the number that a run returns, and the buffers as it leaves them
@@ -20,10 +20,6 @@ pub record Ran : Type 0 where
   pub journal : Bytes
   pub answers : Bytes
   pub result : Bytes
-
--- as the code leaves them
-abbrev pub ran : ℕ → Bytes → Bytes → Bytes → Ran
-ran number journal answers result = record { number = number; journal = journal; answers = answers; result = result }
 
 -- the result: commands answered u64, bytes read u64
 abbrev pub finished : ℕ → Bytes → Bytes → ℕ → ℕ → Ran
@@ -37,13 +33,6 @@ finished number journal answers answered read = record {
 -- a 2 or 3 is answered, counted and ends the run; its command adds no bytes read
 abbrev pub endsRun : ℕ → Bool
 endsRun number = eqb number noCommand || eqb number cutShort
-
--- the 2 or 3 that an input is refused by; 0 where it is a whole command
-unfoldable pub endNumber : Bytes → ℕ
-endNumber input =
-    cond (ltb 0 (length input))
-    (cond (ltb 0 (widthOf (code input))) (cond (leb (widthOf (code input)) (length input)) 0 cutShort) noCommand)
-    cutShort
 
 -- one input executed, with its answer
 abbrev pub executed : Bytes → EngineState → Bytes → Bytes → After

@@ -7,8 +7,8 @@ ghost use lib.Dec.{eqb};
 ghost use lib.ListN.{length, replicate};
 ghost use Rattle.hazards.specs.Fields.{bytesOf};
 ghost use Rattle.engine.specs.Refusals.{nothingApplied};
-ghost use Rattle.engine.specs.Run.{ran, endNumber, runOf};
-ghost use Rattle.engine.specs.RunCode.{stop, stopAt, answeredBy, answerAt, openedRun};
+ghost use Rattle.engine.specs.Run.{runOf};
+ghost use Rattle.engine.specs.RunCode.{stop, stopAt, answeredBy, answerAt, openedRun, endNumber, ran};
 use hazards::answers::Answer;
 
 pub const ANSWERS_FULL: u8 = 17;

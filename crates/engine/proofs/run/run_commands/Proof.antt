@@ -16,11 +16,10 @@ use Rattle.engine.specs.Commands.{widthOf}
 use Rattle.engine.specs.State.{emptySlot, slotAt}
 use Rattle.engine.specs.Journal.{code}
 use Rattle.engine.specs.Instance.{engineOf}
-use Rattle.engine.specs.Good.{Good}
 use Rattle.engine.specs.ExecuteCode.{onlyNumber}
-use Rattle.engine.specs.Run.{ran}
-use Rattle.engine.specs.RunCode.{openedRun}
+use Rattle.engine.specs.RunCode.{openedRun, ran}
 use Rattle.engine.specs.declared.state.ClockSlot.{ClockSlot}
+use Rattle.engine.proofs.Good.{Good}
 use Rattle.engine.proofs.Asking.{undo-nothing}
 use Rattle.engine.proofs.EveryPlace.{getD-any}
 use Rattle.engine.proofs.ExecuteLaws.{left-refused}
