@@ -12,7 +12,7 @@ use lib.Seq.{paste, take-at}
 use lib.Dec.{ltb}
 use borrow.Author.Tests.{ltb-true, lt-ltb}
 use Rattle.engine.specs.Refusals.{nothingApplied, replayFails}
-use Rattle.engine.specs.Journal.{Bytes, Performed, rejected, performed, Engine, Asked, reject, revert, apply, reverted, answered}
+use Rattle.engine.specs.Journal.{Bytes, Performed, rejected, performed, Engine, Asked, reject, undoLast, apply, reverted, answered}
 use Rattle.engine.specs.Journal.{concat, init, Outcome, cut, classify, cleared, unchanged}
 use Rattle.engine.specs.Journal.{Replayed, ends, replayFrom, replayAll, revertTo, undo, write, act, execute}
 use Rattle.engine.specs.Parts.{appliedPart}
@@ -80,12 +80,12 @@ module _ (E : Engine) (n : ℕ) (L : Laws E n) where
       applied-front (u .journal) (E .appliedLength (u .state)) (omega arith) ∙ applied-bytes u h
 
   -- what one input leaves, by its outcome
-  abbrev after : Session E → Bytes → Outcome E → Session E
-  after u i o = record { state = o .state; journal = o .journal; applied = appliedAfter E (o .reply) i (u .applied) }
+  abbrev sessionBy : Session E → Bytes → Outcome E → Session E
+  sessionBy u i o = record { state = o .state; journal = o .journal; applied = appliedAfter E (o .reply) i (u .applied) }
 
   inv-write : (u : Session E) (i c : Bytes) → Inv u → Asks E (u .state) i c → (t : E .State) (a : E .Answer)
       → E .perform (u .state) c ≡ performed t a
-      → Inv (after u i (write E (u .state) (u .journal) c (performed t a)))
+      → Inv (sessionBy u i (write E (u .state) (u .journal) c (performed t a)))
   inv-write u i c h q t a e =
       let ss : List Bytes = u .applied in
       let ec : cut E i ≡ c = cc (q .cutting) in
@@ -126,7 +126,7 @@ module _ (E : Engine) (n : ℕ) (L : Laws E n) where
 
   inv-reverted : (u : Session E) (i : Bytes) (v : E .State) → Inv u → 0 < length (concat (u .applied))
       → replay E (some (E .opened)) (init (u .applied)) ≡ some v
-      → Inv (after u i (lastReverted u v))
+      → Inv (sessionBy u i (lastReverted u v))
   inv-reverted u i v h p e =
       let ss : List Bytes = u .applied in
       let d : Bytes = has-last ss p .0 in
@@ -153,10 +153,10 @@ module _ (E : Engine) (n : ℕ) (L : Laws E n) where
 
   inv-to : (u : Session E) (i : Bytes) (v rest : E .State) → Inv u → 0 < length (concat (u .applied))
       → replay E (some (E .opened)) (init (u .applied)) ≡ some rest
-      → Inv (after u i (revertTo E (u .state) (u .journal) (ends v rest (length (concat (init (u .applied)))))))
+      → Inv (sessionBy u i (revertTo E (u .state) (u .journal) (ends v rest (length (concat (init (u .applied)))))))
   inv-to u i v rest h p e = go (E .same v (u .state))
     where
-      go : (b : Bool) → Inv (after u i (cond b (lastReverted u rest) (unchanged E (u .state) (u .journal) replayFails)))
+      go : (b : Bool) → Inv (sessionBy u i (cond b (lastReverted u rest) (unchanged E (u .state) (u .journal) replayFails)))
       go true = inv-reverted u i rest h p e
       go false = h
 
@@ -179,27 +179,27 @@ module _ (E : Engine) (n : ℕ) (L : Laws E n) where
         ran = d .ran;
       }
 
-  inv-undo : (u : Session E) (i : Bytes) → Inv u → Inv (after u i (undo E (u .state) (u .journal)))
+  inv-undo : (u : Session E) (i : Bytes) → Inv u → Inv (sessionBy u i (undo E (u .state) (u .journal)))
   unfolding undo
   inv-undo u i h = go (ltb 0 (E .appliedLength (u .state))) refl
     where
       go : (b : Bool) → ltb 0 (E .appliedLength (u .state)) ≡ b
-          → Inv (after u i (cond b (revertTo E (u .state) (u .journal) (replayAll E (take (E .appliedLength (u .state)) (u .journal))))
+          → Inv (sessionBy u i (cond b (revertTo E (u .state) (u .journal) (replayAll E (take (E .appliedLength (u .state)) (u .journal))))
           (unchanged E (u .state) (u .journal) nothingApplied)))
       go false e = h
       go true e =
           let p : 0 < length (concat (u .applied)) = omega (arith, ltb-true 0 (E .appliedLength (u .state)) e, h .counted) in
           let d : AppliedReplay u = applied-replay u h p in
-          subst (λ (o : Replayed E). Inv (after u i (revertTo E (u .state) (u .journal) o))) (sym (d .scans))
+          subst (λ (o : Replayed E). Inv (sessionBy u i (revertTo E (u .state) (u .journal) o))) (sym (d .scans))
           (inv-to u i (u .state) (d .rest) h p (d .ran))
 
   inv-act : (u : Session E) (i : Bytes) (k : Asked) → Inv u → classify E (u .state) i ≡ k
-      → Inv (after u i (act E (u .state) (u .journal) k))
+      → Inv (sessionBy u i (act E (u .state) (u .journal) k))
   inv-act u i (reject m) h e = h
-  inv-act u i revert h e = inv-undo u i h
+  inv-act u i undoLast h e = inv-undo u i h
   inv-act u i (apply c) h e = go (E .perform (u .state) c) refl
     where
-      go : (d : Performed (E .State) (E .Answer)) → E .perform (u .state) c ≡ d → Inv (after u i (write E (u .state) (u .journal) c d))
+      go : (d : Performed (E .State) (E .Answer)) → E .perform (u .state) c ≡ d → Inv (sessionBy u i (write E (u .state) (u .journal) c d))
       go (rejected m) p = h
       go (performed t a) p = inv-write u i c h (asks E (u .state) i c e) t a p
 

@@ -34,14 +34,14 @@ module _ (E : Engine) (R : Requests E) (K : Queueing E) (n : ℕ) (L : Laws E n)
   -- a command that is no DELIVER
   holds-queues : (s t : E .State) (c : Bytes) (a : E .Answer) (b : Ledger) → Holds s b → Queues E R K s t c a
       → Holds t (let b₁ : Ledger = cond (R .withdrawn a) (recordWithdrawal (R .clockOf c) b) b in
-      cond (R .event a) (recordRequest (R .clockOf c) (R .ticksOf a) (R .priorityOf c) b₁) b₁)
+      cond (R .event a) (recordRequest (R .clockOf c) (R .answerTicks a) (R .priorityOf c) b₁) b₁)
   holds-queues s t c a b h q = go (R .withdrawn a) refl (R .event a) refl (q .queue) (q .counter)
     where
       k : ℕ
       k = R .clockOf c
 
       new : Request
-      new = record { clock = k; ticks = R .ticksOf a; priority = R .priorityOf c; index = K .counter s }
+      new = record { clock = k; ticks = R .answerTicks a; priority = R .priorityOf c; index = K .counter s }
 
       left : Bool → List Request
       left w = cond w (keepIf (notFor k) (K .queue s)) (K .queue s)
@@ -51,16 +51,16 @@ module _ (E : Engine) (R : Requests E) (K : Queueing E) (n : ℕ) (L : Laws E n)
 
       go : (w : Bool) → R .withdrawn a ≡ w → (e : Bool) → R .event a ≡ e
           → K .queue t ≡ cond e (left w ++ (new ∷ [])) (left w) → K .counter t ≡ K .counter s + cond e 1 0
-          → Holds t (cond e (recordRequest k (R .ticksOf a) (R .priorityOf c) (held w)) (held w))
+          → Holds t (cond e (recordRequest k (R .answerTicks a) (R .priorityOf c) (held w)) (held w))
       go true ew true ee eq em =
           linked-at (left true ++ (new ∷ [])) (K .queue t) (K .counter s + 1) (K .counter t)
-          (recordRequest k (R .ticksOf a) (R .priorityOf c) (held true)) eq em
-          (linked-request (left true) (K .counter s) (held true) k (R .ticksOf a) (R .priorityOf c)
+          (recordRequest k (R .answerTicks a) (R .priorityOf c) (held true)) eq em
+          (linked-request (left true) (K .counter s) (held true) k (R .answerTicks a) (R .priorityOf c)
           (linked-withdrawal (K .queue s) (K .counter s) b k h (q .was ew)) (ap length (none-left k (K .queue s))) (q .clock ee))
       go false ew true ee eq em =
           linked-at (left false ++ (new ∷ [])) (K .queue t) (K .counter s + 1) (K .counter t)
-          (recordRequest k (R .ticksOf a) (R .priorityOf c) b) eq em
-          (linked-request (K .queue s) (K .counter s) b k (R .ticksOf a) (R .priorityOf c) h (q .one ee ew) (q .clock ee))
+          (recordRequest k (R .answerTicks a) (R .priorityOf c) b) eq em
+          (linked-request (K .queue s) (K .counter s) b k (R .answerTicks a) (R .priorityOf c) h (q .one ee ew) (q .clock ee))
       go true ew false ee eq em =
           linked-at (left true) (K .queue t) (K .counter s) (K .counter t) (held true) eq (em ∙ omega arith)
           (linked-withdrawal (K .queue s) (K .counter s) b k h (q .was ew))
@@ -75,7 +75,7 @@ module _ (E : Engine) (R : Requests E) (K : Queueing E) (n : ℕ) (L : Laws E n)
           → Holds t
           (cond u (recordDelivery b (nextPending (b .rows) 16))
           (let b₁ : Ledger = cond (R .withdrawn a) (recordWithdrawal (R .clockOf c) b) b in
-          cond (R .event a) (recordRequest (R .clockOf c) (R .ticksOf a) (R .priorityOf c) b₁) b₁))
+          cond (R .event a) (recordRequest (R .clockOf c) (R .answerTicks a) (R .priorityOf c) b₁) b₁))
       go true k =
           let d : Delivers E R K s t = Q .delivers s t c a v (eqb-true (code c) commands.deliver k) e in
           linked-at (keepIf (notAt (d .taken .index)) (K .queue s)) (K .queue t) (K .counter s) (K .counter t)

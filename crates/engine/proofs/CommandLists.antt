@@ -6,7 +6,7 @@ use mathlib.Core.List.{List, [], _∷_}
 use mathlib.Core.Option.{Option, none, some}
 use lib.ListN.{length}
 use Rattle.engine.specs.Commands as commands
-use Rattle.engine.specs.Journal.{Bytes, Performed, rejected, performed, Engine, Asked, reject, revert, apply, code, classify}
+use Rattle.engine.specs.Journal.{Bytes, Performed, rejected, performed, Engine, Asked, reject, undoLast, apply, code, classify}
 
 module _ (E : Engine) where
   -- a whole command but UNDO, cut to its width
@@ -26,7 +26,7 @@ module _ (E : Engine) where
 
   abbrev pub afterOne : E .State → Asked → Option (E .State)
   afterOne s (reject n) = none
-  afterOne s revert = none
+  afterOne s undoLast = none
   afterOne s (apply c) = stateOf (E .perform s c)
 
   abbrev pub thenOne : Option (E .State) → Bytes → Option (E .State)

@@ -45,7 +45,7 @@ module _ (E : Engine) (R : Requests E) (K : Queueing E) where
   queueAfter s c a =
       let q : List Request = cond (R .withdrawn a) (keepIf (notFor (R .clockOf c)) (K .queue s)) (K .queue s) in
       cond (R .event a)
-      (q ++ (record { clock = R .clockOf c; ticks = R .ticksOf a; priority = R .priorityOf c; index = K .counter s } ∷ []))
+      (q ++ (record { clock = R .clockOf c; ticks = R .answerTicks a; priority = R .priorityOf c; index = K .counter s } ∷ []))
       q
 
   -- DELIVER takes the earliest request out of the queue

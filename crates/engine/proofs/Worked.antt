@@ -61,7 +61,7 @@ numbers u [] = []
 numbers u (i ∷ is) = numberIn (execute engine (u .state) (u .journal) i .reply) ∷ numbers (feed engine u i) is
 
 abbrev end : Session engine
-end = demand.after stream 236 inputs
+end = demand.sessionAfter stream 236 inputs
 
 -- the numbers, what is applied, the threshold 2.0 drawn again by the second SET, and the ledger
 pub worked : (numbers (newSession engine 236) inputs ≡ 12 ∷ 3 ∷ 2 ∷ 0 ∷ 8 ∷ 0 ∷ 0 ∷ 0 ∷ 0 ∷ 0 ∷ 3 ∷ 0 ∷ 0 ∷ 0 ∷ 11 ∷ 14 ∷ [])

@@ -14,10 +14,10 @@ answerOf reverted = noEvent 0
 answerOf (answered a) = a
 
 -- answer, state and journal after an input
-pub record After : Type 0 where
+pub record AfterInput : Type 0 where
   pub answer : Answer
   pub state : EngineState
   pub journal : Bytes
 
-abbrev pub after : (stream : List ℕ) (n : ℕ) → Outcome (engineOf stream n) → After
+abbrev pub after : (stream : List ℕ) (n : ℕ) → Outcome (engineOf stream n) → AfterInput
 after stream n o = record { answer = answerOf (o .reply); state = o .state; journal = o .journal }

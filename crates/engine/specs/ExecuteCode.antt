@@ -4,7 +4,7 @@ use lib.ListN.{length}
 use lib.Seq.{paste}
 use Rattle.hazards.specs.Answers.{noEvent}
 use Rattle.engine.specs.Journal.{Bytes}
-use Rattle.engine.specs.Answers.{After}
+use Rattle.engine.specs.Answers.{AfterInput}
 use Rattle.engine.specs.Execution.{OnSlot, refused, done, performOn}
 use Rattle.engine.specs.ExecutionCode.{onSlotOf, Countable}
 use Rattle.engine.specs.declared.execute.Executed.{Executed}
@@ -14,7 +14,7 @@ use Rattle.engine.specs.declared.state.Progress.{Progress}
 use Rattle.engine.specs.declared.state.EngineState.{EngineState}
 
 -- what one input leaves, as the code returns it
-abbrev pub left : Executed → Bytes → After
+abbrev pub left : Executed → Bytes → AfterInput
 left r journal = record { answer = r .answer; state = r .state; journal = journal }
 
 -- an answer that is a number and zero elsewhere, and the state

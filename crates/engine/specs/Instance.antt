@@ -34,5 +34,5 @@ requestsOf stream n = record {
   priorityOf = priorityOf;
   event = λ a. a .event;
   withdrawn = λ a. a .withdrawn;
-  ticksOf = λ a. record { low = a .«ticks_low»; high = a .«ticks_high» };
+  answerTicks = λ a. record { low = a .«ticks_low»; high = a .«ticks_high» };
 }

@@ -39,7 +39,7 @@ pub record Engine : Type 1 where
 -- what the bytes ask for: a refusal, UNDO, or a command cut to its width
 pub data Asked : Type 0 where
   reject : ℕ → Asked
-  revert : Asked
+  undoLast : Asked
   apply : Bytes → Asked
 
 -- the first byte
@@ -80,7 +80,7 @@ module _ (E : Engine) where
       cond (E .valid s)
       (cond (ltb 0 (length i))
       (cond (ltb 0 (E .width (code i)))
-      (cond (leb (E .width (code i)) (length i)) (cond (eqb (code i) commands.undo) revert (apply (cut i))) (reject cutShort))
+      (cond (leb (E .width (code i)) (length i)) (cond (eqb (code i) commands.undo) undoLast (apply (cut i))) (reject cutShort))
       (reject noCommand))
       (reject cutShort))
       (reject invalidState)
@@ -100,7 +100,7 @@ module _ (E : Engine) where
 
   abbrev pub commandAt : E .State → Asked → Option (E .State × ℕ)
   commandAt s (reject n) = none
-  commandAt s revert = none
+  commandAt s undoLast = none
   commandAt s (apply c) = widthAfter c (E .perform s c)
 
   -- the replay of the applied bytes: it fails where they hold an UNDO or one is refused; else the state after all, the state before the
@@ -142,7 +142,7 @@ module _ (E : Engine) where
 
   abbrev pub act : E .State → Bytes → Asked → Outcome
   act s j (reject n) = unchanged s j n
-  act s j revert = undo s j
+  act s j undoLast = undo s j
   act s j (apply c) = write s j c (E .perform s c)
 
   -- document 01: the command door

@@ -73,14 +73,14 @@ pub record Requests (E : Engine) : Type 0 where
   pub priorityOf : Bytes → ℤ
   pub event : E .Answer → Bool
   pub withdrawn : E .Answer → Bool
-  pub ticksOf : E .Answer → Ticks
+  pub answerTicks : E .Answer → Ticks
 
 module _ (E : Engine) (R : Requests E) where
   -- any command but DELIVER: first the withdrawn byte, then the event byte
   abbrev pub recordAnswer : Ledger → Bytes → E .Answer → Ledger
   recordAnswer b c a =
       let b₁ : Ledger = cond (R .withdrawn a) (recordWithdrawal (R .clockOf c) b) b in
-      cond (R .event a) (recordRequest (R .clockOf c) (R .ticksOf a) (R .priorityOf c) b₁) b₁
+      cond (R .event a) (recordRequest (R .clockOf c) (R .answerTicks a) (R .priorityOf c) b₁) b₁
 
   -- one applied command with its answer; a DELIVER takes the earliest of all pending requests
   unfoldable pub recordCommand : Ledger → Bytes → E .Answer → Ledger

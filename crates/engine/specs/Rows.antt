@@ -151,13 +151,13 @@ abbrev pub journalLength : ℕ
 journalLength = 400
 
 -- a newly opened engine after inputs
-abbrev pub after : List Bytes → Session (engineOf stream journalLength)
-after inputs = demand.after stream journalLength inputs
+abbrev pub rowSession : List Bytes → Session (engineOf stream journalLength)
+rowSession inputs = demand.sessionAfter stream journalLength inputs
 
 -- its answer to one more
 abbrev pub answerTo : List Bytes → Bytes → Answer
 answerTo inputs i =
-    answerOf (execute (engineOf stream journalLength) (after inputs .state) (after inputs .journal) i .reply)
+    answerOf (execute (engineOf stream journalLength) (rowSession inputs .state) (rowSession inputs .journal) i .reply)
 
 abbrev pub ticksIn : Answer → Ticks
 ticksIn a = words (a .«ticks_low») (a .«ticks_high»)
@@ -167,8 +167,8 @@ abbrev pub channelIn : EngineState → HazardChannelState
 channelIn s = getD (slotAt s 0 .clock .channels) 0 emptyChannel
 
 -- the ticks of the queued requests
-abbrev pub queuedAfter : List Bytes → List Ticks
-queuedAfter inputs = map (λ r. r .ticks) (queuedRequests (after inputs .state .progress))
+abbrev pub queuedTicks : List Bytes → List Ticks
+queuedTicks inputs = map (λ r. r .ticks) (queuedRequests (rowSession inputs .state .progress))
 
 -- RetainResidual, scale 10; Constant 0.5 set at 0
 abbrev pub started : List Bytes
@@ -216,14 +216,14 @@ pub record TwelveRows : Type 0 where
   -- Tape 2.0, 1.0; RetainResidual, scale 10; Constant 0.5 set at 0; RESCHEDULE at 0, no censor, cause 1: the answer's bytes
   pub row-9 : answerBytes (answerTo started (reschedule z noCensor)) ≡ rowNineBytes
   -- Then PAUSE at 1: accumulated 0.5. RESUME at 3: delta 3.0, ticks 60. Two UNDOs: ticks 40 queued
-  pub row-10 : (channelIn (after paused .state) .«accumulated_hazard» ≡ half)
+  pub row-10 : (channelIn (rowSession paused .state) .«accumulated_hazard» ≡ half)
       × (answerTo paused (resume three) .delta ≡ three)
       × (ticksIn (answerTo paused (resume three)) ≡ words 60 0)
-      × (queuedAfter undone ≡ words 40 0 ∷ [])
+      × (queuedTicks undone ≡ words 40 0 ∷ [])
   -- Instead, SET the same cause at 4: 2.0 reaches 2.0, so 1.0 is drawn
-  pub row-11 : (settledHazard (channelIn (after rescheduled .state)) four ≡ two)
-      × (channelIn (after rescheduled .state) .«target_threshold» ≡ two)
-      × (channelIn (after setAgain .state) .«target_threshold» ≡ one)
-      × (after setAgain .state .progress .position ≡ 2)
+  pub row-11 : (settledHazard (channelIn (rowSession rescheduled .state)) four ≡ two)
+      × (channelIn (rowSession rescheduled .state) .«target_threshold» ≡ two)
+      × (channelIn (rowSession setAgain .state) .«target_threshold» ≡ one)
+      × (rowSession setAgain .state .progress .position ≡ 2)
   -- Censor time equal to the event's: not censored
   pub row-12 : answerBytes (answerTo started (reschedule z (censorAt four))) ≡ rowNineBytes

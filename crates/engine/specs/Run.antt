@@ -11,7 +11,7 @@ use Rattle.engine.specs.Refusals.{noCommand, cutShort, answersFull, badB
 use Rattle.engine.specs.State.{openedState}
 use Rattle.engine.specs.Journal.{Bytes, execute}
 use Rattle.engine.specs.Instance.{engineOf}
-use Rattle.engine.specs.Answers.{After, after}
+use Rattle.engine.specs.Answers.{AfterInput, after}
 use Rattle.engine.specs.declared.state.EngineState.{EngineState}
 
 -- the number that a run returns, and the buffers as it leaves them
@@ -35,7 +35,7 @@ abbrev pub endsRun : ℕ → Bool
 endsRun number = eqb number noCommand || eqb number cutShort
 
 -- one input executed, with its answer
-abbrev pub executed : Bytes → EngineState → Bytes → Bytes → After
+abbrev pub executed : Bytes → EngineState → Bytes → Bytes → AfterInput
 executed stream state journal input = after stream (length journal) (execute (engineOf stream (length journal)) state journal input)
 
 -- 17 if under an answer's bytes are left for a command, which is not executed
@@ -44,7 +44,7 @@ runFrom zero stream state journal answers answered read rest = finished 0 journa
 runFrom (suc turns) stream state journal answers answered read [] = finished 0 journal answers answered read
 runFrom (suc turns) stream state journal answers answered read (b ∷ bs) =
     let place = answerWidth * answered in
-    let o : After = executed stream state journal (b ∷ bs) in
+    let o : AfterInput = executed stream state journal (b ∷ bs) in
     let written : Bytes = withAnswer answers place (o .answer) in
     cond (leb (place + answerWidth) (length answers))
     (cond (endsRun (o .answer .number)) (finished (o .answer .number) (o .journal) written (answered + 1) read)
