@@ -83,6 +83,10 @@ module _ (E : Engine) (n : ℕ) (L : Laws E n) where
   abbrev sessionBy : Session E → Bytes → Outcome E → Session E
   sessionBy u i o = record { state = o .state; journal = o .journal; applied = appliedAfter E (o .reply) i (u .applied) }
 
+  -- a refused input leaves all of it
+  inv-refused : (u : Session E) (i : Bytes) (number : ℕ) → Inv u → Inv (sessionBy u i (unchanged E (u .state) (u .journal) number))
+  inv-refused u i number h = h
+
   inv-write : (u : Session E) (i c : Bytes) → Inv u → Asks E (u .state) i c → (t : E .State) (a : E .Answer)
       → E .perform (u .state) c ≡ performed t a
       → Inv (sessionBy u i (write E (u .state) (u .journal) c (performed t a)))
@@ -158,7 +162,7 @@ module _ (E : Engine) (n : ℕ) (L : Laws E n) where
     where
       go : (b : Bool) → Inv (sessionBy u i (cond b (lastReverted u rest) (unchanged E (u .state) (u .journal) replayFails)))
       go true = inv-reverted u i rest h p e
-      go false = h
+      go false = inv-refused u i replayFails h
 
   -- the replay of the applied bytes
   pub record AppliedReplay (u : Session E) : Type 0 where
@@ -186,7 +190,7 @@ module _ (E : Engine) (n : ℕ) (L : Laws E n) where
       go : (b : Bool) → ltb 0 (E .appliedLength (u .state)) ≡ b
           → Inv (sessionBy u i (cond b (revertTo E (u .state) (u .journal) (replayAll E (take (E .appliedLength (u .state)) (u .journal))))
           (unchanged E (u .state) (u .journal) nothingApplied)))
-      go false e = h
+      go false e = inv-refused u i nothingApplied h
       go true e =
           let p : 0 < length (concat (u .applied)) = omega (arith, ltb-true 0 (E .appliedLength (u .state)) e, h .counted) in
           let d : AppliedReplay u = applied-replay u h p in
@@ -195,12 +199,12 @@ module _ (E : Engine) (n : ℕ) (L : Laws E n) where
 
   inv-act : (u : Session E) (i : Bytes) (k : Asked) → Inv u → classify E (u .state) i ≡ k
       → Inv (sessionBy u i (act E (u .state) (u .journal) k))
-  inv-act u i (reject m) h e = h
+  inv-act u i (reject m) h e = inv-refused u i m h
   inv-act u i undoLast h e = inv-undo u i h
   inv-act u i (apply c) h e = go (E .perform (u .state) c) refl
     where
       go : (d : Performed (E .State) (E .Answer)) → E .perform (u .state) c ≡ d → Inv (sessionBy u i (write E (u .state) (u .journal) c d))
-      go (rejected m) p = h
+      go (rejected m) p = inv-refused u i m h
       go (performed t a) p = inv-write u i c h (asks E (u .state) i c e) t a p
 
   inv-feed : (u : Session E) (i : Bytes) → Inv u → Inv (feed E u i)
