@@ -152,7 +152,8 @@ module _ (stream : List ℕ) (n : ℕ) (s : EngineState) (g : Good stream n s) w
 
         -- what the answer says of it
         unqueued-queues : (a : Answer) → a .withdrawn ≡ isWithdrawn p e → a .event ≡ false
-            → Queues (engineOf stream n) (requestsOf stream n) (queueingOf stream n) s (withSlot s i (holding k) (applied (length c) p₁)) c a
+            → Queues (engineOf stream n) (requestsOf stream n) (queueingOf stream n) s
+            (withSlot s i (holding k) (applied (length c) p₁)) c a
         unqueued-queues a w v =
             let l = left-of in
             let count : p₁ .«request_count» ≡ p .«request_count» = withdraw-count p e in

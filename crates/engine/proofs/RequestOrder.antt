@@ -100,7 +100,8 @@ module _ {A : Type 0} (f g : A → A → Bool) where
 ordered : Ordered comesFirst
 unfolding comesFirst
 ordered =
-    by-both (λ a b. ltb (requestTicks a) (requestTicks b)) (thenBy (λ a b. ltZ (a .priority) (b .priority)) (λ a b. ltb (a .index) (b .index)))
+    by-both (λ a b. ltb (requestTicks a) (requestTicks b))
+    (thenBy (λ a b. ltZ (a .priority) (b .priority)) (λ a b. ltb (a .index) (b .index)))
     (by-number requestTicks)
     (by-both (λ a b. ltZ (a .priority) (b .priority)) (λ a b. ltb (a .index) (b .index)) (by-integer (λ r. r .priority))
     (by-number (λ r. r .index)))

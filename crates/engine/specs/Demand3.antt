@@ -52,11 +52,13 @@ module _ (stream : List ℕ) (n : ℕ) (inputs : List Bytes) where
     -- the journal keeps the length n of the engine, which the contract of `execute` reads off it; the part of it that `applied_commands`
     -- gives is the applied commands, one after another
     pub journal-length : length (sessionAfter .journal) ≡ n
-    pub applied-part : appliedPart (sessionAfter .journal) (sessionAfter .state .progress .«applied_length») ≡ concat (sessionAfter .applied)
+    pub applied-part : appliedPart (sessionAfter .journal) (sessionAfter .state .progress .«applied_length»)
+        ≡ concat (sessionAfter .applied)
     -- requests made = withdrawn + delivered + queued, for each clock, and at most one is queued
     pub balance : (k : ℕ) → ledger .rows k .made ≡ ledger .rows k .withdrawn + ledger .rows k .delivered + queued k
     pub at-most-one : (k : ℕ) → queued k ≤ 1
     -- beyond the demand: the state is never refused by 1, and UNDO is refused only by 12, where no command is applied
     pub valid : validState stream n (sessionAfter .state) ≡ true
     pub undo-reply : (rest : Bytes)
-        → execute (engineOf stream n) (sessionAfter .state) (sessionAfter .journal) (commands.undo ∷ rest) .reply ≡ undoReply (sessionAfter .applied)
+        → execute (engineOf stream n) (sessionAfter .state) (sessionAfter .journal) (commands.undo ∷ rest) .reply
+        ≡ undoReply (sessionAfter .applied)

@@ -194,7 +194,8 @@ fn clock_faults(command: &[u8]) -> Faults
 
 // An entity whose bits are all zero.
 fn unused_entity(command: &[u8]) -> bool
-    ensures { λ r. ⌜ r ≡ (eqb (fieldAt 8 (now (command .entry)) entityIndexField) 0 && eqb (fieldAt 4 (now (command .entry)) generationField) 0) ⌝ }
+    ensures { λ r. ⌜ r
+        ≡ (eqb (fieldAt 8 (now (command .entry)) entityIndexField) 0 && eqb (fieldAt 4 (now (command .entry)) generationField) 0) ⌝ }
 {
     let index = u64_at(command, ENTITY_INDEX_FIELD) == 0;
     let generation = u32_at(command, GENERATION_FIELD) == 0;
