@@ -7,14 +7,13 @@ use mathlib.Core.Bool.{true, false}
 use native.Mathlib.Omega.{arith}
 use borrow.Author.Tests.{le-ltb, lt-ltb, le-leb, lt-leb, eq-eqb, ne-eqb}
 use lib.ListN.{length, take, drop, length-drop}
-use lib.Seq.{length-take-le, drop-drop}
+use lib.Seq.{length-take-le, drop-drop, paste}
 use Rattle.hazards.specs.Refusals.{invalidState}
 use Rattle.engine.specs.Commands as commands
 use Rattle.engine.specs.Refusals.{cutShort, noCommand, nothingApplied, replayFails}
 use Rattle.engine.specs.Journal.{Bytes, Engine, Asked, reject, undoLast, apply, code, cut, classify, Performed, rejected, performed}
 use Rattle.engine.specs.Journal.{commandAt, widthAfter, fails, ends, replayFrom, replayAll, undo, unchanged, cleared, reverted}
 use Rattle.engine.specs.Journal.{answered, execute, act, write}
-use lib.Seq.{paste}
 use Rattle.engine.proofs.Replays.{Asks, asks, replay-end}
 
 module _ (E : Engine) (s : E .State) (i : Bytes) where

@@ -19,8 +19,7 @@ use Rattle.engine.specs.declared.state.Request.{Request}
 use Rattle.engine.proofs.DemandHalves.{Balanced}
 use Rattle.engine.proofs.Supplied.{Laws, Sound, Queueing, Delivers, Queues, QueueLaws}
 use Rattle.engine.proofs.CommandLists.{Whole, replay, AllWhole}
-use Rattle.engine.proofs.RequestLists.{isFor, notAt, notFor}
-use Rattle.engine.proofs.RequestLists.{none-left}
+use Rattle.engine.proofs.RequestLists.{isFor, notAt, notFor, none-left}
 use Rattle.engine.proofs.LedgerLinks.{Linked, row-one, linked-empty, linked-withdrawal, linked-request, same-pick, linked-delivery}
 use Rattle.engine.proofs.LedgerLinks.{linked-at}
 use Rattle.engine.proofs.Replays.{First, first}
