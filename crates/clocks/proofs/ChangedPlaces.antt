@@ -7,8 +7,7 @@ use native.Mathlib.Numerals.{add-one}
 use native.Mathlib.Omega.{arith}
 use lib.ListN.{length, take, drop, replicate, length-append, length-take, length-drop, length-map}
 use lib.ListN.{length-replicate, replicate-append-replicate}
-use lib.Seq.{length-take-le, take-append-add, drop-append-add, take-append-le, drop-append-le}
-use lib.Seq.{take-take, drop-drop, take-at, drop-at}
+use lib.Seq.{length-take-le, take-append-add, drop-append-add, take-append-le, drop-append-le, take-take, drop-drop, take-at, drop-at}
 use Rattle.hazards.proofs.Bytes.{drop-take}
 use Rattle.clocks.specs.Channels.{emptyChannel, onUsed, insertAt, removeAt}
 use Rattle.clocks.specs.declared.channels.HazardChannelState.{HazardChannelState}

@@ -3,7 +3,7 @@ use mathlib.Core.List.{List, _++_, map}
 use Prim.Native.Nat.{ℕ, zero, suc, _<_}
 use native.Mathlib.Omega.{arith}
 use lib.ListN.{length, getD, take, drop, set}
-use Rattle.clocks.specs.Sound.{Each, none, next}
+use Rattle.clocks.proofs.Sound.{Each, none, next}
 
 module _ {A : Type 0} {P : A → Type 0} where
   pub each-append : {xs ys : List A} → Each P xs → Each P ys → Each P (xs ++ ys)

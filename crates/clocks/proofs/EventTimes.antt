@@ -27,10 +27,10 @@ use Rattle.hazards.proofs.WaitBounds.{invert-held}
 use Rattle.clocks.specs.Channels.{channelCandidate}
 use Rattle.clocks.specs.Clocks.{clockCandidates, earliestEvent}
 use Rattle.clocks.specs.Scheduling.{finalEvent, onEventDispatched}
-use Rattle.clocks.specs.Sound.{Each, none, next, SoundClock}
 use Rattle.clocks.specs.declared.channels.HazardChannelState.{HazardChannelState}
 use Rattle.clocks.specs.declared.clocks.SurvivalClock.{SurvivalClock}
 use Rattle.clocks.specs.declared.scheduling.Censor.{Censor}
+use Rattle.clocks.proofs.Sound.{Each, none, next, SoundClock}
 use Rattle.clocks.proofs.Cases.{either-way}
 use Rattle.clocks.proofs.EachLaws.{each-append}
 

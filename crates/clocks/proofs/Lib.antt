@@ -11,6 +11,7 @@ pub mod RequestLaws
 pub mod SchedulingCases
 pub mod SettingCases
 pub mod SettingOutcomes
+pub mod Sound
 pub mod SoundChannels
 pub mod SoundClocks
 pub mod SoundKept

@@ -12,9 +12,9 @@ use Rattle.hazards.proofs.HazardBounds.{settled-upto}
 use Rattle.hazards.proofs.SoundPairs.{sound}
 use Rattle.clocks.specs.Channels.{settledHazard, settled, restarted}
 use Rattle.clocks.specs.Setting.{channelOf}
-use Rattle.clocks.specs.Sound.{SoundChannel}
 use Rattle.clocks.specs.declared.channels.HazardChannelState.{HazardChannelState}
 use Rattle.clocks.specs.declared.setting.CauseSetting.{CauseSetting}
+use Rattle.clocks.proofs.Sound.{SoundChannel}
 
 module _ (c : HazardChannelState) (s : SoundChannel c) where
   pub hazard-sound : T (sound (c .hazard) (c .intervals))

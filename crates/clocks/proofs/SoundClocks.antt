@@ -10,11 +10,11 @@ use Rattle.hazards.specs.Bounds.{Upto, largest}
 use Rattle.clocks.specs.Channels.{onUsed}
 use Rattle.clocks.specs.Clocks.{withChannels, withSchedule}
 use Rattle.clocks.specs.Validation.{ascendingFrom}
-use Rattle.clocks.specs.Sound.{Each, SoundChannel, SoundClock}
 use Rattle.clocks.specs.declared.channels.HazardChannelState.{HazardChannelState}
 use Rattle.clocks.specs.declared.clocks.ScheduledEvent.{ScheduledEvent}
 use Rattle.clocks.specs.declared.clocks.SurvivalClock.{SurvivalClock}
 use Rattle.clocks.specs.declared.clocks.Winner.{Winner}
+use Rattle.clocks.proofs.Sound.{Each, SoundChannel, SoundClock}
 use Rattle.clocks.proofs.AscendingCauses.{map-ascend}
 use Rattle.clocks.proofs.ChangedPlaces.{empties, changed-used, changed-unused}
 use Rattle.clocks.proofs.EachChannel.{each-length}

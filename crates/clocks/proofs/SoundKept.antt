@@ -15,12 +15,12 @@ use Rattle.clocks.specs.Channels.{settled, restarted, placeOf, holdsAt}
 use Rattle.clocks.specs.Clocks.{notScheduled, noWinner, newClock, usedChannels, removeChannel, earliestEvent, one}
 use Rattle.clocks.specs.Scheduling.{finalEvent, scheduledFor, reschedule, pause, resume, onEventDispatched}
 use Rattle.clocks.specs.Validation.{isFinite, ascendingFrom}
-use Rattle.clocks.specs.Sound.{none, SoundClock}
 use Rattle.clocks.specs.declared.clocks.EntityId.{EntityId}
 use Rattle.clocks.specs.declared.clocks.HazardInterruptionPolicy.{HazardInterruptionPolicy}
 use Rattle.clocks.specs.declared.clocks.SurvivalClock.{SurvivalClock}
 use Rattle.clocks.specs.declared.scheduling.Censor.{Censor}
 use Rattle.clocks.specs.declared.scheduling.RealizedEvent.{RealizedEvent}
+use Rattle.clocks.proofs.Sound.{none, SoundClock}
 use Rattle.clocks.proofs.Cases.{either-way}
 use Rattle.clocks.proofs.EventTimes.{delta-upto, winner-upto}
 use Rattle.clocks.proofs.SchedulingCases.{pause-inactive, pause-active}

@@ -11,9 +11,9 @@ use lib.Seq.{take-set-lt, drop-set-lt, getD-take}
 use lib.Ieee.Fits.{and-r}
 use Rattle.clocks.specs.Channels.{emptyChannel, placeOf, holdsAt, insertAt, removeAt}
 use Rattle.clocks.specs.Clocks.{usedChannels, withChannels}
-use Rattle.clocks.specs.Sound.{next, SoundChannel, SoundClock}
 use Rattle.clocks.specs.declared.channels.HazardChannelState.{HazardChannelState}
 use Rattle.clocks.specs.declared.clocks.SurvivalClock.{SurvivalClock}
+use Rattle.clocks.proofs.Sound.{next, SoundChannel, SoundClock}
 use Rattle.clocks.proofs.AscendingCauses.{NotAt, inserted-ascend, set-ascend, removed-ascend}
 use Rattle.clocks.proofs.ChangedPlaces.{inserted-places, inserted-used, inserted-unused}
 use Rattle.clocks.proofs.ChangedPlaces.{removed-places, removed-used, removed-unused}

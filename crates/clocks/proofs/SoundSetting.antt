@@ -17,10 +17,10 @@ use Rattle.hazards.proofs.DrawLaws.{accepted-threshold}
 use Rattle.clocks.specs.Channels.{emptyChannel, settledHazard, placeOf, holdsAt}
 use Rattle.clocks.specs.Clocks.{usedChannels}
 use Rattle.clocks.specs.Setting.{channelOf, drawsAgain, setAgain, setNew, setChannel}
-use Rattle.clocks.specs.Sound.{SoundChannel, SoundClock}
 use Rattle.clocks.specs.declared.channels.HazardChannelState.{HazardChannelState}
 use Rattle.clocks.specs.declared.clocks.SurvivalClock.{SurvivalClock}
 use Rattle.clocks.specs.declared.setting.CauseSetting.{CauseSetting}
+use Rattle.clocks.proofs.Sound.{SoundChannel, SoundClock}
 use Rattle.clocks.proofs.Cases.{either-way}
 use Rattle.clocks.proofs.SoundChannels.{settled-hazard-upto, setting-sound}
 use Rattle.clocks.proofs.SoundPlaces.{held-sound, replaced-sound, added-sound}

@@ -14,9 +14,9 @@ use Rattle.hazards.specs.Bounds.{Upto}
 use Rattle.hazards.proofs.Upto.{for-fin}
 use Rattle.clocks.specs.Clocks.{usedChannels}
 use Rattle.clocks.specs.Validation.{isFinite, validChannel, ascendingFrom, validClock}
-use Rattle.clocks.specs.Sound.{Each, none, next, SoundChannel, SoundClock}
 use Rattle.clocks.specs.declared.channels.HazardChannelState.{HazardChannelState}
 use Rattle.clocks.specs.declared.clocks.SurvivalClock.{SurvivalClock}
+use Rattle.clocks.proofs.Sound.{Each, none, next, SoundChannel, SoundClock}
 use Rattle.clocks.proofs.Cases.{either-way}
 
 -- ---- what has a bound is finite, and so is a threshold

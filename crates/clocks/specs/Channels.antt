@@ -2,13 +2,12 @@
 -- the first count are used.
 use mathlib.Core.Bool.{Bool, cond, _&&_}
 use mathlib.Core.List.{List, [], _∷_, _++_, map}
-use Prim.Native.Nat.{ℕ, zero, suc, _+_, _-_}
+use Prim.Native.Nat.{ℕ, suc, _+_, _-_}
 use lib.Dec.{eqb, ltb}
-use lib.ListN.{length, getD, set, take, drop, replicate}
+use lib.ListN.{length, getD, take, drop, replicate}
 use lib.Ieee.{Float, binary64, add, sub, le}
 use Rattle.hazards.specs.Floats.{z, notBelowZero}
 use Rattle.hazards.specs.Rates.{cumulativeHazard, invertCumulativeHazard}
-use Rattle.hazards.specs.declared.rates.HazardRate.{HazardRate}
 use Rattle.hazards.specs.declared.rates.HazardRate.the-variants.{Zero}
 use Rattle.hazards.specs.declared.rates.Intervals.{Intervals}
 use Rattle.hazards.specs.Ties.{candidateAfter}

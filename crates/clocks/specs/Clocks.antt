@@ -1,7 +1,7 @@
 -- Document 01, "Clocks": SurvivalClock of hazard_clock.rs as a record, and the methods new, remove_channel and compute_earliest_event.
 use mathlib.Core.Bool.{Bool, false, cond}
 use mathlib.Core.List.{List, [], _∷_, _++_}
-use Prim.Native.Nat.{ℕ, suc, _-_, pred}
+use Prim.Native.Nat.{ℕ, _-_}
 use lib.ListN.{take, replicate}
 use lib.IntN.{pos}
 use lib.Ieee.{Float, fin, le}

@@ -1,8 +1,7 @@
--- The definitions of the clocks crate, from ticks and channels up to the clock's methods, refusal 1's test and the invariant.
+-- The definitions of the clocks crate, from ticks and channels up to the clock's methods and refusal 1's test.
 pub mod Ticks
 pub mod Channels
 pub mod Clocks
 pub mod Setting
 pub mod Scheduling
 pub mod Validation
-pub mod Sound

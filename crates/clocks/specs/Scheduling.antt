@@ -1,7 +1,6 @@
 -- Document 01, "Clocks": reschedule, pause, resume and on_event_dispatched of hazard_clock.rs. The queue is the engine's: each method says
 -- which scheduled event it withdraws and what it asks to have scheduled.
 use mathlib.Core.Bool.{Bool, true, false, cond}
-use mathlib.Core.List.{List}
 use Prim.Native.Nat.{ℕ}
 use lib.Dec.{eqb}
 use lib.Ieee.{Float, binary64, add, sub, le}
@@ -12,14 +11,12 @@ use Rattle.hazards.specs.declared.ties.Earliest.the-variants.{Nothing, Found}
 use Rattle.clocks.specs.Ticks.{ticksAt}
 use Rattle.clocks.specs.Channels.{settled, restarted, onUsed}
 use Rattle.clocks.specs.Clocks.{notScheduled, noWinner, withChannels, withSchedule, earliestEvent}
-use Rattle.clocks.specs.declared.clocks.ScheduledEvent.{ScheduledEvent}
 use Rattle.clocks.specs.declared.clocks.SurvivalClock.{SurvivalClock}
 use Rattle.clocks.specs.declared.scheduling.Censor.{Censor}
 use Rattle.clocks.specs.declared.scheduling.RealizedEvent.{RealizedEvent}
 use Rattle.clocks.specs.declared.scheduling.Rescheduled.{Rescheduled}
 use Rattle.clocks.specs.declared.scheduling.Paused.{Paused}
 use Rattle.clocks.specs.declared.scheduling.Dispatched.{Dispatched}
-use Rattle.clocks.specs.declared.ticks.Ticks.{Ticks}
 
 -- no event
 abbrev pub notRealized : RealizedEvent

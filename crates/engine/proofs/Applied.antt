@@ -12,14 +12,17 @@ use lib.Seq.{paste, take-at}
 use lib.Dec.{ltb}
 use borrow.Author.Tests.{ltb-true, lt-ltb}
 use Rattle.engine.specs.Refusals.{nothingApplied, replayFails}
-use Rattle.engine.specs.Journal.{Bytes, Performed, rejected, performed, Engine, Asked, reject, revert, apply, reverted, answered}
-use Rattle.engine.specs.Journal.{concat, init, Outcome, cut, Whole, classify, replay, cleared, unchanged}
+use Rattle.engine.specs.Journal.{Bytes, Performed, rejected, performed, Engine, Asked, reject, undoLast, apply, reverted, answered}
+use Rattle.engine.specs.Journal.{concat, init, Outcome, cut, classify, cleared, unchanged}
 use Rattle.engine.specs.Journal.{Replayed, ends, replayFrom, replayAll, revertTo, undo, write, act, execute}
 use Rattle.engine.specs.Parts.{appliedPart}
-use Rattle.engine.specs.Sessions.{Session, appliedAfter, feed, feedAll, newSession, Accepted, AcceptsEach, Laws, OnlyApplied}
+use Rattle.engine.specs.Sessions.{Session, appliedAfter, feed, feedAll, newSession, Accepted, AcceptsEach}
+use Rattle.engine.proofs.DemandHalves.{OnlyApplied}
+use Rattle.engine.proofs.Supplied.{Laws}
+use Rattle.engine.proofs.CommandLists.{Whole, replay, AllWhole}
 use Rattle.engine.proofs.JournalBytes.{concat-snoc, split-last, init-snoc, write-zeros, blank-zeros}
 use Rattle.engine.proofs.PartLaws.{applied-front}
-use Rattle.engine.proofs.Replays.{Asks, asks, cut-whole, cut-self, classify-whole, AllWhole, all-append, all-init, replay-one}
+use Rattle.engine.proofs.Replays.{Asks, asks, cut-whole, cut-self, classify-whole, all-append, all-init, replay-one}
 use Rattle.engine.proofs.Replays.{First, first, ReplaysTo, replays-to}
 
 module _ (E : Engine) (n : ℕ) (L : Laws E n) where
@@ -77,12 +80,16 @@ module _ (E : Engine) (n : ℕ) (L : Laws E n) where
       applied-front (u .journal) (E .appliedLength (u .state)) (omega arith) ∙ applied-bytes u h
 
   -- what one input leaves, by its outcome
-  abbrev after : Session E → Bytes → Outcome E → Session E
-  after u i o = record { state = o .state; journal = o .journal; applied = appliedAfter E (o .reply) i (u .applied) }
+  abbrev sessionBy : Session E → Bytes → Outcome E → Session E
+  sessionBy u i o = record { state = o .state; journal = o .journal; applied = appliedAfter E (o .reply) i (u .applied) }
+
+  -- a refused input leaves all of it
+  inv-refused : (u : Session E) (i : Bytes) (number : ℕ) → Inv u → Inv (sessionBy u i (unchanged E (u .state) (u .journal) number))
+  inv-refused u i number h = h
 
   inv-write : (u : Session E) (i c : Bytes) → Inv u → Asks E (u .state) i c → (t : E .State) (a : E .Answer)
       → E .perform (u .state) c ≡ performed t a
-      → Inv (after u i (write E (u .state) (u .journal) c (performed t a)))
+      → Inv (sessionBy u i (write E (u .state) (u .journal) c (performed t a)))
   inv-write u i c h q t a e =
       let ss : List Bytes = u .applied in
       let ec : cut E i ≡ c = cc (q .cutting) in
@@ -123,7 +130,7 @@ module _ (E : Engine) (n : ℕ) (L : Laws E n) where
 
   inv-reverted : (u : Session E) (i : Bytes) (v : E .State) → Inv u → 0 < length (concat (u .applied))
       → replay E (some (E .opened)) (init (u .applied)) ≡ some v
-      → Inv (after u i (lastReverted u v))
+      → Inv (sessionBy u i (lastReverted u v))
   inv-reverted u i v h p e =
       let ss : List Bytes = u .applied in
       let d : Bytes = has-last ss p .0 in
@@ -150,12 +157,12 @@ module _ (E : Engine) (n : ℕ) (L : Laws E n) where
 
   inv-to : (u : Session E) (i : Bytes) (v rest : E .State) → Inv u → 0 < length (concat (u .applied))
       → replay E (some (E .opened)) (init (u .applied)) ≡ some rest
-      → Inv (after u i (revertTo E (u .state) (u .journal) (ends v rest (length (concat (init (u .applied)))))))
+      → Inv (sessionBy u i (revertTo E (u .state) (u .journal) (ends v rest (length (concat (init (u .applied)))))))
   inv-to u i v rest h p e = go (E .same v (u .state))
     where
-      go : (b : Bool) → Inv (after u i (cond b (lastReverted u rest) (unchanged E (u .state) (u .journal) replayFails)))
+      go : (b : Bool) → Inv (sessionBy u i (cond b (lastReverted u rest) (unchanged E (u .state) (u .journal) replayFails)))
       go true = inv-reverted u i rest h p e
-      go false = h
+      go false = inv-refused u i replayFails h
 
   -- the replay of the applied bytes; `rest` is the state before the last command
   pub record AppliedReplay (u : Session E) : Type 0 where
@@ -197,28 +204,28 @@ module _ (E : Engine) (n : ℕ) (L : Laws E n) where
       go (c ∷ cs) w z r =
           absurd (omega (arith, w .0 .pos, length-append c (concat cs)))
 
-  inv-undo : (u : Session E) (i : Bytes) → Inv u → Inv (after u i (undo E (u .state) (u .journal)))
+  inv-undo : (u : Session E) (i : Bytes) → Inv u → Inv (sessionBy u i (undo E (u .state) (u .journal)))
   unfolding undo
   inv-undo u i h = go (ltb 0 (E .appliedLength (u .state))) refl
     where
       go : (b : Bool) → ltb 0 (E .appliedLength (u .state)) ≡ b
-          → Inv (after u i (cond b (revertTo E (u .state) (u .journal) (replayAll E (take (E .appliedLength (u .state)) (u .journal))))
+          → Inv (sessionBy u i (cond b (revertTo E (u .state) (u .journal) (replayAll E (take (E .appliedLength (u .state)) (u .journal))))
           (unchanged E (u .state) (u .journal) nothingApplied)))
-      go false e = h
+      go false e = inv-refused u i nothingApplied h
       go true e =
           let p : 0 < length (concat (u .applied)) = omega (arith, ltb-true 0 (E .appliedLength (u .state)) e, h .counted) in
           let d : AppliedReplay u = applied-replay u h p in
-          subst (λ (o : Replayed E). Inv (after u i (revertTo E (u .state) (u .journal) o))) (sym (d .scans))
+          subst (λ (o : Replayed E). Inv (sessionBy u i (revertTo E (u .state) (u .journal) o))) (sym (d .scans))
           (inv-to u i (u .state) (d .rest) h p (d .ran))
 
   inv-act : (u : Session E) (i : Bytes) (k : Asked) → Inv u → classify E (u .state) i ≡ k
-      → Inv (after u i (act E (u .state) (u .journal) k))
-  inv-act u i (reject m) h e = h
-  inv-act u i revert h e = inv-undo u i h
+      → Inv (sessionBy u i (act E (u .state) (u .journal) k))
+  inv-act u i (reject m) h e = inv-refused u i m h
+  inv-act u i undoLast h e = inv-undo u i h
   inv-act u i (apply c) h e = go (E .perform (u .state) c) refl
     where
-      go : (d : Performed (E .State) (E .Answer)) → E .perform (u .state) c ≡ d → Inv (after u i (write E (u .state) (u .journal) c d))
-      go (rejected m) p = h
+      go : (d : Performed (E .State) (E .Answer)) → E .perform (u .state) c ≡ d → Inv (sessionBy u i (write E (u .state) (u .journal) c d))
+      go (rejected m) p = inv-refused u i m h
       go (performed t a) p = inv-write u i c h (asks E (u .state) i c e) t a p
 
   inv-feed : (u : Session E) (i : Bytes) → Inv u → Inv (feed E u i)
@@ -277,7 +284,7 @@ module _ (E : Engine) (n : ℕ) (L : Laws E n) where
   last-whole [] c h = h .0
   last-whole (d ∷ cs) c h = last-whole cs c (h .1)
 
-  executed : (u : Session E) (i : Bytes) → Inv u → Inv (after u i (execute E (u .state) (u .journal) i))
+  executed : (u : Session E) (i : Bytes) → Inv u → Inv (sessionBy u i (execute E (u .state) (u .journal) i))
   unfolding execute
   executed u i h = inv-act u i (classify E (u .state) i) h refl
 
@@ -293,7 +300,7 @@ module _ (E : Engine) (n : ℕ) (L : Laws E n) where
   taken-back r u i a t k h e =
       let c : Bytes = cut E i in
       let v : Session E = record { state = t; journal = k; applied = u .applied ++ (c ∷ []) } in
-      let hv : Inv v = subst (λ (o : Outcome E). Inv (after u i o)) e (executed u i h) in
+      let hv : Inv v = subst (λ (o : Outcome E). Inv (sessionBy u i o)) e (executed u i h) in
       let w : Whole E c = last-whole (u .applied) c (hv .whole) in
       let l : length (concat (v .applied)) ≡ length (concat (u .applied)) + length c =
       ap length (concat-snoc (u .applied) c) ∙ length-append (concat (u .applied)) c in

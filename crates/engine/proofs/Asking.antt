@@ -7,14 +7,13 @@ use mathlib.Core.Bool.{true, false}
 use native.Mathlib.Omega.{arith}
 use borrow.Author.Tests.{le-ltb, lt-ltb, le-leb, lt-leb, eq-eqb, ne-eqb}
 use lib.ListN.{length, take, drop, length-drop}
-use lib.Seq.{length-take-le, drop-drop}
+use lib.Seq.{length-take-le, drop-drop, paste}
 use Rattle.hazards.specs.Refusals.{invalidState}
 use Rattle.engine.specs.Commands as commands
 use Rattle.engine.specs.Refusals.{cutShort, noCommand, nothingApplied, replayFails}
-use Rattle.engine.specs.Journal.{Bytes, Engine, Asked, reject, revert, apply, code, cut, classify, Performed, rejected, performed}
+use Rattle.engine.specs.Journal.{Bytes, Engine, Asked, reject, undoLast, apply, code, cut, classify, Performed, rejected, performed}
 use Rattle.engine.specs.Journal.{commandAt, widthAfter, fails, ends, replayFrom, replayAll, undo, unchanged, cleared, reverted}
 use Rattle.engine.specs.Journal.{answered, execute, act, write}
-use lib.Seq.{paste}
 use Rattle.engine.proofs.Replays.{Asks, asks, replay-end}
 
 module _ (E : Engine) (s : E .State) (i : Bytes) where
@@ -36,7 +35,7 @@ module _ (E : Engine) (s : E .State) (i : Bytes) where
       unfolding classify
       asks-part w l = simp (v, lt-ltb 0 (length i) h, lt-ltb 0 (E .width (code i)) w, lt-leb (E .width (code i)) (length i) l)
 
-      pub asks-undo : 0 < E .width (code i) → E .width (code i) ≤ length i → code i ≡ commands.undo → classify E s i ≡ revert
+      pub asks-undo : 0 < E .width (code i) → E .width (code i) ≤ length i → code i ≡ commands.undo → classify E s i ≡ undoLast
       unfolding classify
       asks-undo w l e =
           simp (
@@ -83,7 +82,7 @@ one-fits E s i p = by-ask (classify E s i) refl
 
     by-ask : (k : Asked) → classify E s i ≡ k → commandAt E s k ≡ some p → (0 < p .1) × (p .1 ≤ length i)
     by-ask (reject n) q e = absurd (never e)
-    by-ask revert q e = absurd (never e)
+    by-ask undoLast q e = absurd (never e)
     by-ask (apply c) q e = by-did c (E .perform s c) q e
 
 module _ (E : Engine) where
@@ -170,7 +169,7 @@ module _ (E : Engine) (s : E .State) (j i : Bytes) where
   unfolding execute
   execute-rejects n e = ap (act E s j) e
 
-  pub execute-undo : classify E s i ≡ revert → execute E s j i ≡ undo E s j
+  pub execute-undo : classify E s i ≡ undoLast → execute E s j i ≡ undo E s j
   unfolding execute
   execute-undo e = ap (act E s j) e
 

@@ -11,56 +11,59 @@ use lib.ListN.{length}
 use borrow.Author.Tests.{eqb-true, eqb-false}
 use Rattle.engine.specs.Commands as commands
 use Rattle.engine.specs.Queue.{keepIf, without}
-use Rattle.engine.specs.Journal.{Bytes, performed, Engine, Whole, code, Reply, execute, replay}
-use Rattle.engine.specs.Sessions.{Session, feed, feedAll, newSession, Laws, Sound}
-use Rattle.engine.specs.Ledger.{Ledger, emptyLedger, nextPending, recordWithdrawal, recordRequest, recordDelivery, Requests, notFor}
-use Rattle.engine.specs.Ledger.{recordCommand, recordReply, ledgerOf, Delivers, Queues, QueueLaws, Balanced}
+use Rattle.engine.specs.Journal.{Bytes, performed, Engine, code, Reply, execute}
+use Rattle.engine.specs.Sessions.{Session, feed, feedAll, newSession}
+use Rattle.engine.specs.Ledger.{Ledger, emptyLedger, nextPending, recordWithdrawal, recordRequest, recordDelivery, Requests}
+use Rattle.engine.specs.Ledger.{recordCommand, recordReply, ledgerOf}
 use Rattle.engine.specs.declared.state.Request.{Request}
-use Rattle.engine.proofs.RequestLists.{isFor, notAt}
-use Rattle.engine.proofs.RequestLists.{none-left}
+use Rattle.engine.proofs.DemandHalves.{Balanced}
+use Rattle.engine.proofs.Supplied.{Laws, Sound, Queueing, Delivers, Queues, QueueLaws}
+use Rattle.engine.proofs.CommandLists.{Whole, replay, AllWhole}
+use Rattle.engine.proofs.RequestLists.{isFor, notAt, notFor, none-left}
 use Rattle.engine.proofs.LedgerLinks.{Linked, row-one, linked-empty, linked-withdrawal, linked-request, same-pick, linked-delivery}
 use Rattle.engine.proofs.LedgerLinks.{linked-at}
-use Rattle.engine.proofs.Replays.{AllWhole, First, first}
+use Rattle.engine.proofs.Replays.{First, first}
 use Rattle.engine.proofs.Applied.{feed-one, Inv, inv-open, inv-all}
 
-module _ (E : Engine) (R : Requests E) (n : ℕ) (L : Laws E n) (Good : E .State → Type 0) (S : Sound E Good) (Q : QueueLaws E R Good) where
+module _ (E : Engine) (R : Requests E) (K : Queueing E) (n : ℕ) (L : Laws E n) (Good : E .State → Type 0) (S : Sound E Good)
+    (Q : QueueLaws E R K Good) where
   abbrev Holds : E .State → Ledger → Type 0
-  Holds s b = Linked (R .queue s) (R .counter s) b
+  Holds s b = Linked (K .queue s) (K .counter s) b
 
   -- a command that is no DELIVER
-  holds-queues : (s t : E .State) (c : Bytes) (a : E .Answer) (b : Ledger) → Holds s b → Queues E R s t c a
+  holds-queues : (s t : E .State) (c : Bytes) (a : E .Answer) (b : Ledger) → Holds s b → Queues E R K s t c a
       → Holds t (let b₁ : Ledger = cond (R .withdrawn a) (recordWithdrawal (R .clockOf c) b) b in
-      cond (R .event a) (recordRequest (R .clockOf c) (R .ticksOf a) (R .priorityOf c) b₁) b₁)
+      cond (R .event a) (recordRequest (R .clockOf c) (R .answerTicks a) (R .priorityOf c) b₁) b₁)
   holds-queues s t c a b h q = go (R .withdrawn a) refl (R .event a) refl (q .queue) (q .counter)
     where
       k : ℕ
       k = R .clockOf c
 
       new : Request
-      new = record { clock = k; ticks = R .ticksOf a; priority = R .priorityOf c; index = R .counter s }
+      new = record { clock = k; ticks = R .answerTicks a; priority = R .priorityOf c; index = K .counter s }
 
       left : Bool → List Request
-      left w = cond w (keepIf (notFor k) (R .queue s)) (R .queue s)
+      left w = cond w (keepIf (notFor k) (K .queue s)) (K .queue s)
 
       held : Bool → Ledger
       held w = cond w (recordWithdrawal k b) b
 
       go : (w : Bool) → R .withdrawn a ≡ w → (e : Bool) → R .event a ≡ e
-          → R .queue t ≡ cond e (left w ++ (new ∷ [])) (left w) → R .counter t ≡ R .counter s + cond e 1 0
-          → Holds t (cond e (recordRequest k (R .ticksOf a) (R .priorityOf c) (held w)) (held w))
+          → K .queue t ≡ cond e (left w ++ (new ∷ [])) (left w) → K .counter t ≡ K .counter s + cond e 1 0
+          → Holds t (cond e (recordRequest k (R .answerTicks a) (R .priorityOf c) (held w)) (held w))
       go true ew true ee eq em =
-          linked-at (left true ++ (new ∷ [])) (R .queue t) (R .counter s + 1) (R .counter t)
-          (recordRequest k (R .ticksOf a) (R .priorityOf c) (held true)) eq em
-          (linked-request (left true) (R .counter s) (held true) k (R .ticksOf a) (R .priorityOf c)
-          (linked-withdrawal (R .queue s) (R .counter s) b k h (q .was ew)) (ap length (none-left k (R .queue s))) (q .clock ee))
+          linked-at (left true ++ (new ∷ [])) (K .queue t) (K .counter s + 1) (K .counter t)
+          (recordRequest k (R .answerTicks a) (R .priorityOf c) (held true)) eq em
+          (linked-request (left true) (K .counter s) (held true) k (R .answerTicks a) (R .priorityOf c)
+          (linked-withdrawal (K .queue s) (K .counter s) b k h (q .was ew)) (ap length (none-left k (K .queue s))) (q .clock ee))
       go false ew true ee eq em =
-          linked-at (left false ++ (new ∷ [])) (R .queue t) (R .counter s + 1) (R .counter t)
-          (recordRequest k (R .ticksOf a) (R .priorityOf c) b) eq em
-          (linked-request (R .queue s) (R .counter s) b k (R .ticksOf a) (R .priorityOf c) h (q .one ee ew) (q .clock ee))
+          linked-at (left false ++ (new ∷ [])) (K .queue t) (K .counter s + 1) (K .counter t)
+          (recordRequest k (R .answerTicks a) (R .priorityOf c) b) eq em
+          (linked-request (K .queue s) (K .counter s) b k (R .answerTicks a) (R .priorityOf c) h (q .one ee ew) (q .clock ee))
       go true ew false ee eq em =
-          linked-at (left true) (R .queue t) (R .counter s) (R .counter t) (held true) eq (em ∙ omega arith)
-          (linked-withdrawal (R .queue s) (R .counter s) b k h (q .was ew))
-      go false ew false ee eq em = linked-at (R .queue s) (R .queue t) (R .counter s) (R .counter t) b eq (em ∙ omega arith) h
+          linked-at (left true) (K .queue t) (K .counter s) (K .counter t) (held true) eq (em ∙ omega arith)
+          (linked-withdrawal (K .queue s) (K .counter s) b k h (q .was ew))
+      go false ew false ee eq em = linked-at (K .queue s) (K .queue t) (K .counter s) (K .counter t) b eq (em ∙ omega arith) h
 
   holds-feed : (s t : E .State) (c : Bytes) (a : E .Answer) (b : Ledger) → Whole E c → Holds s b → Good s → E .perform s c ≡ performed t a
       → Holds t (recordCommand E R b c a)
@@ -71,14 +74,14 @@ module _ (E : Engine) (R : Requests E) (n : ℕ) (L : Laws E n) (Good : E .State
           → Holds t
           (cond u (recordDelivery b (nextPending (b .rows) 16))
           (let b₁ : Ledger = cond (R .withdrawn a) (recordWithdrawal (R .clockOf c) b) b in
-          cond (R .event a) (recordRequest (R .clockOf c) (R .ticksOf a) (R .priorityOf c) b₁) b₁))
+          cond (R .event a) (recordRequest (R .clockOf c) (R .answerTicks a) (R .priorityOf c) b₁) b₁))
       go true k =
-          let d : Delivers E R s t = Q .delivers s t c a v (eqb-true (code c) commands.deliver k) e in
-          linked-at (keepIf (notAt (d .taken .index)) (R .queue s)) (R .queue t) (R .counter s) (R .counter t)
+          let d : Delivers E R K s t = Q .delivers s t c a v (eqb-true (code c) commands.deliver k) e in
+          linked-at (keepIf (notAt (d .taken .index)) (K .queue s)) (K .queue t) (K .counter s) (K .counter t)
           (recordDelivery b (nextPending (b .rows) 16)) (d .queue) (d .counter)
-          (subst (λ (o : Option Request). Linked (keepIf (notAt (d .taken .index)) (R .queue s)) (R .counter s) (recordDelivery b o))
-          (sym (same-pick (R .queue s) (R .counter s) b (d .taken) h (d .picks)))
-          (linked-delivery (R .queue s) (R .counter s) b (d .taken) h (d .picks)))
+          (subst (λ (o : Option Request). Linked (keepIf (notAt (d .taken .index)) (K .queue s)) (K .counter s) (recordDelivery b o))
+          (sym (same-pick (K .queue s) (K .counter s) b (d .taken) h (d .picks)))
+          (linked-delivery (K .queue s) (K .counter s) b (d .taken) h (d .picks)))
       go false k = holds-queues s t c a b h (Q .queues s t c a w v (eqb-false (code c) commands.deliver k) e)
 
   ledger-holds : (u : Session E) (cs : List Bytes) (v : E .State) (b : Ledger) → AllWhole E cs → replay E (some (u .state)) cs ≡ some v
@@ -97,17 +100,17 @@ module _ (E : Engine) (R : Requests E) (n : ℕ) (L : Laws E n) (Good : E .State
       (subst (λ (x : E .State). Holds x (recordCommand E R b c (f .answer))) (sym (g .0)) k))
 
   -- Demand 3, its second half
-  pub balanced : (is : List Bytes) (k : ℕ) → Balanced E R n is k
+  pub balanced : (is : List Bytes) (k : ℕ) → Balanced E n is R K k
   unfolding newSession
   balanced is k =
       let u : Session E = feedAll E (newSession E n) is in
       let h : Inv E n L u = inv-all E n L (newSession E n) is (inv-open E n L) in
       let o : Holds (E .opened) emptyLedger =
-      linked-at [] (R .queue (E .opened)) 0 (R .counter (E .opened)) emptyLedger (Q .none-queued) (Q .none-made) linked-empty in
+      linked-at [] (K .queue (E .opened)) 0 (K .counter (E .opened)) emptyLedger (Q .none-queued) (Q .none-made) linked-empty in
       let l : Holds (u .state) (ledgerOf E R (newSession E n) emptyLedger (u .applied)) =
       ledger-holds (newSession E n) (u .applied) (u .state) emptyLedger (h .whole) (h .ran) (S .opens) o in
       record {
         balance = l .rows k .sum;
-        at-most-one = row-one (keepIf (isFor k) (R .queue (u .state))) (ledgerOf E R (newSession E n) emptyLedger (u .applied) .rows k)
+        at-most-one = row-one (keepIf (isFor k) (K .queue (u .state))) (ledgerOf E R (newSession E n) emptyLedger (u .applied) .rows k)
             (l .rows k);
       }

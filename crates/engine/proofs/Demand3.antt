@@ -8,12 +8,13 @@ use lib.ListN.{length, length-append}
 use Rattle.engine.specs.Commands as commands
 use Rattle.engine.specs.Commands.{widthOf}
 use Rattle.engine.specs.Validation.{validState}
-use Rattle.engine.specs.Journal.{Bytes, Engine, concat, revert, classify, Outcome, undo}
+use Rattle.engine.specs.Journal.{Bytes, Engine, concat, undoLast, classify, Outcome, undo}
 use Rattle.engine.specs.Sessions.{Session}
 use Rattle.engine.specs.Instance.{engineOf, requestsOf}
-use Rattle.engine.specs.Good.{Good}
-use Rattle.engine.specs.Demand3.{undoReply, opened, after, Demand3}
-use Rattle.engine.proofs.Replays.{AllWhole}
+use Rattle.engine.specs.Demand3.{undoReply, opened, sessionAfter, Demand3}
+use Rattle.engine.proofs.CommandLists.{AllWhole}
+use Rattle.engine.proofs.Good.{Good}
+use Rattle.engine.proofs.Supplied.{queueingOf}
 use Rattle.engine.proofs.Applied.{Inv, inv-open, inv-all, journal-length, applied-part, only-applied, undo-accepted}
 use Rattle.engine.proofs.Asking.{asks-undo, undo-nothing, execute-undo}
 use Rattle.engine.proofs.Reached.{never-invalid}
@@ -27,13 +28,13 @@ module _ (stream : List ℕ) (n : ℕ) (inputs : List Bytes) where
   E = engineOf stream n
 
   abbrev u : Session E
-  u = after stream n inputs
+  u = sessionAfter stream n inputs
 
   valid : validState stream n (u .state) ≡ true
   valid = never-invalid E (Good stream n) (engine-sound stream n) n (engine-laws stream n) inputs
 
   -- UNDO, whatever follows its byte, is taken for one
-  asks : (rest : Bytes) → classify E (u .state) (commands.undo ∷ rest) ≡ revert
+  asks : (rest : Bytes) → classify E (u .state) (commands.undo ∷ rest) ≡ undoLast
   asks rest = asks-undo E (u .state) (commands.undo ∷ rest) valid (omega arith) (unfold widthOf in omega arith)
       (unfold widthOf in omega arith) refl
 
@@ -54,7 +55,7 @@ module _ (stream : List ℕ) (n : ℕ) (inputs : List Bytes) where
   pub demand-3 : Demand3 stream n inputs
   demand-3 =
       let first = only-applied E n (engine-laws stream n) inputs in
-      let second = balanced E (requestsOf stream n) n (engine-laws stream n) (Good stream n) (engine-sound stream n)
+      let second = balanced E (requestsOf stream n) (queueingOf stream n) n (engine-laws stream n) (Good stream n) (engine-sound stream n)
       (engine-queue stream n) inputs in
       record {
         same-state = first .same-state;
@@ -65,6 +66,6 @@ module _ (stream : List ℕ) (n : ℕ) (inputs : List Bytes) where
         balance = λ k. second k .balance;
         at-most-one = λ k. second k .at-most-one;
         valid = valid;
-        undo = λ rest.
+        undo-reply = λ rest.
             ap (λ (o : Outcome E). o .reply) (execute-undo E (u .state) (u .journal) (commands.undo ∷ rest) (asks rest)) ∙ undo-answered;
       }

@@ -9,12 +9,12 @@ use Rattle.clocks.specs.declared.clocks.ScheduledEvent.{ScheduledEvent}
 use Rattle.clocks.specs.declared.scheduling.Rescheduled.{Rescheduled}
 use Rattle.engine.specs.State.{openedState, slotAt, applied}
 use Rattle.engine.specs.Journal.{performed}
-use Rattle.engine.specs.Sessions.{Laws}
 use Rattle.engine.specs.Execution.{withdraw, enqueue, target, perform}
 use Rattle.engine.specs.Instance.{engineOf}
 use Rattle.engine.specs.declared.state.ClockSlot.{ClockSlot}
 use Rattle.engine.specs.declared.state.Progress.{Progress}
 use Rattle.engine.specs.declared.state.EngineState.{EngineState}
+use Rattle.engine.proofs.Supplied.{Laws}
 use Rattle.engine.proofs.ProgressLaws.{withdraw-elsewhere, enqueue-elsewhere}
 use Rattle.engine.proofs.PerformedWays.{Room, rescheduling, resuming, pausing, performed-way, done-on}
 

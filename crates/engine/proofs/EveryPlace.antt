@@ -1,8 +1,8 @@
--- A test of every place below n: one place more, and one that fails.
-use mathlib.Core.Path.{_≡_, refl}
+-- A test of every place below n: one place more, and one that fails; and the loop that holds two lists against each other place by place.
+use mathlib.Core.Path.{_≡_, refl, sym, _∙_}
 use mathlib.Core.Bool.{Bool, true, false}
 use mathlib.Core.List.{List, [], _∷_}
-use Prim.Native.Nat.{ℕ, zero, suc, _+_, _<_}
+use Prim.Native.Nat.{ℕ, zero, suc, _+_, _≤_, _<_}
 use native.Mathlib.Numerals.{add-one}
 use native.Mathlib.Omega.{arith}
 use borrow.Author.Tests.{eqb-true, eqb-false}
@@ -34,7 +34,28 @@ getD-any [] i d e h = absurd (omega arith)
 getD-any (x ∷ xs) zero d e h = refl
 getD-any (x ∷ xs) (suc i) d e h = getD-any xs i d e (omega arith)
 
--- so is a test of two such places
-pub at-place : {A : Type 0} (same : A → A → Bool) (xs ys : List A) (i : ℕ) (d e : A) → i < length xs → i < length ys
-    → same (getD xs i d) (getD ys i d) ≡ same (getD xs i e) (getD ys i e)
-at-place same xs ys i d e h k = rw (getD-any xs i d e h, getD-any ys i d e k)
+-- two lists of n places; an element that is missing is read as d
+module _ {A : Type 0} (same : A → A → Bool) (d : A) (n : ℕ) (xs ys : List A) where
+  abbrev sameAt : ℕ → Bool
+  sameAt k = same (getD xs k d) (getD ys k d)
+
+  -- what holds before the turn at i: the places below it agree
+  abbrev pub SameBelow : ℕ → Type 0
+  SameBelow i = (i ≤ n) × (everyBelow i sameAt ≡ true)
+
+  pub none-yet : SameBelow 0
+  none-yet = (omega arith, every-none sameAt)
+
+  pub all-same : (i : ℕ) → n ≤ i → SameBelow i → true ≡ everyBelow n sameAt
+  all-same i h s = let all : n ≡ i = omega (arith, s .0) in rw all (sym (s .1))
+
+  -- the turn at i, which compares the elements there; the code reads them with a default e of its own
+  module _ (m : (length xs ≡ n) × (length ys ≡ n)) (i : ℕ) (l : i < n) (e : A) {r : Bool} (t : r ≡ same (getD xs i e) (getD ys i e)) where
+    at-place : r ≡ sameAt i
+    at-place = t ∙ rw (getD-any xs i e d (omega (arith, m .0)), getD-any ys i e d (omega (arith, m .1)))
+
+    pub place-differs : r ≡ false → false ≡ everyBelow n sameAt
+    place-differs f = sym (every-fails sameAt n i l (sym at-place ∙ f))
+
+    pub place-same : r ≡ true → SameBelow i → SameBelow (i + 1)
+    place-same f s = (omega arith, every-more sameAt i (s .1) (sym at-place ∙ f))

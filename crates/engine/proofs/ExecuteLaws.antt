@@ -22,7 +22,8 @@ use Rattle.engine.specs.Instance.{engineOf}
 use Rattle.engine.specs.Comparison.{sameState}
 use Rattle.engine.specs.Parts.{copiedInto, clearedFront}
 use Rattle.engine.specs.ReplayCode.{beforeLast, replayedOf}
-use Rattle.engine.specs.ExecuteCode.{after, left, Applied, appliedOn, journalAfter, applyOn}
+use Rattle.engine.specs.ExecuteCode.{left, Applied, appliedOn, journalAfter, applyOn}
+use Rattle.engine.specs.Answers.{after}
 use Rattle.engine.specs.declared.execute.Executed.{Executed}
 use Rattle.engine.specs.declared.execution.SlotOutcome.{SlotOutcome}
 use Rattle.engine.specs.declared.replay.Replay.{Replay}
@@ -58,6 +59,10 @@ valid-within stream n s v =
     }
 
 -- ---- what is left
+
+-- an answer that is a number and zero elsewhere, and the state
+abbrev pub onlyNumber : ℕ → EngineState → Executed
+onlyNumber number s = record { answer = noEvent number; state = s }
 
 -- a refusal changes nothing
 pub left-refused : (stream : List ℕ) (n : ℕ) (r : Executed) (s : EngineState) (j : Bytes) {number : ℕ} {o : Outcome (engineOf stream n)}

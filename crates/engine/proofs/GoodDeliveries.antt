@@ -11,14 +11,14 @@ use Rattle.clocks.proofs.RequestLaws.{dispatched-scheduled}
 use Rattle.engine.specs.Queue.{nextRequest, without}
 use Rattle.engine.specs.State.{slotAt, withSlot, queuedRequests, withQueue, applied}
 use Rattle.engine.specs.Execution.{holding}
-use Rattle.engine.specs.Ledger.{Delivers, notFor}
 use Rattle.engine.specs.Instance.{engineOf, requestsOf}
-use Rattle.engine.specs.Good.{GoodQueue, Good}
 use Rattle.engine.specs.declared.state.ClockSlot.{ClockSlot}
 use Rattle.engine.specs.declared.state.Progress.{Progress}
 use Rattle.engine.specs.declared.state.Request.{Request}
 use Rattle.engine.specs.declared.state.EngineState.{EngineState}
-use Rattle.engine.proofs.RequestLists.{In}
+use Rattle.engine.proofs.Good.{GoodQueue, Good}
+use Rattle.engine.proofs.Supplied.{queueingOf, Delivers}
+use Rattle.engine.proofs.RequestLists.{In, notFor}
 use Rattle.engine.proofs.Picks.{Best, next-best}
 use Rattle.engine.proofs.RequestCounts.{keep-short}
 use Rattle.engine.proofs.GoodQueues.{request-of, without-one, at-most-16, queue-drops}
@@ -27,7 +27,7 @@ use Rattle.engine.proofs.GoodSteps.{clock-sound, slot-here, slot-elsewh
 
 pub record Delivery (stream : List ℕ) (n : ℕ) (s t : EngineState) : Type 0 where
   pub good : Good stream n t
-  pub delivers : Delivers (engineOf stream n) (requestsOf stream n) s t
+  pub delivers : Delivers (engineOf stream n) (requestsOf stream n) (queueingOf stream n) s t
 
 module _ (stream : List ℕ) (n : ℕ) (s : EngineState) (g : Good stream n s) (c : List ℕ)
     (room : s .progress .«applied_length» + length c ≤ n)

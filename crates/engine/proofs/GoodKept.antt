@@ -10,7 +10,7 @@ use lib.Dec.{eqb}
 use lib.ListN.{length}
 use Rattle.hazards.specs.Fields.{fieldAt}
 use Rattle.hazards.specs.declared.answers.Answer.{Answer}
-use Rattle.clocks.specs.Sound.{SoundClock}
+use Rattle.clocks.proofs.Sound.{SoundClock}
 use Rattle.clocks.proofs.Cases.{either-way}
 use Rattle.clocks.proofs.SoundKept.{new-sound, remove-sound, pause-sound, reschedule-sound, resume-sound}
 use Rattle.clocks.proofs.SoundSetting.{set-sound}
@@ -19,15 +19,15 @@ use Rattle.clocks.proofs.RequestLaws.{new-scheduled, set-rest, remove-rest, res
 use Rattle.clocks.proofs.RequestLaws.{pause-withdraws, pause-names-nothing, pause-leaves, pause-withdraws-nothing}
 use Rattle.engine.specs.Commands as commands
 use Rattle.engine.specs.State.{openedState, slotAt, withSlot}
-use Rattle.engine.specs.Journal.{Whole, code, performed}
-use Rattle.engine.specs.Sessions.{Sound}
+use Rattle.engine.specs.Journal.{code, performed}
 use Rattle.engine.specs.Execution.{done, clockOf, nowOf, censorOf, settingOf, createdClock, performOn, target, perform}
-use Rattle.engine.specs.Ledger.{Queues, QueueLaws}
 use Rattle.engine.specs.Instance.{engineOf, requestsOf}
-use Rattle.engine.specs.Good.{Good}
 use Rattle.engine.specs.declared.state.ClockSlot.{ClockSlot}
 use Rattle.engine.specs.declared.state.Progress.{Progress}
 use Rattle.engine.specs.declared.state.EngineState.{EngineState}
+use Rattle.engine.proofs.Good.{Good}
+use Rattle.engine.proofs.Supplied.{queueingOf, Sound, Queues, QueueLaws}
+use Rattle.engine.proofs.CommandLists.{Whole}
 use Rattle.engine.proofs.AcceptedFields.{create-accepted, set-accepted, cause-accepted, reschedule-accepted, pause-accepted}
 use Rattle.engine.proofs.PerformedWays.{performed-way, done-on}
 use Rattle.engine.proofs.PerformedTargets.{only-deliver, target-delivered}
@@ -94,7 +94,7 @@ module _ (stream : List ℕ) (n : ℕ) (s : EngineState) (c : List ℕ) where
 
     pub record Named (t : EngineState) (a : Answer) : Type 0 where
       pub good : Good stream n t
-      pub queues : Queues (engineOf stream n) (requestsOf stream n) s t c a
+      pub queues : Queues (engineOf stream n) (requestsOf stream n) (queueingOf stream n) s t c a
 
     named-kept : Whole (engineOf stream n) c → (code c ≡ commands.deliver → ⊥) → (t : EngineState) (a : Answer)
         → perform stream n s c ≡ performed t a → Named t a
@@ -134,7 +134,7 @@ module _ (stream : List ℕ) (n : ℕ) where
   pub engine-sound : Sound (engineOf stream n) (Good stream n)
   engine-sound = record { opens = opened-good stream n; keeps = keeps; passes = λ s g. good-valid s stream n g }
 
-  pub engine-queue : QueueLaws (engineOf stream n) (requestsOf stream n) (Good stream n)
+  pub engine-queue : QueueLaws (engineOf stream n) (requestsOf stream n) (queueingOf stream n) (Good stream n)
   unfolding openedState
   engine-queue = record {
     none-queued = refl;

@@ -12,12 +12,11 @@ use Rattle.clocks.specs.declared.clocks.ScheduledEvent.{ScheduledEvent}
 use Rattle.clocks.specs.declared.clocks.Winner.{Winner}
 use Rattle.clocks.proofs.Cases.{either-way}
 use Rattle.engine.specs.Queue.{keepIf, without, countFor}
-use Rattle.engine.specs.Ledger.{notFor}
 use Rattle.engine.specs.State.{emptySlot}
-use Rattle.engine.specs.Good.{namesRequest, GoodRequest, GoodQueue}
 use Rattle.engine.specs.declared.state.ClockSlot.{ClockSlot}
 use Rattle.engine.specs.declared.state.Request.{Request}
-use Rattle.engine.proofs.RequestLists.{In, isFor, in-keep, keep-sat, keep-append, keep-cons-true, keep-cons-false, keep-same}
+use Rattle.engine.proofs.Good.{namesRequest, GoodRequest, GoodQueue}
+use Rattle.engine.proofs.RequestLists.{In, isFor, in-keep, keep-sat, keep-append, keep-cons-true, keep-cons-false, keep-same, notFor}
 use Rattle.engine.proofs.RequestLists.{in-append}
 use Rattle.engine.proofs.RequestLists.{not-for-same, none-left, others-left}
 use Rattle.engine.proofs.RequestCounts.{each-in, in-each, counted, at-most}

@@ -9,10 +9,10 @@ use lib.Seq.{getD-set-same, getD-set-other}
 use Rattle.hazards.specs.Draws.{streamLength}
 use Rattle.hazards.specs.declared.answers.Answer.{Answer}
 use Rattle.clocks.specs.Clocks.{notScheduled}
-use Rattle.clocks.specs.Sound.{SoundClock}
 use Rattle.clocks.specs.declared.clocks.SurvivalClock.{SurvivalClock}
 use Rattle.clocks.specs.declared.clocks.ScheduledEvent.{ScheduledEvent}
 use Rattle.clocks.specs.declared.scheduling.Rescheduled.{Rescheduled}
+use Rattle.clocks.proofs.Sound.{SoundClock}
 use Rattle.clocks.proofs.Cases.{either-way}
 use Rattle.clocks.proofs.EachLaws.{each-set, each-at}
 use Rattle.clocks.proofs.RequestLaws.{OnlyChannels, Requests}
@@ -20,14 +20,14 @@ use Rattle.engine.specs.Queue.{keepIf}
 use Rattle.engine.specs.State.{emptySlot, slotAt, withSlot, queuedRequests, withPosition, withRequest, applied}
 use Rattle.engine.specs.Execution.{clockOf, priorityOf, holding, plain, isWithdrawn, withdraw, requestOf, enqueue, eventAnswer}
 use Rattle.engine.specs.Execution.{withdrawnAnswer}
-use Rattle.engine.specs.Ledger as ledger
-use Rattle.engine.specs.Ledger.{notFor}
 use Rattle.engine.specs.Instance.{engineOf, requestsOf}
-use Rattle.engine.specs.Good.{SoundSlot, GoodRequest, GoodQueue, Good}
 use Rattle.engine.specs.declared.state.ClockSlot.{ClockSlot}
 use Rattle.engine.specs.declared.state.Progress.{Progress}
 use Rattle.engine.specs.declared.state.Request.{Request}
 use Rattle.engine.specs.declared.state.EngineState.{EngineState}
+use Rattle.engine.proofs.Supplied.{queueingOf, Queues, queueAfter}
+use Rattle.engine.proofs.RequestLists.{notFor}
+use Rattle.engine.proofs.Good.{SoundSlot, GoodRequest, GoodQueue, Good}
 use Rattle.engine.proofs.ProgressLaws.{withdraw-elsewhere, withdraw-count}
 use Rattle.engine.proofs.RequestCounts.{none-for}
 use Rattle.engine.proofs.GoodQueues.{at-most-16, unnamed-none, queue-stays, queue-drops, queue-replaces}
@@ -36,7 +36,7 @@ use Rattle.engine.proofs.QueuePlaces.{Placed, queued-length, with-reque
 -- slot, progress and answer after a command about the clock that it names: the state is good, and the queue is what the answer says
 pub record Step (stream : List ℕ) (n : ℕ) (s : EngineState) (c : List ℕ) (slot : ClockSlot) (p′ : Progress) (a : Answer) : Type 0 where
   pub good : Good stream n (withSlot s (clockOf c) slot p′)
-  pub queues : ledger.Queues (engineOf stream n) (requestsOf stream n) s (withSlot s (clockOf c) slot p′) c a
+  pub queues : Queues (engineOf stream n) (requestsOf stream n) (queueingOf stream n) s (withSlot s (clockOf c) slot p′) c a
 
 module _ (stream : List ℕ) (n : ℕ) (s : EngineState) (g : Good stream n s) where
   abbrev p : Progress
@@ -85,7 +85,7 @@ module _ (stream : List ℕ) (n : ℕ) (s : EngineState) (g : Good stream n s) w
 
     -- an answer that says nothing of requests
     plain-queues : (slot : ClockSlot) (p′ : Progress) → queuedRequests p′ ≡ q → p′ .«request_count» ≡ p .«request_count»
-        → ledger.Queues (engineOf stream n) (requestsOf stream n) s (withSlot s i slot p′) c plain
+        → Queues (engineOf stream n) (requestsOf stream n) (queueingOf stream n) s (withSlot s i slot p′) c plain
     plain-queues slot p′ e f = record {
       queue = e;
       counter = f ∙ omega arith;
@@ -152,7 +152,8 @@ module _ (stream : List ℕ) (n : ℕ) (s : EngineState) (g : Good stream n s) w
 
         -- what the answer says of it
         unqueued-queues : (a : Answer) → a .withdrawn ≡ isWithdrawn p e → a .event ≡ false
-            → ledger.Queues (engineOf stream n) (requestsOf stream n) s (withSlot s i (holding k) (applied (length c) p₁)) c a
+            → Queues (engineOf stream n) (requestsOf stream n) (queueingOf stream n) s
+            (withSlot s i (holding k) (applied (length c) p₁)) c a
         unqueued-queues a w v =
             let l = left-of in
             let count : p₁ .«request_count» ≡ p .«request_count» = withdraw-count p e in
@@ -216,11 +217,11 @@ module _ (stream : List ℕ) (n : ℕ) (s : EngineState) (g : Good stream n s) w
 
           requeued-queues : (a : Answer) → a .withdrawn ≡ isWithdrawn p e → a .event ≡ true
               → a .«ticks_low» ≡ r .ticks .low → a .«ticks_high» ≡ r .ticks .high
-              → ledger.Queues (engineOf stream n) (requestsOf stream n) s (withSlot s i (holding k) p₂) c a
+              → Queues (engineOf stream n) (requestsOf stream n) (queueingOf stream n) s (withSlot s i (holding k) p₂) c a
           requeued-queues a w v low high =
               let l = left-of in
               let next : ℕ → Request = λ index. record { clock = i; ticks = r .ticks; priority = priorityOf c; index = index } in
-              let after : ledger.queueAfter (engineOf stream n) (requestsOf stream n) s c a ≡ keepIf (notFor i) q ++
+              let after : queueAfter (engineOf stream n) (requestsOf stream n) (queueingOf stream n) s c a ≡ keepIf (notFor i) q ++
               (next (p .«request_count») ∷ []) =
               rw (w, v, low, high, l .answered) in
               record {

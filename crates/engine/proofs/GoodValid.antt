@@ -8,15 +8,15 @@ use borrow.Author.Tests.{lt-ltb, le-leb, eq-eqb}
 use lib.ListN.{getD, replicate}
 use Rattle.hazards.specs.Lists.{all}
 use Rattle.hazards.specs.Draws.{streamLength}
-use Rattle.clocks.specs.Sound.{Each, none, next}
+use Rattle.clocks.proofs.Sound.{Each, none, next}
 use Rattle.clocks.proofs.Cases.{either-way}
 use Rattle.clocks.proofs.SoundValid.{sound-valid}
 use Rattle.engine.specs.State.{emptySlot, openedState, slotAt}
 use Rattle.engine.specs.Validation.{validSlot, validRequest, distinct, validQueue, validProgress, validState}
-use Rattle.engine.specs.Good.{SoundSlot, GoodRequest, Good}
 use Rattle.engine.specs.declared.state.ClockSlot.{ClockSlot}
 use Rattle.engine.specs.declared.state.Request.{Request}
 use Rattle.engine.specs.declared.state.EngineState.{EngineState}
+use Rattle.engine.proofs.Good.{SoundSlot, GoodRequest, Good}
 
 -- ---- opening
 

@@ -14,8 +14,9 @@ use borrow.Author.Tests.{eqb-true, eqb-false, eq-eqb, ne-eqb}
 use Rattle.clocks.specs.declared.ticks.Ticks.{Ticks}
 use Rattle.engine.specs.Queue.{nextRequest, keepIf, countFor}
 use Rattle.engine.specs.Ledger.{Row, Ledger, emptyLedger, nextPending, withdrawnRow, requestedRow, deliveredRow, recordWithdrawal}
-use Rattle.engine.specs.Ledger.{recordRequest, recordDelivery, notFor}
+use Rattle.engine.specs.Ledger.{recordRequest, recordDelivery}
 use Rattle.engine.specs.declared.state.Request.{Request}
+use Rattle.engine.proofs.RequestLists.{notFor}
 use Rattle.engine.proofs.RequestLists.{In, isFor, notAt, keep-cons-true, keep-cons-false, in-keep, keep-in, keep-comm, keep-append}
 use Rattle.engine.proofs.RequestLists.{keep-all, keep-sat, in-append, length-nil, none-left, others-left, not-at-same, not-at-other}
 use Rattle.engine.proofs.Picks.{Best, best-map, best-same, next-best, PendingBelow, pending-best}

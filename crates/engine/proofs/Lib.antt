@@ -4,15 +4,18 @@ pub mod Applied
 pub mod Asking
 pub mod Balance
 pub mod CommandLaws
+pub mod CommandLists
 pub mod ComparisonLaws
 pub mod Computed
 pub mod Conjunctions
 pub mod Demand3
+pub mod DemandHalves
 pub mod DistinctIndices
 pub mod EngineLaws
 pub mod EveryPlace
 pub mod ExecuteLaws
 pub mod ExecutionCases
+pub mod Good
 pub mod GoodDeliveries
 pub mod GoodKept
 pub mod GoodQueues
@@ -46,5 +49,6 @@ pub mod RunStops
 pub mod RunTurns
 pub mod RunUndos
 pub mod SlotLaws
+pub mod Supplied
 pub mod ValidationLaws
 pub mod Worked

@@ -17,16 +17,17 @@ use Rattle.engine.specs.Commands as commands
 use Rattle.engine.specs.Commands.{widthOf}
 use Rattle.engine.specs.Queue.{nextRequest}
 use Rattle.engine.specs.State.{slotAt, queuedRequests}
-use Rattle.engine.specs.Journal.{Whole, code}
+use Rattle.engine.specs.Journal.{code}
 use Rattle.engine.specs.Execution.{OnSlot, done, clockOf, createFaults, setFaults, causeFaults}
 use Rattle.engine.specs.Execution.{rescheduleFaults, pauseFaults, performCreate, performSet, performRemove, performReschedule}
 use Rattle.engine.specs.Execution.{performPause, performResume, performOn, target}
 use Rattle.engine.specs.Instance.{engineOf}
-use Rattle.engine.specs.Good.{Good}
 use Rattle.engine.specs.declared.state.ClockSlot.{ClockSlot}
 use Rattle.engine.specs.declared.state.Progress.{Progress}
 use Rattle.engine.specs.declared.state.Request.{Request}
 use Rattle.engine.specs.declared.state.EngineState.{EngineState}
+use Rattle.engine.proofs.Good.{Good}
+use Rattle.engine.proofs.CommandLists.{Whole}
 use Rattle.engine.proofs.RequestLists.{In}
 use Rattle.engine.proofs.Picks.{Best, next-best}
 use Rattle.engine.proofs.AcceptedFields.{create-accepted, set-accepted, cause-accepted, reschedule-accepted, pause-accepted}

@@ -15,7 +15,7 @@ use mir.Facts.{toZ-ofZ}
 use mir.Syntax.{w32}
 use mir.Val.{toZ, ofZ, hbits}
 use borrow.Author.Tests.{ltb-true, ltb-false, lt-ltb, le-ltb, eq-eqb, ne-eqb}
-use Rattle.engine.specs.Queue.{ticksOf, comesFirst, earlierOf, nextRequest, keepIf, without, isThere}
+use Rattle.engine.specs.Queue.{requestTicks, comesFirst, earlierOf, nextRequest, keepIf, without, isThere}
 use Rattle.engine.specs.State.{emptyRequest, queuedRequests, withQueue}
 use Rattle.engine.specs.QueueCode.{pickOf}
 use Rattle.engine.specs.declared.queue.Pick.{Pick}
@@ -47,16 +47,16 @@ compared y z f g h = ap₂ ltZ (reads-back y f) (reads-back z g) ∙ h
 
 -- ---- which of two comes first
 module _ (a b : Request) where
-  pub fewer-first : ltb (ticksOf a) (ticksOf b) ≡ true → comesFirst a b ≡ true
+  pub fewer-first : ltb (requestTicks a) (requestTicks b) ≡ true → comesFirst a b ≡ true
   unfolding comesFirst
   fewer-first t = rw t
 
-  module _ (t : ltb (ticksOf a) (ticksOf b) ≡ false) where
-    pub more-later : ltb (ticksOf b) (ticksOf a) ≡ true → comesFirst a b ≡ false
+  module _ (t : ltb (requestTicks a) (requestTicks b) ≡ false) where
+    pub more-later : ltb (requestTicks b) (requestTicks a) ≡ true → comesFirst a b ≡ false
     unfolding comesFirst
     more-later u = rw (t, u)
 
-    module _ (u : ltb (ticksOf b) (ticksOf a) ≡ false) where
+    module _ (u : ltb (requestTicks b) (requestTicks a) ≡ false) where
       pub lower-first : ltZ (a .priority) (b .priority) ≡ true → comesFirst a b ≡ true
       unfolding comesFirst
       lower-first p = rw (t, u, p)

@@ -10,13 +10,13 @@ use lib.Seq.{length-take-le, take-append-seam, take-suc-set}
 use Rattle.clocks.specs.declared.clocks.ScheduledEvent.{ScheduledEvent}
 use Rattle.clocks.proofs.Cases.{either-way}
 use Rattle.engine.specs.Queue.{keepIf, without, countFor}
-use Rattle.engine.specs.Ledger.{notFor}
 use Rattle.engine.specs.State.{emptyRequest, queuedRequests, withQueue, withRequest}
 use Rattle.engine.specs.Execution.{isWithdrawn, withdraw}
-use Rattle.engine.specs.Good.{namesRequest, GoodQueue}
 use Rattle.engine.specs.declared.state.ClockSlot.{ClockSlot}
 use Rattle.engine.specs.declared.state.Progress.{Progress}
 use Rattle.engine.specs.declared.state.Request.{Request}
+use Rattle.engine.proofs.RequestLists.{notFor}
+use Rattle.engine.proofs.Good.{namesRequest, GoodQueue}
 use Rattle.engine.proofs.RequestCounts.{OneFor, one-for, none-for, keep-short}
 use Rattle.engine.proofs.DistinctIndices.{in-there}
 use Rattle.engine.proofs.GoodQueues.{request-of, without-one, at-most-16, unnamed-none}

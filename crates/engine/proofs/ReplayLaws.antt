@@ -17,13 +17,12 @@ use Rattle.clocks.proofs.Cases.{either-way}
 use Rattle.engine.specs.Commands as commands
 use Rattle.engine.specs.Commands.{widthOf}
 use Rattle.engine.specs.State.{slotAt, withSlot, emptySlot, openedState}
-use Rattle.engine.specs.Journal.{Bytes, Engine, rejected, performed, apply, code, cut, classify, Whole, commandAt, widthAfter}
+use Rattle.engine.specs.Journal.{Bytes, Engine, rejected, performed, apply, code, cut, classify, commandAt, widthAfter}
 use Rattle.engine.specs.Journal.{Replayed, fails, ends, replayFrom, replayAll}
 use Rattle.engine.specs.Execution.{OnSlot, refused, done, performOn, target, perform}
 use Rattle.engine.specs.ExecutionCode.{onSlotOf}
 use Rattle.engine.specs.Validation.{validState}
 use Rattle.engine.specs.Instance.{engineOf}
-use Rattle.engine.specs.Good.{Good}
 use Rattle.engine.specs.ReplayCode.{wholeWidth, noFront, frontCommand, replayedOf}
 use Rattle.engine.specs.declared.replay.FrontCommand.{FrontCommand}
 use Rattle.engine.specs.declared.replay.Replay.{Replay}
@@ -31,6 +30,8 @@ use Rattle.engine.specs.declared.execution.SlotOutcome.{SlotOutcome}
 use Rattle.engine.specs.declared.state.ClockSlot.{ClockSlot}
 use Rattle.engine.specs.declared.state.Progress.{Progress}
 use Rattle.engine.specs.declared.state.EngineState.{EngineState}
+use Rattle.engine.proofs.Good.{Good}
+use Rattle.engine.proofs.CommandLists.{Whole}
 use Rattle.engine.proofs.Asking.{asks-no-command, asks-part, asks-undo, asks-command, replay-fails, replay-turn}
 use Rattle.engine.proofs.Replays.{cut-whole, replay-end}
 use Rattle.engine.proofs.JournalBytes.{restOf, partOf, part-all, part-of}

@@ -6,7 +6,7 @@ use mathlib.Core.List.{[], _∷_}
 use mathlib.Core.Option.{Option, none, some}
 use lib.ListN.{length, drop, length-drop, drop-of-length-le}
 use lib.Seq.{length-take-le, drop-drop}
-use Rattle.engine.specs.Journal.{Bytes, Performed, rejected, performed, Engine, Asked, reject, revert, apply, code}
+use Rattle.engine.specs.Journal.{Bytes, Performed, rejected, performed, Engine, Asked, reject, undoLast, apply, code}
 use Rattle.engine.specs.Journal.{cut, classify, widthAfter, commandAt, Replayed, fails, ends, replayFrom, replayAll}
 use Rattle.engine.proofs.Replays.{Asks, asks, replay-end}
 
@@ -54,7 +54,7 @@ module _ (E : Engine) where
 
       by-ask : (q : Asked) → classify E s (b ∷ bs) ≡ q → Goes (commandAt E s q) → Front s at (b ∷ bs) (ends t prior l)
       by-ask (reject m) w e = absurd (fails-ends t prior l e)
-      by-ask revert w e = absurd (fails-ends t prior l e)
+      by-ask undoLast w e = absurd (fails-ends t prior l e)
       by-ask (apply c) w e = by-did c (asks E s (b ∷ bs) c w) (E .perform s c) e
 
   -- what is left of a replay at the place `at`, after the command at the place `last`

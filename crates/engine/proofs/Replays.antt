@@ -14,15 +14,16 @@ use borrow.Author.Tests.{ltb-true, leb-true, eqb-false, lt-ltb, le-leb, ne-eqb}
 use Rattle.hazards.specs.Refusals.{invalidState}
 use Rattle.engine.specs.Commands as commands
 use Rattle.engine.specs.Refusals.{cutShort, noCommand}
-use Rattle.engine.specs.Journal.{Bytes, Performed, rejected, performed, Engine, Asked, reject, revert, apply, code}
-use Rattle.engine.specs.Journal.{concat, init, cut, Whole, classify, stateOf, afterOne, thenOne, replay, widthAfter, commandAt}
-use Rattle.engine.specs.Journal.{ends, replayFrom, undo}
+use Rattle.engine.specs.Journal.{Bytes, Performed, rejected, performed, Engine, Asked, reject, undoLast, apply, code}
+use Rattle.engine.specs.Journal.{concat, init, cut, classify, widthAfter, commandAt}
+use Rattle.engine.specs.Journal.{ends, replayFrom}
+use Rattle.engine.proofs.CommandLists.{Whole, AllWhole, stateOf, afterOne, thenOne, replay}
 
 reject-apply : (n : ℕ) (c : Bytes) → reject n ≡ apply c → ⊥
 reject-apply n c e = let z : _≡_ {A = ℕ} 0 1 = cc in omega arith
 
-revert-apply : (c : Bytes) → revert ≡ apply c → ⊥
-revert-apply c e = let z : _≡_ {A = ℕ} 0 1 = cc in omega arith
+undo-last-apply : (c : Bytes) → undoLast ≡ apply c → ⊥
+undo-last-apply c e = let z : _≡_ {A = ℕ} 0 1 = cc in omega arith
 
 module _ (E : Engine) where
   -- the bytes i ask in s for the command c
@@ -41,14 +42,14 @@ module _ (E : Engine) where
     where
       go : (v : Bool) → E .valid s ≡ v → (l : Bool) → ltb 0 (length i) ≡ l → (w : Bool) → ltb 0 (E .width (code i)) ≡ w
           → (f : Bool) → leb (E .width (code i)) (length i) ≡ f → (u : Bool) → eqb (code i) commands.undo ≡ u
-          → cond v (cond l (cond w (cond f (cond u revert (apply (cut E i))) (reject cutShort)) (reject noCommand)) (reject cutShort))
+          → cond v (cond l (cond w (cond f (cond u undoLast (apply (cut E i))) (reject cutShort)) (reject noCommand)) (reject cutShort))
           (reject invalidState) ≡ apply c
           → Asks s i c
       go false ev l el w ew f ef u eu e = absurd (reject-apply invalidState c e)
       go true ev false el w ew f ef u eu e = absurd (reject-apply cutShort c e)
       go true ev true el false ew f ef u eu e = absurd (reject-apply noCommand c e)
       go true ev true el true ew false ef u eu e = absurd (reject-apply cutShort c e)
-      go true ev true el true ew true ef true eu e = absurd (revert-apply c e)
+      go true ev true el true ew true ef true eu e = absurd (undo-last-apply c e)
       go true ev true el true ew true ef false eu e =
           record {
             ok = ev;
@@ -87,15 +88,11 @@ module _ (E : Engine) where
         cut-self c w,
       )
 
-  abbrev pub AllWhole : List Bytes → Type 0
-  AllWhole [] = Unit {0}
-  AllWhole (c ∷ cs) = Whole E c × AllWhole cs
-
-  pub all-append : (cs ds : List Bytes) → AllWhole cs → AllWhole ds → AllWhole (cs ++ ds)
+  pub all-append : (cs ds : List Bytes) → AllWhole E cs → AllWhole E ds → AllWhole E (cs ++ ds)
   all-append [] ds h k = k
   all-append (c ∷ cs) ds h k = (h .0, all-append cs ds (h .1) k)
 
-  pub all-init : (cs : List Bytes) → AllWhole cs → AllWhole (init cs)
+  pub all-init : (cs : List Bytes) → AllWhole E cs → AllWhole E (init cs)
   all-init [] h = tt
   all-init (c ∷ []) h = tt
   all-init (c ∷ d ∷ cs) h = (h .0, all-init (d ∷ cs) (h .1))
@@ -138,7 +135,7 @@ module _ (E : Engine) where
 
       by-ask : (k : Asked) → classify E s c ≡ k → replay E (afterOne E s k) cs ≡ some v → First s c cs v
       by-ask (reject m) q e = absurd (none-some v (sym (replay-none cs) ∙ e))
-      by-ask revert q e = absurd (none-some v (sym (replay-none cs) ∙ e))
+      by-ask undoLast q e = absurd (none-some v (sym (replay-none cs) ∙ e))
       by-ask (apply d) q e =
           let ed : c ≡ d = sym (cut-self c w) ∙ cc (asks s c d q .cutting) in
           by-did (E .perform s c) (q ∙ ap apply (sym ed)) refl
@@ -190,7 +187,7 @@ module _ (E : Engine) where
 
   pub replays-to : (k : ℕ) (s before : E .State) (last at : ℕ) (cs : List Bytes) (v : E .State) → length (concat cs) ≤ k
       → 0 < length (concat cs)
-      → AllWhole cs → replay E (some s) cs ≡ some v → ReplaysTo k s before last at cs v
+      → AllWhole E cs → replay E (some s) cs ≡ some v → ReplaysTo k s before last at cs v
   unfolding replay replayFrom
   replays-to k s before last at [] v l p h e = absurd (not-suc-le-zero p)
   replays-to zero s before last at (c ∷ cs) v l p h e = absurd (omega arith)

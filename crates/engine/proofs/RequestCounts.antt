@@ -9,12 +9,11 @@ use native.Mathlib.Omega.{arith}
 use borrow.Author.Tests.{eqb-true, eqb-false, eq-eqb}
 use lib.Dec.{eqb}
 use lib.ListN.{length}
-use Rattle.clocks.specs.Sound.{Each, none, next}
 use Rattle.engine.specs.Queue.{keepIf, countFor}
-use Rattle.engine.specs.Ledger.{notFor}
 use Rattle.engine.specs.declared.state.Request.{Request}
 use Rattle.engine.proofs.RequestLists.{In, isFor, in-keep, keep-in, keep-sat, keep-all, not-for-same, not-for-other, none-left}
-use Rattle.engine.proofs.RequestLists.{others-left}
+use Rattle.engine.proofs.RequestLists.{others-left, notFor}
+use Rattle.clocks.proofs.Sound.{Each, none, next}
 
 -- ---- a claim on each
 

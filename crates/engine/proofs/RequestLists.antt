@@ -9,7 +9,6 @@ use lib.Dec.{eqb}
 use lib.ListN.{length}
 use borrow.Author.Tests.{eqb-true, eq-eqb, ne-eqb}
 use Rattle.engine.specs.Queue.{keepIf}
-use Rattle.engine.specs.Ledger.{notFor}
 use Rattle.engine.specs.declared.state.Request.{Request}
 
 -- x is one of these
@@ -17,9 +16,12 @@ abbrev pub In : Request → List Request → Type 0
 In x [] = ⊥
 In x (y ∷ ys) = (x ≡ y) ⊎ In x ys
 
--- a request for a clock, and one with another index than the given
+-- a request for a clock, one for another, and one with another index than the given
 abbrev pub isFor : ℕ → Request → Bool
 isFor k r = eqb (r .clock) k
+
+abbrev pub notFor : ℕ → Request → Bool
+notFor k r = not (eqb (r .clock) k)
 
 abbrev pub notAt : ℕ → Request → Bool
 notAt i r = not (eqb (r .index) i)

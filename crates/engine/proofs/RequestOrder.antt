@@ -7,7 +7,7 @@ use borrow.Author.Tests.{ltb-true, ltb-false, le-ltb}
 use lib.Dec.{ltb}
 use lib.IntN.{ℤ, pos, negsuc}
 use lib.Signed.{ltZ}
-use Rattle.engine.specs.Queue.{ticksOf, comesFirst}
+use Rattle.engine.specs.Queue.{requestTicks, comesFirst}
 use Rattle.engine.specs.declared.state.Request.{Request}
 
 -- what the laws below say of a test of two
@@ -100,8 +100,9 @@ module _ {A : Type 0} (f g : A → A → Bool) where
 ordered : Ordered comesFirst
 unfolding comesFirst
 ordered =
-    by-both (λ a b. ltb (ticksOf a) (ticksOf b)) (thenBy (λ a b. ltZ (a .priority) (b .priority)) (λ a b. ltb (a .index) (b .index)))
-    (by-number ticksOf)
+    by-both (λ a b. ltb (requestTicks a) (requestTicks b))
+    (thenBy (λ a b. ltZ (a .priority) (b .priority)) (λ a b. ltb (a .index) (b .index)))
+    (by-number requestTicks)
     (by-both (λ a b. ltZ (a .priority) (b .priority)) (λ a b. ltb (a .index) (b .index)) (by-integer (λ r. r .priority))
     (by-number (λ r. r .index)))
 
@@ -128,7 +129,7 @@ not-after-trans a b c e f = ordered .trans a b c e f
 pub one-index : (a b : Request) → NotAfter a b → NotAfter b a → a .index ≡ b .index
 unfolding comesFirst
 one-index a b e f =
-    let byTicks : Request → Request → Bool = λ a b. ltb (ticksOf a) (ticksOf b) in
+    let byTicks : Request → Request → Bool = λ a b. ltb (requestTicks a) (requestTicks b) in
     let byPriority : Request → Request → Bool = λ a b. ltZ (a .priority) (b .priority) in
     let byIndex : Request → Request → Bool = λ a b. ltb (a .index) (b .index) in
     let l = later byTicks (thenBy byPriority byIndex) b a e in

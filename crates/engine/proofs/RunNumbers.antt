@@ -23,12 +23,12 @@ use Rattle.engine.specs.Refusals.{nothingApplied, replayFails, journalFu
 use Rattle.engine.specs.Journal.{Bytes, Performed, rejected, performed, Replayed, fails, ends}
 use Rattle.engine.specs.Journal.{Outcome, reverted, cleared, undo, replayAll, revertTo, unchanged}
 use Rattle.engine.specs.Instance.{engineOf}
-use Rattle.engine.specs.ExecuteCode.{answerOf}
 use Rattle.engine.specs.Execution.{OnSlot, refused, done, byteAt, unlessFull, unlessFaulty, afterSet, settingOf}
 use Rattle.engine.specs.Execution.{createFaults, setFaults, causeFaults, rescheduleFaults, pauseFaults}
 use Rattle.engine.specs.Execution.{performCreate, performSet, performRemove, performReschedule, performPause, performResume}
 use Rattle.engine.specs.Execution.{delivered, performDeliver, performOn, target, stored, perform}
 use Rattle.engine.specs.Run.{endsRun}
+use Rattle.engine.specs.Answers.{answerOf}
 use Rattle.engine.specs.declared.state.ClockSlot.{ClockSlot}
 use Rattle.engine.specs.declared.state.Progress.{Progress}
 use Rattle.engine.specs.declared.state.Request.{Request}

@@ -15,7 +15,8 @@ use Rattle.engine.specs.State.{slotAt, withSlot}
 use Rattle.engine.specs.Journal.{Bytes, code, undo}
 use Rattle.engine.specs.Execution.{performOn, target}
 use Rattle.engine.specs.ExecutionCode.{onSlotOf}
-use Rattle.engine.specs.ExecuteCode.{after, left, onlyNumber}
+use Rattle.engine.specs.ExecuteCode.{left}
+use Rattle.engine.specs.Answers.{after}
 use Rattle.engine.specs.Instance.{engineOf}
 use Rattle.engine.specs.Run.{Ran}
 use Rattle.engine.specs.RunCode.{answeredBy, answerAt, isReverted, bothAnswered}
@@ -23,6 +24,7 @@ use Rattle.engine.specs.declared.execution.SlotOutcome.{SlotOutcome}
 use Rattle.engine.specs.declared.state.ClockSlot.{ClockSlot}
 use Rattle.engine.specs.declared.state.EngineState.{EngineState}
 use Rattle.engine.proofs.Conjunctions.{both-true}
+use Rattle.engine.proofs.ExecuteLaws.{onlyNumber}
 use Rattle.engine.proofs.JournalBytes.{restOf, partOf, part-all}
 use Rattle.engine.proofs.RunAnswers.{answer-length, answer-copied}
 use Rattle.engine.proofs.RunStates.{reached-back}

@@ -11,9 +11,9 @@ use Rattle.engine.specs.State.{openedState}
 use Rattle.engine.specs.Journal.{Bytes, Engine, Outcome, reverted, answered, concat, init, ends, replayAll, cleared, undo, execute}
 use Rattle.engine.specs.Sessions.{Session, appliedAfter, feed, feedAll, newSession}
 use Rattle.engine.specs.Instance.{engineOf}
-use Rattle.engine.specs.Good.{Good}
 use Rattle.hazards.specs.declared.answers.Answer.{Answer}
 use Rattle.engine.specs.declared.state.EngineState.{EngineState}
+use Rattle.engine.proofs.Good.{Good}
 use Rattle.engine.proofs.Applied.{Inv, inv-open, inv-all, AppliedReplay, applied-replay, rest-counted, nothing-applied, reverts, taken-back}
 use Rattle.engine.proofs.ComparisonLaws.{state-same}
 use Rattle.engine.proofs.Reached.{good-replay}

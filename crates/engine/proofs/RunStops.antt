@@ -1,6 +1,6 @@
 -- What ends a batch run before an input is executed: 17, or the 2 or 3 that the input is refused by; and the result that it writes.
 use mathlib.Core.Path.{_≡_, refl, sym, _∙_, ap, subst}
-use mathlib.Core.Bool.{Bool, true, false, cond}
+use mathlib.Core.Bool.{Bool, true, cond}
 use mathlib.Core.List.{_++_, append-nil}
 use Prim.Native.Nat.{ℕ, _+_, _*_, _<_, _≤_}
 use native.Mathlib.Omega.{arith}
@@ -15,8 +15,7 @@ use Rattle.clocks.proofs.Cases.{either-way}
 use Rattle.engine.specs.Commands.{widthOf}
 use Rattle.engine.specs.Refusals.{noCommand, cutShort, answersFull}
 use Rattle.engine.specs.Journal.{Bytes, code}
-use Rattle.engine.specs.Run.{endNumber}
-use Rattle.engine.specs.RunCode.{Stop, stop, stopAt}
+use Rattle.engine.specs.RunCode.{Stop, stop, stopAt, endNumber}
 
 -- ---- the refusal of an input that ends a run, by the tests on the input
 

@@ -16,20 +16,22 @@ use Rattle.engine.specs.Commands as commands
 use Rattle.engine.specs.Commands.{widthOf}
 use Rattle.engine.specs.Refusals.{noCommand, cutShort, answersFull}
 use Rattle.engine.specs.State.{openedState, slotAt, withSlot}
-use Rattle.engine.specs.Journal.{Bytes, Engine, Performed, Outcome, Whole, code, cut, reject, apply, classify, rejected, performed}
+use Rattle.engine.specs.Journal.{Bytes, Engine, Performed, Outcome, code, cut, reject, apply, classify, rejected, performed}
 use Rattle.engine.specs.Journal.{unchanged, answered, undo, execute}
 use Rattle.engine.specs.Instance.{engineOf}
-use Rattle.engine.specs.Good.{Good}
 use Rattle.engine.specs.Validation.{validState}
 use Rattle.engine.specs.ExecutionCode.{onSlotOf}
-use Rattle.engine.specs.ExecuteCode.{After, after, left, answerOf}
+use Rattle.engine.specs.ExecuteCode.{left}
 use Rattle.engine.specs.Execution.{performOn, target, perform}
-use Rattle.engine.specs.Run.{Ran, ran, finished, endsRun, endNumber, executed, runFrom}
-use Rattle.engine.specs.RunCode.{Stop, stop, stopAt, Answered, answeredBy, answerAt, openedRun}
+use Rattle.engine.specs.Run.{Ran, finished, endsRun, executed, runFrom}
+use Rattle.engine.specs.RunCode.{Stop, stop, stopAt, Answered, answeredBy, answerAt, openedRun, endNumber, ran}
+use Rattle.engine.specs.Answers.{AfterInput, after, answerOf}
 use Rattle.engine.specs.declared.execute.Executed.{Executed}
 use Rattle.engine.specs.declared.execution.SlotOutcome.{SlotOutcome}
 use Rattle.engine.specs.declared.state.ClockSlot.{ClockSlot}
 use Rattle.engine.specs.declared.state.EngineState.{EngineState}
+use Rattle.engine.proofs.Good.{Good}
+use Rattle.engine.proofs.CommandLists.{Whole}
 use Rattle.engine.proofs.Asking.{asks-no-command, asks-part, asks-undo, asks-command}
 use Rattle.engine.proofs.Asking.{execute-rejects, execute-undo, execute-refused, execute-performs}
 use Rattle.engine.proofs.GoodValid.{good-valid}
@@ -51,15 +53,15 @@ module _ (stream : Bytes) (s : EngineState) (j answers : Bytes) (count read : �
   abbrev now : Ran
   now = runFrom (suc turns) stream s j answers count read i
 
-  abbrev ending : After → Ran
+  abbrev ending : AfterInput → Ran
   ending o = finished (o .answer .number) (o .journal) (withAnswer answers place (o .answer)) (count + 1) read
 
-  abbrev going : After → Ran
+  abbrev going : AfterInput → Ran
   going o =
       runFrom turns stream (o .state) (o .journal) (withAnswer answers place (o .answer)) (count + 1) (read + widthOf (code i))
       (drop (widthOf (code i)) i)
 
-  abbrev afterInput : Bool → After → Ran
+  abbrev afterInput : Bool → AfterInput → Ran
   afterInput b o = cond b (ending o) (going o)
 
   abbrev byRoom : Bool → Ran
@@ -84,12 +86,12 @@ module _ (stream : Bytes) (s : EngineState) (j answers : Bytes) (count read : �
   pub run-full : length answers < place + answerWidth → now ≡ finished answersFull j answers count read
   run-full l = turn ∙ ap byRoom (lt-leb (place + answerWidth) (length answers) l)
 
-  module _ (l : place + answerWidth ≤ length answers) (o : After) (e : executed stream s j i ≡ o) where
+  module _ (l : place + answerWidth ≤ length answers) (o : AfterInput) (e : executed stream s j i ≡ o) where
     on : now ≡ afterInput (endsRun (o .answer .number)) o
     on =
         turn
         ∙ ap byRoom (le-leb (place + answerWidth) (length answers) l)
-        ∙ ap (λ (x : After). afterInput (endsRun (x .answer .number)) x) e
+        ∙ ap (λ (x : AfterInput). afterInput (endsRun (x .answer .number)) x) e
 
     pub run-ends : endsRun (o .answer .number) ≡ true → now ≡ ending o
     run-ends t = on ∙ ap (λ (b : Bool). afterInput b o) t
@@ -281,14 +283,14 @@ module _ (bytes stream : Bytes) (n size : ℕ) (all : Ran) where
     next-undo u y {k} {written} e q lk lw =
         let f : left y k ≡ after stream n (undo E s j) =
         e ∙ ap (λ (m : ℕ). after stream m (undo (engineOf stream m) s j)) (r .same-journal) in
-        let ek : k ≡ undo E s j .journal = ap (λ (a : After). a .journal) f in
-        let ea : y .answer ≡ answerOf (undo E s j .reply) = ap (λ (a : After). a .answer) f in
+        let ek : k ≡ undo E s j .journal = ap (λ (a : AfterInput). a .journal) f in
+        let ea : y .answer ≡ answerOf (undo E s j .reply) = ap (λ (a : AfterInput). a .answer) f in
         let h =
         turned (undo E s j) (execute-undo E s j i (asks-undo E s i (valid r) i-pos (x .wide) (x .long) u)) (undo-goes stream n s j)
         (q ∙ ap (withAnswer answers (32 * count)) ea) (ap length (sym ek) ∙ lk) lw in
         subst (λ (b : Bytes). Running b written result (y .state) (count + 1) (at + w)) (sym ek)
         (subst (λ (t : EngineState). Running (undo E s j .journal) written result t (count + 1) (at + w))
-        (sym (ap (λ (a : After). a .state) f)) h)
+        (sym (ap (λ (a : AfterInput). a .state) f)) h)
 
     -- a command but UNDO, on the slot of its clock
     module _ (u : code i ≡ commands.undo → ⊥) (o : SlotOutcome) (t : ℕ) (named : t ≡ target (s .progress) (partOf bytes at w))

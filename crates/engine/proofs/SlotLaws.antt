@@ -7,15 +7,16 @@ use lib.ListN.{length, List·getD-eq-default}
 use lib.Seq.{set-set, set-getD}
 use Rattle.hazards.specs.declared.answers.Answer.{Answer}
 use Rattle.engine.specs.State.{emptySlot, slotAt, withSlot}
-use Rattle.engine.specs.Journal.{Whole, rejected, performed}
+use Rattle.engine.specs.Journal.{rejected, performed}
 use Rattle.engine.specs.Execution.{OnSlot, refused, done, performOn, target, stored, perform}
 use Rattle.engine.specs.ExecutionCode.{onSlotOf}
 use Rattle.engine.specs.Instance.{engineOf}
-use Rattle.engine.specs.Good.{Good}
 use Rattle.engine.specs.declared.execution.SlotOutcome.{SlotOutcome}
 use Rattle.engine.specs.declared.state.ClockSlot.{ClockSlot}
 use Rattle.engine.specs.declared.state.Progress.{Progress}
 use Rattle.engine.specs.declared.state.EngineState.{EngineState}
+use Rattle.engine.proofs.Good.{Good}
+use Rattle.engine.proofs.CommandLists.{Whole}
 use Rattle.engine.proofs.PerformedWays.{performed-way}
 use Rattle.engine.proofs.PerformedTargets.{target-below}
 

@@ -11,16 +11,16 @@ use Rattle.engine.specs.Sessions.{Session, feed, newSession}
 use Rattle.engine.specs.Instance.{engineOf}
 use Rattle.engine.specs.Demand3 as demand
 use Rattle.engine.specs.Rows as rows
-use Rattle.engine.specs.Rows.{two, stream, set, censorAt, undo, channelIn}
+use Rattle.engine.specs.Rows.{two, stream, setBytes, censorAt, undoBytes, channelIn}
 use Rattle.engine.proofs.Computed.{computed}
 
 -- CREATE of a clock, Restart, scale 1.0
 abbrev create : ℕ → Bytes
-create clock = rows.create clock 0 one
+create clock = rows.createBytes clock 0 one
 
 -- RESCHEDULE of clock 0 at 0, censored at 1.0
 abbrev reschedule : Bytes
-reschedule = rows.reschedule z (censorAt one)
+reschedule = rows.rescheduleBytes z (censorAt one)
 
 abbrev deliver : Bytes
 deliver = commands.deliver ∷ []
@@ -29,16 +29,16 @@ deliver = commands.deliver ∷ []
 -- after DELIVER
 abbrev inputs : List Bytes
 inputs =
-    undo
+    undoBytes
     ∷ []
     ∷ (0x09 ∷ [])
     ∷ create 0
     ∷ create 0
-    ∷ set z
-    ∷ undo
-    ∷ set z
+    ∷ setBytes z
+    ∷ undoBytes
+    ∷ setBytes z
     ∷ reschedule
-    ∷ undo
+    ∷ undoBytes
     ∷ (0x04 ∷ 0 ∷ [])
     ∷ (reschedule ++ (0xff ∷ []))
     ∷ reschedule
@@ -61,12 +61,12 @@ numbers u [] = []
 numbers u (i ∷ is) = numberIn (execute engine (u .state) (u .journal) i .reply) ∷ numbers (feed engine u i) is
 
 abbrev end : Session engine
-end = demand.after stream 236 inputs
+end = demand.sessionAfter stream 236 inputs
 
 -- the numbers, what is applied, the threshold 2.0 drawn again by the second SET, and the ledger
 pub worked : (numbers (newSession engine 236) inputs ≡ 12 ∷ 3 ∷ 2 ∷ 0 ∷ 8 ∷ 0 ∷ 0 ∷ 0 ∷ 0 ∷ 0 ∷ 3 ∷ 0 ∷ 0 ∷ 0 ∷ 11 ∷ 14 ∷ [])
-    × (end .applied ≡ create 0 ∷ set z ∷ reschedule ∷ reschedule ∷ deliver ∷ [])
-    × (end .journal ≡ create 0 ++ (set z ++ (reschedule ++ (reschedule ++ deliver))))
+    × (end .applied ≡ create 0 ∷ setBytes z ∷ reschedule ∷ reschedule ∷ deliver ∷ [])
+    × (end .journal ≡ create 0 ++ (setBytes z ++ (reschedule ++ (reschedule ++ deliver))))
     × (channelIn (end .state) .«target_threshold» ≡ two) × (end .state .progress .position ≡ 1)
     × (end .state .progress .«request_count» ≡ 2)
     × (demand.ledger stream 236 inputs .rows 0 .made ≡ 2) × (demand.ledger stream 236 inputs .rows 0 .withdrawn ≡ 1)

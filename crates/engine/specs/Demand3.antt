@@ -28,35 +28,37 @@ module _ (stream : List ℕ) (n : ℕ) (inputs : List Bytes) where
   opened = newSession (engineOf stream n) n
 
   -- the engine after the inputs
-  abbrev pub after : Session (engineOf stream n)
-  after = feedAll (engineOf stream n) opened inputs
+  abbrev pub sessionAfter : Session (engineOf stream n)
+  sessionAfter = feedAll (engineOf stream n) opened inputs
 
   -- a newly opened engine after the applied commands alone
   abbrev pub replayed : Session (engineOf stream n)
-  replayed = feedAll (engineOf stream n) opened (after .applied)
+  replayed = feedAll (engineOf stream n) opened (sessionAfter .applied)
 
   -- the ledger of the applied commands
   abbrev pub ledger : Ledger
-  ledger = ledgerOf (engineOf stream n) (requestsOf stream n) opened emptyLedger (after .applied)
+  ledger = ledgerOf (engineOf stream n) (requestsOf stream n) opened emptyLedger (sessionAfter .applied)
 
   -- how many requests for the clock k the engine's queue then holds
   abbrev pub queued : ℕ → ℕ
-  queued k = countFor k (queuedRequests (after .state .progress))
+  queued k = countFor k (queuedRequests (sessionAfter .state .progress))
 
   pub record Demand3 : Type 0 where
     -- every field of the state and every byte of the journal are those of a newly opened engine that is given only the applied commands,
     -- and accepts each
-    pub same-state : after .state ≡ replayed .state
-    pub same-journal : after .journal ≡ replayed .journal
-    pub accepts-each : AcceptsEach (engineOf stream n) opened (after .applied)
+    pub same-state : sessionAfter .state ≡ replayed .state
+    pub same-journal : sessionAfter .journal ≡ replayed .journal
+    pub accepts-each : AcceptsEach (engineOf stream n) opened (sessionAfter .applied)
     -- the journal keeps the length n of the engine, which the contract of `execute` reads off it; the part of it that `applied_commands`
     -- gives is the applied commands, one after another
-    pub journal-length : length (after .journal) ≡ n
-    pub applied-part : appliedPart (after .journal) (after .state .progress .«applied_length») ≡ concat (after .applied)
+    pub journal-length : length (sessionAfter .journal) ≡ n
+    pub applied-part : appliedPart (sessionAfter .journal) (sessionAfter .state .progress .«applied_length»)
+        ≡ concat (sessionAfter .applied)
     -- requests made = withdrawn + delivered + queued, for each clock, and at most one is queued
     pub balance : (k : ℕ) → ledger .rows k .made ≡ ledger .rows k .withdrawn + ledger .rows k .delivered + queued k
     pub at-most-one : (k : ℕ) → queued k ≤ 1
     -- beyond the demand: the state is never refused by 1, and UNDO is refused only by 12, where no command is applied
-    pub valid : validState stream n (after .state) ≡ true
-    pub undo : (rest : Bytes)
-        → execute (engineOf stream n) (after .state) (after .journal) (commands.undo ∷ rest) .reply ≡ undoReply (after .applied)
+    pub valid : validState stream n (sessionAfter .state) ≡ true
+    pub undo-reply : (rest : Bytes)
+        → execute (engineOf stream n) (sessionAfter .state) (sessionAfter .journal) (commands.undo ∷ rest) .reply
+        ≡ undoReply (sessionAfter .applied)

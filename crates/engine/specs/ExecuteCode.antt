@@ -1,12 +1,9 @@
--- Document 01, "Answer": the answer's fields for each reply, and what one input leaves; and one command on the slot of its clock.
-use mathlib.Core.List.{List}
+-- What the code's answers mean: what executing one input leaves, and one command on the slot of its clock.
 use Prim.Native.Nat.{ℕ, _≤_}
 use lib.ListN.{length}
 use lib.Seq.{paste}
-use Rattle.hazards.specs.Answers.{noEvent}
-use Rattle.hazards.specs.declared.answers.Answer.{Answer}
-use Rattle.engine.specs.Journal.{Bytes, Reply, refusal, reverted, answered, Outcome}
-use Rattle.engine.specs.Instance.{engineOf}
+use Rattle.engine.specs.Journal.{Bytes}
+use Rattle.engine.specs.Answers.{AfterInput}
 use Rattle.engine.specs.Execution.{OnSlot, refused, done, performOn}
 use Rattle.engine.specs.ExecutionCode.{onSlotOf, Countable}
 use Rattle.engine.specs.declared.execute.Executed.{Executed}
@@ -15,28 +12,9 @@ use Rattle.engine.specs.declared.state.ClockSlot.{ClockSlot}
 use Rattle.engine.specs.declared.state.Progress.{Progress}
 use Rattle.engine.specs.declared.state.EngineState.{EngineState}
 
--- a refusal has its number and zero elsewhere, an accepted UNDO is all zero
-abbrev pub answerOf : Reply Answer → Answer
-answerOf (refusal number) = noEvent number
-answerOf reverted = noEvent 0
-answerOf (answered a) = a
-
--- answer, state and journal after an input
-pub record After : Type 0 where
-  pub answer : Answer
-  pub state : EngineState
-  pub journal : Bytes
-
--- as the code leaves them
-abbrev pub left : Executed → Bytes → After
+-- what one input leaves, as the code returns it
+abbrev pub left : Executed → Bytes → AfterInput
 left r journal = record { answer = r .answer; state = r .state; journal = journal }
-
--- an answer that is a number and zero elsewhere, and the state
-abbrev pub onlyNumber : ℕ → EngineState → Executed
-onlyNumber number s = record { answer = noEvent number; state = s }
-
-abbrev pub after : (stream : List ℕ) (n : ℕ) → Outcome (engineOf stream n) → After
-after stream n o = record { answer = answerOf (o .reply); state = o .state; journal = o .journal }
 
 -- the outcome of a command on the slot of its clock, and the journal
 pub record Applied : Type 0 where

@@ -3,7 +3,7 @@ use mathlib.Core.List.{List, []}
 use Prim.Native.Nat.{ℕ}
 use Rattle.hazards.specs.declared.answers.Answer.{Answer}
 use Rattle.engine.specs.Commands.{widthOf}
-use Rattle.engine.specs.State.{openedState, queuedRequests}
+use Rattle.engine.specs.State.{openedState}
 use Rattle.engine.specs.Validation.{validState}
 use Rattle.engine.specs.Comparison.{sameState}
 use Rattle.engine.specs.Journal.{Bytes, Engine}
@@ -34,7 +34,5 @@ requestsOf stream n = record {
   priorityOf = priorityOf;
   event = λ a. a .event;
   withdrawn = λ a. a .withdrawn;
-  ticksOf = λ a. record { low = a .«ticks_low»; high = a .«ticks_high» };
-  queue = λ s. queuedRequests (s .progress);
-  counter = λ s. s .progress .«request_count»;
+  answerTicks = λ a. record { low = a .«ticks_low»; high = a .«ticks_high» };
 }

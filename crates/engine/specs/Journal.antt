@@ -1,7 +1,6 @@
 -- Document 01, "Journal and undo": what the bytes given to an engine ask for, the replay of the journal, UNDO, and the execution of one
 -- command (document 01: the command door), over any engine.
-use Prim.Native.Nat.{ℕ, zero, suc, _+_, _-_, _<_}
-use mathlib.Core.Path.{_≡_}
+use Prim.Native.Nat.{ℕ, zero, suc, _+_, _-_}
 use mathlib.Core.Bool.{Bool, cond}
 use mathlib.Core.List.{List, [], _∷_, _++_}
 use mathlib.Core.Option.{Option, none, some}
@@ -40,7 +39,7 @@ pub record Engine : Type 1 where
 -- what the bytes ask for: a refusal, UNDO, or a command cut to its width
 pub data Asked : Type 0 where
   reject : ℕ → Asked
-  revert : Asked
+  undoLast : Asked
   apply : Bytes → Asked
 
 -- the first byte
@@ -75,41 +74,16 @@ module _ (E : Engine) where
   abbrev pub cut : Bytes → Bytes
   cut i = take (E .width (code i)) i
 
-  -- a whole command but UNDO, cut to its width
-  pub record Whole (c : Bytes) : Type 0 where
-    pub len : length c ≡ E .width (code c)
-    pub pos : 0 < length c
-    pub other : code c ≡ commands.undo → ⊥
-
   -- refusals 1, 3, 2 and 3, in the table's order
   unfoldable pub classify : E .State → Bytes → Asked
   classify s i =
       cond (E .valid s)
       (cond (ltb 0 (length i))
       (cond (ltb 0 (E .width (code i)))
-      (cond (leb (E .width (code i)) (length i)) (cond (eqb (code i) commands.undo) revert (apply (cut i))) (reject cutShort))
+      (cond (leb (E .width (code i)) (length i)) (cond (eqb (code i) commands.undo) undoLast (apply (cut i))) (reject cutShort))
       (reject noCommand))
       (reject cutShort))
       (reject invalidState)
-
-  -- the state after one command, none where it is refused or is an UNDO
-  abbrev pub stateOf : Performed (E .State) (E .Answer) → Option (E .State)
-  stateOf (rejected n) = none
-  stateOf (performed s a) = some s
-
-  abbrev pub afterOne : E .State → Asked → Option (E .State)
-  afterOne s (reject n) = none
-  afterOne s revert = none
-  afterOne s (apply c) = stateOf (E .perform s c)
-
-  abbrev pub thenOne : Option (E .State) → Bytes → Option (E .State)
-  thenOne none c = none
-  thenOne (some s) c = afterOne s (classify s c)
-
-  -- the state after the commands, none where one is refused or is an UNDO
-  unfoldable pub replay : Option (E .State) → List Bytes → Option (E .State)
-  replay o [] = o
-  replay o (c ∷ cs) = replay (thenOne o c) cs
 
   -- zero over the journal's bytes from k up to e
   abbrev pub cleared : Bytes → ℕ → ℕ → Bytes
@@ -126,7 +100,7 @@ module _ (E : Engine) where
 
   abbrev pub commandAt : E .State → Asked → Option (E .State × ℕ)
   commandAt s (reject n) = none
-  commandAt s revert = none
+  commandAt s undoLast = none
   commandAt s (apply c) = widthAfter c (E .perform s c)
 
   -- the replay of the applied bytes: it fails where they hold an UNDO or one is refused; else the state after all, the state before the
@@ -168,7 +142,7 @@ module _ (E : Engine) where
 
   abbrev pub act : E .State → Bytes → Asked → Outcome
   act s j (reject n) = unchanged s j n
-  act s j revert = undo s j
+  act s j undoLast = undo s j
   act s j (apply c) = write s j c (E .perform s c)
 
   -- document 01: the command door

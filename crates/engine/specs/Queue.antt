@@ -8,14 +8,14 @@ use lib.Signed.{ltZ}
 use lib.ListN.{length}
 use Rattle.engine.specs.declared.state.Request.{Request}
 
-abbrev pub ticksOf : Request → ℕ
-ticksOf r = r .ticks .low + 2 ^ 64 * r .ticks .high
+abbrev pub requestTicks : Request → ℕ
+requestTicks r = r .ticks .low + 2 ^ 64 * r .ticks .high
 
 -- fewest ticks, then lower priority number, then lower index
 unfoldable pub comesFirst : Request → Request → Bool
 comesFirst a b =
-    cond (ltb (ticksOf a) (ticksOf b)) true
-    (cond (ltb (ticksOf b) (ticksOf a)) false
+    cond (ltb (requestTicks a) (requestTicks b)) true
+    (cond (ltb (requestTicks b) (requestTicks a)) false
     (cond (ltZ (a .priority) (b .priority)) true
     (cond (ltZ (b .priority) (a .priority)) false (ltb (a .index) (b .index)))))
 

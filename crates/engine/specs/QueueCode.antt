@@ -1,4 +1,4 @@
--- What the queue's answers in the code mean.
+-- What the code's answers mean: the request that the queue gives.
 use mathlib.Core.Bool.{cond}
 use mathlib.Core.Option.{Option, none, some}
 use Rattle.engine.specs.declared.queue.Pick.{Pick}

@@ -1,4 +1,4 @@
--- What the replay's answers in the code mean, and the whole command at the front of some bytes with its clock.
+-- What the code's answers mean: where a replay ends, and the whole command at the front of some bytes with its clock.
 use mathlib.Core.Bool.{cond}
 use mathlib.Core.List.{List}
 use Prim.Native.Nat.{ℕ}

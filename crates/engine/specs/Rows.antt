@@ -30,8 +30,8 @@ use Rattle.engine.specs.State.{slotAt, queuedRequests}
 use Rattle.engine.specs.Journal.{Bytes, execute}
 use Rattle.engine.specs.Sessions.{Session}
 use Rattle.engine.specs.Instance.{engineOf}
-use Rattle.engine.specs.ExecuteCode.{answerOf}
 use Rattle.engine.specs.Demand3 as demand
+use Rattle.engine.specs.Answers.{answerOf}
 use Rattle.engine.specs.declared.state.EngineState.{EngineState}
 
 -- ---- floats: fin false m e is m times 2^e, and negsuc 0 is -1
@@ -111,12 +111,12 @@ words low high = record { low = low; high = high }
 -- ---- rows 9 to 12: commands, of clock 0 but for CREATE
 
 -- CREATE clock u8, process u64, policy, tie, scale f64, has-entity, entity index u64, generation u32
-abbrev pub create : ℕ → ℕ → Float → Bytes
-create clock policy scale = (commands.create ∷ clock ∷ replicate 8 0) ++ ((policy ∷ 0 ∷ f64 scale) ++ replicate 13 0)
+abbrev pub createBytes : ℕ → ℕ → Float → Bytes
+createBytes clock policy scale = (commands.create ∷ clock ∷ replicate 8 0) ++ ((policy ∷ 0 ∷ f64 scale) ++ replicate 13 0)
 
 -- SET clock u8, cause u32, priority u32, kind, first f64, now f64, count u8, 8 pairs: cause 1, Constant 0.5
-abbrev pub set : Float → Bytes
-set now = (commands.set ∷ 0 ∷ bytesOf 4 1) ++ (replicate 4 0 ++ ((1 ∷ f64 half) ++ (f64 now ++ replicate 129 0)))
+abbrev pub setBytes : Float → Bytes
+setBytes now = (commands.set ∷ 0 ∷ bytesOf 4 1) ++ (replicate 4 0 ++ ((1 ∷ f64 half) ++ (f64 now ++ replicate 129 0)))
 
 -- has-censor, censor f64
 abbrev pub noCensor : Bytes
@@ -126,19 +126,19 @@ abbrev pub censorAt : Float → Bytes
 censorAt time = 1 ∷ f64 time
 
 -- RESCHEDULE clock u8, now f64, has-censor, censor f64, priority i32
-abbrev pub reschedule : Float → Bytes → Bytes
-reschedule now censor = (commands.reschedule ∷ 0 ∷ f64 now) ++ (censor ++ replicate 4 0)
+abbrev pub rescheduleBytes : Float → Bytes → Bytes
+rescheduleBytes now censor = (commands.reschedule ∷ 0 ∷ f64 now) ++ (censor ++ replicate 4 0)
 
 -- PAUSE clock u8, now f64
-abbrev pub pause : Float → Bytes
-pause now = commands.pause ∷ 0 ∷ f64 now
+abbrev pub pauseBytes : Float → Bytes
+pauseBytes now = commands.pause ∷ 0 ∷ f64 now
 
 -- RESUME, operands as RESCHEDULE
-abbrev pub resume : Float → Bytes
-resume now = (commands.resume ∷ 0 ∷ f64 now) ++ (noCensor ++ replicate 4 0)
+abbrev pub resumeBytes : Float → Bytes
+resumeBytes now = (commands.resume ∷ 0 ∷ f64 now) ++ (noCensor ++ replicate 4 0)
 
-abbrev pub undo : Bytes
-undo = commands.undo ∷ []
+abbrev pub undoBytes : Bytes
+undoBytes = commands.undo ∷ []
 
 -- ---- rows 9 to 12: the engine
 
@@ -151,13 +151,13 @@ abbrev pub journalLength : ℕ
 journalLength = 400
 
 -- a newly opened engine after inputs
-abbrev pub after : List Bytes → Session (engineOf stream journalLength)
-after inputs = demand.after stream journalLength inputs
+abbrev pub rowSession : List Bytes → Session (engineOf stream journalLength)
+rowSession inputs = demand.sessionAfter stream journalLength inputs
 
 -- its answer to one more
 abbrev pub answerTo : List Bytes → Bytes → Answer
 answerTo inputs i =
-    answerOf (execute (engineOf stream journalLength) (after inputs .state) (after inputs .journal) i .reply)
+    answerOf (execute (engineOf stream journalLength) (rowSession inputs .state) (rowSession inputs .journal) i .reply)
 
 abbrev pub ticksIn : Answer → Ticks
 ticksIn a = words (a .«ticks_low») (a .«ticks_high»)
@@ -167,24 +167,24 @@ abbrev pub channelIn : EngineState → HazardChannelState
 channelIn s = getD (slotAt s 0 .clock .channels) 0 emptyChannel
 
 -- the ticks of the queued requests
-abbrev pub queuedAfter : List Bytes → List Ticks
-queuedAfter inputs = map (λ r. r .ticks) (queuedRequests (after inputs .state .progress))
+abbrev pub queuedTicks : List Bytes → List Ticks
+queuedTicks inputs = map (λ r. r .ticks) (queuedRequests (rowSession inputs .state .progress))
 
 -- RetainResidual, scale 10; Constant 0.5 set at 0
 abbrev pub started : List Bytes
-started = create 0 1 ten ∷ set z ∷ []
+started = createBytes 0 1 ten ∷ setBytes z ∷ []
 
 abbrev pub rescheduled : List Bytes
-rescheduled = started ++ (reschedule z noCensor ∷ [])
+rescheduled = started ++ (rescheduleBytes z noCensor ∷ [])
 
 abbrev pub paused : List Bytes
-paused = rescheduled ++ (pause one ∷ [])
+paused = rescheduled ++ (pauseBytes one ∷ [])
 
 abbrev pub undone : List Bytes
-undone = paused ++ (resume three ∷ undo ∷ undo ∷ [])
+undone = paused ++ (resumeBytes three ∷ undoBytes ∷ undoBytes ∷ [])
 
-abbrev pub setAgain : List Bytes
-setAgain = rescheduled ++ (set four ∷ [])
+abbrev pub setLater : List Bytes
+setLater = rescheduled ++ (setBytes four ∷ [])
 
 -- 00 01 00 00, 01 00 00 00, 00 00 00 00 00 00 10 40, 28 and seven 00, eight 00
 abbrev pub rowNineBytes : Bytes
@@ -214,16 +214,16 @@ pub record TwelveRows : Type 0 where
   pub row-8 : (ticksOf half ≡ words 1 0) × (ticksOf twoAndHalf ≡ words 3 0) × (ticksOf belowHalf ≡ words 0 0)
       × (ticksOf (fin false 1 (pos 64)) ≡ words 0 1)
   -- Tape 2.0, 1.0; RetainResidual, scale 10; Constant 0.5 set at 0; RESCHEDULE at 0, no censor, cause 1: the answer's bytes
-  pub row-9 : answerBytes (answerTo started (reschedule z noCensor)) ≡ rowNineBytes
+  pub row-9 : answerBytes (answerTo started (rescheduleBytes z noCensor)) ≡ rowNineBytes
   -- Then PAUSE at 1: accumulated 0.5. RESUME at 3: delta 3.0, ticks 60. Two UNDOs: ticks 40 queued
-  pub row-10 : (channelIn (after paused .state) .«accumulated_hazard» ≡ half)
-      × (answerTo paused (resume three) .delta ≡ three)
-      × (ticksIn (answerTo paused (resume three)) ≡ words 60 0)
-      × (queuedAfter undone ≡ words 40 0 ∷ [])
+  pub row-10 : (channelIn (rowSession paused .state) .«accumulated_hazard» ≡ half)
+      × (answerTo paused (resumeBytes three) .delta ≡ three)
+      × (ticksIn (answerTo paused (resumeBytes three)) ≡ words 60 0)
+      × (queuedTicks undone ≡ words 40 0 ∷ [])
   -- Instead, SET the same cause at 4: 2.0 reaches 2.0, so 1.0 is drawn
-  pub row-11 : (settledHazard (channelIn (after rescheduled .state)) four ≡ two)
-      × (channelIn (after rescheduled .state) .«target_threshold» ≡ two)
-      × (channelIn (after setAgain .state) .«target_threshold» ≡ one)
-      × (after setAgain .state .progress .position ≡ 2)
+  pub row-11 : (settledHazard (channelIn (rowSession rescheduled .state)) four ≡ two)
+      × (channelIn (rowSession rescheduled .state) .«target_threshold» ≡ two)
+      × (channelIn (rowSession setLater .state) .«target_threshold» ≡ one)
+      × (rowSession setLater .state .progress .position ≡ 2)
   -- Censor time equal to the event's: not censored
-  pub row-12 : answerBytes (answerTo started (reschedule z (censorAt four))) ≡ rowNineBytes
+  pub row-12 : answerBytes (answerTo started (rescheduleBytes z (censorAt four))) ≡ rowNineBytes

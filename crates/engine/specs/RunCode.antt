@@ -1,18 +1,24 @@
--- A batch run in the parts that the code has: what ends it before an input, one command answered, and the run from opening.
+-- What the code's answers mean: a batch run as the code leaves it, and its parts: what ends it before an input, one command answered, and
+-- the run from opening.
 use mathlib.Core.Bool.{Bool, cond, _&&_}
 use mathlib.Core.List.{_++_}
 use Prim.Native.Nat.{ℕ, _+_, _*_}
-use lib.Dec.{eqb, leb}
+use lib.Dec.{eqb, ltb, leb}
 use lib.ListN.{length, replicate}
 use lib.Seq.{paste}
 use Rattle.hazards.specs.Fields.{bytesOf}
 use Rattle.hazards.specs.Answers.{answerWidth, noEvent, withAnswer}
 use Rattle.hazards.specs.declared.answers.Answer.{Answer}
-use Rattle.engine.specs.Refusals.{answersFull}
+use Rattle.engine.specs.Commands.{widthOf}
+use Rattle.engine.specs.Refusals.{noCommand, cutShort, answersFull}
 use Rattle.engine.specs.State.{openedState}
 use Rattle.engine.specs.Commands as commands
 use Rattle.engine.specs.Journal.{Bytes, code}
-use Rattle.engine.specs.Run.{Ran, endNumber, runFrom}
+use Rattle.engine.specs.Run.{Ran, runFrom}
+
+-- what the run leaves, as the code returns it
+abbrev pub ran : ℕ → Bytes → Bytes → Bytes → Ran
+ran number journal answers result = record { number = number; journal = journal; answers = answers; result = result }
 
 -- the number that ends a run, or 0, with the answers and the result
 pub record Stop : Type 0 where
@@ -23,6 +29,13 @@ pub record Stop : Type 0 where
 -- as the code leaves them
 abbrev pub stop : ℕ → Bytes → Bytes → Stop
 stop number answers result = record { number = number; answers = answers; result = result }
+
+-- the 2 or 3 that an input is refused by; 0 where it is a whole command
+unfoldable pub endNumber : Bytes → ℕ
+endNumber input =
+    cond (ltb 0 (length input))
+    (cond (ltb 0 (widthOf (code input))) (cond (leb (widthOf (code input)) (length input)) 0 cutShort) noCommand)
+    cutShort
 
 -- by the 2 or 3 that the input is refused by, which is answered and counted; 0 goes on and writes nothing
 abbrev pub stopBy : ℕ → Bytes → Bytes → ℕ → ℕ → Stop

@@ -1,10 +1,8 @@
--- Document 01, "Journal and undo": an engine in use from its opening on, its applied commands, and demand 3's first half.
-use Prim.Native.Nat.{ℕ, _+_, _≤_}
-use mathlib.Core.Path.{_≡_}
-use mathlib.Core.Bool.{true}
+-- Document 01, "Journal and undo": an engine in use from its opening on, and its applied commands.
+use Prim.Native.Nat.{ℕ}
 use mathlib.Core.List.{List, [], _∷_, _++_}
-use lib.ListN.{length, replicate}
-use Rattle.engine.specs.Journal.{Bytes, performed, Engine, Reply, refusal, reverted, answered, init, cut, Whole, execute}
+use lib.ListN.{replicate}
+use Rattle.engine.specs.Journal.{Bytes, Engine, Reply, refusal, reverted, answered, init, cut, execute}
 
 module _ (E : Engine) where
   -- an engine in use, with its applied commands (document 01: the commands that stand)
@@ -47,25 +45,3 @@ module _ (E : Engine) where
   unfoldable pub AcceptsEach : Session → List Bytes → Type 0
   AcceptsEach u [] = Unit {0}
   AcceptsEach u (i ∷ is) = Accepted (execute E (u .state) (u .journal) i .reply) × AcceptsEach (feed u i) is
-
-  -- what an engine supplies so that OnlyApplied holds of it: a performed command lengthens the applied commands by its own bytes, within
-  -- the journal
-  pub record Laws (n : ℕ) : Type 0 where
-    pub opens : E .appliedLength (E .opened) ≡ 0
-    pub grows : (s t : E .State) (c : Bytes) (a : E .Answer) → E .perform s c ≡ performed t a
-        → E .appliedLength t ≡ E .appliedLength s + length c
-    pub fits : (s t : E .State) (c : Bytes) (a : E .Answer) → E .perform s c ≡ performed t a → E .appliedLength s + length c ≤ n
-
-  -- demand 3, first half: state and journal after the inputs are those of a newly opened engine that is given only the applied commands,
-  -- in their order, and it accepts each
-  pub record OnlyApplied (n : ℕ) (is : List Bytes) : Type 0 where
-    pub same-state : feedAll (newSession n) is .state ≡ feedAll (newSession n) (feedAll (newSession n) is .applied) .state
-    pub same-journal : feedAll (newSession n) is .journal ≡ feedAll (newSession n) (feedAll (newSession n) is .applied) .journal
-    pub accepts-each : AcceptsEach (newSession n) (feedAll (newSession n) is .applied)
-
--- What an engine supplies so that no state reached from opening is refused by 1: a claim that the opened state meets, that each performed
--- command keeps, and from which refusal 1's test follows. The test itself is not kept: a finite float may become an infinity.
-pub record Sound (E : Engine) (Good : E .State → Type 0) : Type 0 where
-  pub opens : Good (E .opened)
-  pub keeps : (s t : E .State) (c : Bytes) (a : E .Answer) → Whole E c → Good s → E .perform s c ≡ performed t a → Good t
-  pub passes : (s : E .State) → Good s → E .valid s ≡ true

@@ -4,7 +4,7 @@ ghost use mathlib.Core.Bool.{not, _&&_, _||_};
 ghost use Prim.Native.Nat.{_≤_};
 ghost use lib.Dec.{eqb, ltb};
 ghost use Rattle.hazards.specs.Fields.{fieldAt};
-ghost use Rattle.engine.specs.Commands.{widthOf};
+ghost use Rattle.engine.specs.Commands.{widthOf, entityIndexField, generationField};
 ghost use Rattle.engine.specs.Execution.{byteAt, floatsAt, policyOf, hazardFields, settingOf, createdClock, censorOf};
 ghost use Rattle.engine.specs.Execution.{clockFaults, createFaults, causeFaults, setFaults, rescheduleFaults, pauseFaults};
 use clocks::clocks::EntityId;
@@ -34,19 +34,64 @@ pub const DELIVER: u8 = 0x07;
 
 pub const UNDO: u8 = 0x08;
 
+// The places of the fields.
+pub const CLOCK_FIELD: usize = 1;
+
+// CREATE clock u8, process u64, policy, tie, scale f64, has-entity, entity index u64, generation u32
+pub const PROCESS_FIELD: usize = 2;
+
+pub const POLICY_FIELD: usize = 10;
+
+pub const TIE_FIELD: usize = 11;
+
+pub const SCALE_FIELD: usize = 12;
+
+pub const HAS_ENTITY_FIELD: usize = 20;
+
+pub const ENTITY_INDEX_FIELD: usize = 21;
+
+pub const GENERATION_FIELD: usize = 29;
+
+// SET clock u8, cause u32, priority u32, kind, first f64, now f64, count u8, 8 pairs (end f64, rate f64); REMOVE clock u8, cause u32
+pub const CAUSE_FIELD: usize = 2;
+
+pub const SET_PRIORITY_FIELD: usize = 6;
+
+pub const KIND_FIELD: usize = 10;
+
+pub const FIRST_FIELD: usize = 11;
+
+pub const SET_NOW_FIELD: usize = 19;
+
+pub const COUNT_FIELD: usize = 27;
+
+pub const PAIRS_FIELD: usize = 28;
+
+// The first pair's rate, after its end.
+pub const RATES_FIELD: usize = PAIRS_FIELD + 8;
+
+// RESCHEDULE and RESUME clock u8, now f64, has-censor, censor f64, priority i32; PAUSE clock u8, now f64
+pub const NOW_FIELD: usize = 2;
+
+pub const HAS_CENSOR_FIELD: usize = 10;
+
+pub const CENSOR_FIELD: usize = 11;
+
+pub const PRIORITY_FIELD: usize = 19;
+
 // The bytes of a command by its code; 0 where it is no code.
 pub fn width(code: u8) -> usize
     ensures { λ r. ⌜ r ≡ widthOf code ⌝ }
 {
     match code {
-        1 => 33,
-        2 => 156,
-        3 => 6,
-        4 => 23,
-        5 => 10,
-        6 => 23,
-        7 => 1,
-        8 => 1,
+        CREATE => 33,
+        SET => 156,
+        REMOVE => 6,
+        RESCHEDULE => 23,
+        PAUSE => 10,
+        RESUME => 23,
+        DELIVER => 1,
+        UNDO => 1,
         _ => 0,
     }
 }
@@ -77,12 +122,12 @@ fn floats_at(command: &[u8], at: usize) -> [f64; 8]
 fn hazard_fields(command: &[u8]) -> HazardFields
     ensures { λ r. ⌜ r ≡ hazardFields (now (command .entry)) ⌝ }
 {
-    let ends = floats_at(command, 28);
-    let rates = floats_at(command, 36);
+    let ends = floats_at(command, PAIRS_FIELD);
+    let rates = floats_at(command, RATES_FIELD);
     HazardFields {
-        kind: byte_at(command, 10),
-        first: f64_at(command, 11),
-        count: byte_at(command, 27),
+        kind: byte_at(command, KIND_FIELD),
+        first: f64_at(command, FIRST_FIELD),
+        count: byte_at(command, COUNT_FIELD),
         ends,
         rates,
     }
@@ -95,11 +140,11 @@ pub fn setting_of(command: &[u8]) -> CauseSetting
     let hazard = fields.hazard();
     let intervals = fields.intervals();
     CauseSetting {
-        cause_id: u32_at(command, 2),
-        priority: u32_at(command, 6),
+        cause_id: u32_at(command, CAUSE_FIELD),
+        priority: u32_at(command, SET_PRIORITY_FIELD),
         hazard,
         intervals,
-        now: f64_at(command, 19),
+        now: f64_at(command, SET_NOW_FIELD),
     }
 }
 
@@ -116,19 +161,19 @@ pub fn created_clock(command: &[u8]) -> SurvivalClock
     ensures { λ r. ⌜ r ≡ createdClock (now (command .entry)) ⌝ }
 {
     let entity = EntityId {
-        index: u64_at(command, 21),
-        generation: u32_at(command, 29),
+        index: u64_at(command, ENTITY_INDEX_FIELD),
+        generation: u32_at(command, GENERATION_FIELD),
     };
-    let policy = policy_of(byte_at(command, 10));
-    let tie = hazards::ties::tie_breaker(byte_at(command, 11));
-    let has = byte_at(command, 20) == 1;
+    let policy = policy_of(byte_at(command, POLICY_FIELD));
+    let tie = hazards::ties::tie_breaker(byte_at(command, TIE_FIELD));
+    let has = byte_at(command, HAS_ENTITY_FIELD) == 1;
     SurvivalClock::new(
-        u64_at(command, 2),
+        u64_at(command, PROCESS_FIELD),
         has,
         entity,
         policy,
         tie,
-        f64_at(command, 12),
+        f64_at(command, SCALE_FIELD),
     )
 }
 
@@ -136,23 +181,24 @@ pub fn censor_of(command: &[u8]) -> Censor
     ensures { λ r. ⌜ r ≡ censorOf (now (command .entry)) ⌝ }
 {
     Censor {
-        present: byte_at(command, 10) == 1,
-        time: f64_at(command, 11),
+        present: byte_at(command, HAS_CENSOR_FIELD) == 1,
+        time: f64_at(command, CENSOR_FIELD),
     }
 }
 
 fn clock_faults(command: &[u8]) -> Faults
     ensures { λ r. ⌜ r ≡ clockFaults (now (command .entry)) ⌝ }
 {
-    hazards::refusals::identifier_fault_if(byte_at(command, 1) > 15)
+    hazards::refusals::identifier_fault_if(byte_at(command, CLOCK_FIELD) > 15)
 }
 
 // An entity whose bits are all zero.
 fn unused_entity(command: &[u8]) -> bool
-    ensures { λ r. ⌜ r ≡ (eqb (fieldAt 8 (now (command .entry)) 21) 0 && eqb (fieldAt 4 (now (command .entry)) 29) 0) ⌝ }
+    ensures { λ r. ⌜ r
+        ≡ (eqb (fieldAt 8 (now (command .entry)) entityIndexField) 0 && eqb (fieldAt 4 (now (command .entry)) generationField) 0) ⌝ }
 {
-    let index = u64_at(command, 21) == 0;
-    let generation = u32_at(command, 29) == 0;
+    let index = u64_at(command, ENTITY_INDEX_FIELD) == 0;
+    let generation = u32_at(command, GENERATION_FIELD) == 0;
     index & generation
 }
 
@@ -172,10 +218,10 @@ fn has_fault(has: u8, empty: bool) -> bool
 pub fn create_faults(command: &[u8]) -> Faults
     ensures { λ r. ⌜ r ≡ createFaults (now (command .entry)) ⌝ }
 {
-    let policy = byte_at(command, 10) > 1;
-    let tie = byte_at(command, 11) > 2;
-    let entity = has_fault(byte_at(command, 20), unused_entity(command));
-    let scale = hazards::checks::in_range(f64_at(command, 12));
+    let policy = byte_at(command, POLICY_FIELD) > 1;
+    let tie = byte_at(command, TIE_FIELD) > 2;
+    let entity = has_fault(byte_at(command, HAS_ENTITY_FIELD), unused_entity(command));
+    let scale = hazards::checks::in_range(f64_at(command, SCALE_FIELD));
     let own = Faults {
         choice: policy | (tie | entity),
         range: !scale,
@@ -188,7 +234,7 @@ pub fn create_faults(command: &[u8]) -> Faults
 pub fn cause_faults(command: &[u8]) -> Faults
     ensures { λ r. ⌜ r ≡ causeFaults (now (command .entry)) ⌝ }
 {
-    let reserved = hazards::refusals::is_reserved(u32_at(command, 2));
+    let reserved = hazards::refusals::is_reserved(u32_at(command, CAUSE_FIELD));
     hazards::refusals::identifier_fault_if(reserved).joined(clock_faults(command))
 }
 
@@ -196,7 +242,7 @@ pub fn set_faults(command: &[u8]) -> Faults
     ensures { λ r. ⌜ r ≡ setFaults (now (command .entry)) ⌝ }
 {
     let fields = hazard_fields(command);
-    let now = hazards::checks::is_time(f64_at(command, 19));
+    let now = hazards::checks::is_time(f64_at(command, SET_NOW_FIELD));
     let rest = hazards::refusals::range_fault_unless(now).joined(cause_faults(command));
     fields.faults().joined(rest)
 }
@@ -204,11 +250,14 @@ pub fn set_faults(command: &[u8]) -> Faults
 pub fn reschedule_faults(command: &[u8]) -> Faults
     ensures { λ r. ⌜ r ≡ rescheduleFaults (now (command .entry)) ⌝ }
 {
-    let now = hazards::checks::is_time(f64_at(command, 2));
-    let censor = f64_at(command, 11);
+    let now = hazards::checks::is_time(f64_at(command, NOW_FIELD));
+    let censor = f64_at(command, CENSOR_FIELD);
     let time = hazards::checks::is_time(censor);
     let own = Faults {
-        choice: has_fault(byte_at(command, 10), hazards::checks::zero_bits(censor)),
+        choice: has_fault(
+            byte_at(command, HAS_CENSOR_FIELD),
+            hazards::checks::zero_bits(censor),
+        ),
         range: !(now & time),
         intervals: false,
         identifier: false,
@@ -219,6 +268,6 @@ pub fn reschedule_faults(command: &[u8]) -> Faults
 pub fn pause_faults(command: &[u8]) -> Faults
     ensures { λ r. ⌜ r ≡ pauseFaults (now (command .entry)) ⌝ }
 {
-    let now = hazards::checks::is_time(f64_at(command, 2));
+    let now = hazards::checks::is_time(f64_at(command, NOW_FIELD));
     hazards::refusals::range_fault_unless(now).joined(clock_faults(command))
 }

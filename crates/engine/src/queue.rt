@@ -3,7 +3,7 @@ ghost use mathlib.Core.Path.{_≡_};
 ghost use mathlib.Core.Option.{some};
 ghost use Prim.Native.Nat.{_≤_, min};
 ghost use lib.Dec.{ltb};
-ghost use Rattle.engine.specs.Queue.{ticksOf, comesFirst, earlierOf, nextRequest, isThere, without};
+ghost use Rattle.engine.specs.Queue.{requestTicks, comesFirst, earlierOf, nextRequest, isThere, without};
 ghost use Rattle.engine.specs.State.{emptyRequest, queuedRequests, withQueue, withRequest};
 ghost use Rattle.engine.specs.QueueCode.{pickOf};
 use crate::state::Progress;
@@ -28,7 +28,7 @@ pub fn empty_request() -> Request
 }
 
 fn fewer_ticks(a: Request, b: Request) -> bool
-    ensures { λ r. ⌜ r ≡ ltb (ticksOf a) (ticksOf b) ⌝ }
+    ensures { λ r. ⌜ r ≡ ltb (requestTicks a) (requestTicks b) ⌝ }
 {
     if a.ticks.high < b.ticks.high {
         return true;

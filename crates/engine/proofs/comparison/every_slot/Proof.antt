@@ -1,11 +1,10 @@
 -- `comparison::every_slot` meets its contract.
-use mathlib.Core.Path.{_≡_, sym, _∙_}
-use mathlib.Core.Bool.{true}
-use Prim.Native.Nat.{_≤_, _-_}
-use lib.ListN.{length, getD, length-map}
+use mathlib.Core.Path.{_≡_}
+use Prim.Native.Nat.{_-_}
+use lib.ListN.{length, length-map}
 use Rattle.engine.specs.State.{emptySlot}
-use Rattle.engine.specs.Comparison.{everyBelow, sameSlot}
-use Rattle.engine.proofs.EveryPlace.{every-none, every-more, every-fails, at-place}
+use Rattle.engine.specs.Comparison.{sameSlot}
+use Rattle.engine.proofs.EveryPlace.{SameBelow, none-yet, all-same, place-differs, place-same}
 use borrow.Author.Needs.{needs}
 use borrow.Author.Tests.{not-true, not-false}
 use native.Mathlib.Omega.{arith}
@@ -13,13 +12,16 @@ use Rattle.engine.proofs.comparison.every_slot.Statement.{statement}
 use Rattle.engine.proofs.comparison.every_slot.Tie as tie
 
 abbrev Inv-loop : tie.InvT-loop
-Inv-loop a b i₀ i = (i ≤ 16) × (everyBelow i (λ k. sameSlot (getD (a .slots) k emptySlot) (getD (b .slots) k emptySlot)) ≡ true)
+Inv-loop a b i₀ i = SameBelow sameSlot emptySlot 16 (a .slots) (b .slots) i
 
 abbrev μ-loop : tie.MeasureT-loop
 μ-loop a b i₀ i = 16 - i
 
+lengths : (c : tie.Start Inv-loop μ-loop) → (length (c .args .t1 .slots) ≡ 16) × (length (c .args .t2 .slots) ≡ 16)
+lengths c = (simp length-map at (c .good .0 .1 .1 .0 .1 .0 .1), simp length-map at (c .good .1 .0 .1 .1 .0 .1 .0 .1))
+
 loop-holds : tie.Need-loop-holds Inv-loop μ-loop
-loop-holds c = (omega arith, every-none _)
+loop-holds c = none-yet sameSlot emptySlot 16 (c .args .t1 .slots) (c .args .t2 .slots)
 
 mul-same-slot : tie.Need-mul-same-slot Inv-loop μ-loop
 mul-same-slot c = omega arith
@@ -39,12 +41,9 @@ same-slot-requires c κs = search needs
 returns : tie.Need-returns Inv-loop μ-loop
 returns c =
     let l = c .before .before .before .before .before in
-    let x = l .before .args .t1 .slots in
-    let y = l .before .args .t2 .slots in
-    let m : length x ≡ 16 = simp length-map at (l .before .good .0 .1 .1 .0 .1 .0 .1) in
-    let n : length y ≡ 16 = simp length-map at (l .before .good .1 .0 .1 .1 .0 .1 .0 .1) in
-    let e = c .before .same-slot .ensures ∙ at-place sameSlot x y (l .loop .i) _ emptySlot (omega arith) (omega arith) in
-    sym (every-fails _ 16 (l .loop .i) (omega arith) (sym e ∙ not-true _ (c .if1 .taken)))
+    let m = l .before in
+    place-differs sameSlot emptySlot 16 (m .args .t1 .slots) (m .args .t2 .slots) (lengths m) (l .loop .i) (omega arith) _
+    (c .before .same-slot .ensures) (not-true _ (c .if1 .taken))
 
 add-i : tie.Need-add-i Inv-loop μ-loop
 add-i c = omega arith
@@ -55,17 +54,14 @@ loop-less c = omega arith
 loop-again : tie.Need-loop-again Inv-loop μ-loop
 loop-again c =
     let l = c .before .before .before .before .before in
-    let x = l .before .args .t1 .slots in
-    let y = l .before .args .t2 .slots in
-    let m : length x ≡ 16 = simp length-map at (l .before .good .0 .1 .1 .0 .1 .0 .1) in
-    let n : length y ≡ 16 = simp length-map at (l .before .good .1 .0 .1 .1 .0 .1 .0 .1) in
-    let e = c .before .same-slot .ensures ∙ at-place sameSlot x y (l .loop .i) _ emptySlot (omega arith) (omega arith) in
-    (omega arith, every-more _ (l .loop .i) (l .loop .inv .1) (sym e ∙ not-false _ (c .if1 .left)))
+    let m = l .before in
+    place-same sameSlot emptySlot 16 (m .args .t1 .slots) (m .args .t2 .slots) (lengths m) (l .loop .i) (omega arith) _
+    (c .before .same-slot .ensures) (not-false _ (c .if1 .left)) (l .loop .inv)
 
 returns-2 : tie.Need-returns-2 Inv-loop μ-loop
 returns-2 c =
-    let all : 16 ≡ c .before .loop .i = omega arith in
-    rw all (sym (c .before .loop .inv .1))
+    let m = c .before .before in
+    all-same sameSlot emptySlot 16 (m .args .t1 .slots) (m .args .t2 .slots) (c .before .loop .i) (omega arith) (c .before .loop .inv)
 
 pub every-slot-spec : {M : Type 1} → statement M
 every-slot-spec =

@@ -1,11 +1,10 @@
 -- `comparison::same_floats` meets its contract.
-use mathlib.Core.Path.{_≡_, sym, _∙_}
-use mathlib.Core.Bool.{true}
-use Prim.Native.Nat.{_≤_, _-_}
-use lib.ListN.{length, getD}
+use mathlib.Core.Path.{_≡_}
+use Prim.Native.Nat.{_-_}
+use lib.ListN.{length}
 use Rattle.hazards.specs.Floats.{z}
-use Rattle.engine.specs.Comparison.{everyBelow, sameFloat}
-use Rattle.engine.proofs.EveryPlace.{every-none, every-more, every-fails, at-place}
+use Rattle.engine.specs.Comparison.{sameFloat}
+use Rattle.engine.proofs.EveryPlace.{SameBelow, none-yet, all-same, place-differs, place-same}
 use borrow.Author.Needs.{needs}
 use borrow.Author.Tests.{not-true, not-false}
 use native.Mathlib.Omega.{arith}
@@ -13,13 +12,16 @@ use Rattle.engine.proofs.comparison.same_floats.Statement.{statement}
 use Rattle.engine.proofs.comparison.same_floats.Tie as tie
 
 abbrev Inv-loop : tie.InvT-loop
-Inv-loop a b i₀ i = (i ≤ 8) × (everyBelow i (λ k. sameFloat (getD a k z) (getD b k z)) ≡ true)
+Inv-loop a b i₀ i = SameBelow sameFloat z 8 a b i
 
 abbrev μ-loop : tie.MeasureT-loop
 μ-loop a b i₀ i = 8 - i
 
+lengths : (c : tie.Start Inv-loop μ-loop) → (length (c .args .a .now) ≡ 8) × (length (c .args .b .now) ≡ 8)
+lengths c = c .pre
+
 loop-holds : tie.Need-loop-holds Inv-loop μ-loop
-loop-holds c = (omega arith, every-none _)
+loop-holds c = none-yet sameFloat z 8 (c .args .a .now) (c .args .b .now)
 
 mul-same-float : tie.Need-mul-same-float Inv-loop μ-loop
 mul-same-float c = omega arith
@@ -39,12 +41,9 @@ same-float-requires c κs = search needs
 returns : tie.Need-returns Inv-loop μ-loop
 returns c =
     let l = c .before .before .before .before .before in
-    let x = l .before .args .a .now in
-    let y = l .before .args .b .now in
-    let m : length x ≡ 8 = l .before .pre .0 in
-    let n : length y ≡ 8 = l .before .pre .1 in
-    let e = c .before .same-float .ensures ∙ at-place sameFloat x y (l .loop .i) _ z (omega arith) (omega arith) in
-    sym (every-fails _ 8 (l .loop .i) (omega arith) (sym e ∙ not-true _ (c .if1 .taken)))
+    let m = l .before in
+    place-differs sameFloat z 8 (m .args .a .now) (m .args .b .now) (lengths m) (l .loop .i) (omega arith) _
+    (c .before .same-float .ensures) (not-true _ (c .if1 .taken))
 
 add-i : tie.Need-add-i Inv-loop μ-loop
 add-i c = omega arith
@@ -55,17 +54,14 @@ loop-less c = omega arith
 loop-again : tie.Need-loop-again Inv-loop μ-loop
 loop-again c =
     let l = c .before .before .before .before .before in
-    let x = l .before .args .a .now in
-    let y = l .before .args .b .now in
-    let m : length x ≡ 8 = l .before .pre .0 in
-    let n : length y ≡ 8 = l .before .pre .1 in
-    let e = c .before .same-float .ensures ∙ at-place sameFloat x y (l .loop .i) _ z (omega arith) (omega arith) in
-    (omega arith, every-more _ (l .loop .i) (l .loop .inv .1) (sym e ∙ not-false _ (c .if1 .left)))
+    let m = l .before in
+    place-same sameFloat z 8 (m .args .a .now) (m .args .b .now) (lengths m) (l .loop .i) (omega arith) _
+    (c .before .same-float .ensures) (not-false _ (c .if1 .left)) (l .loop .inv)
 
 returns-2 : tie.Need-returns-2 Inv-loop μ-loop
 returns-2 c =
-    let all : 8 ≡ c .before .loop .i = omega arith in
-    rw all (sym (c .before .loop .inv .1))
+    let m = c .before .before in
+    all-same sameFloat z 8 (m .args .a .now) (m .args .b .now) (c .before .loop .i) (omega arith) (c .before .loop .inv)
 
 pub same-floats-spec : {M : Type 1} → statement M
 same-floats-spec =

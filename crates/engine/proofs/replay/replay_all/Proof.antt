@@ -7,7 +7,7 @@ use lib.ListN.{length}
 use Rattle.engine.specs.State.{emptySlot, withSlot}
 use Rattle.engine.specs.Journal.{replayAll}
 use Rattle.engine.specs.Instance.{engineOf}
-use Rattle.engine.specs.Good.{Good}
+use Rattle.engine.proofs.Good.{Good}
 use Rattle.engine.proofs.EveryPlace.{getD-any}
 use Rattle.engine.proofs.GoodValid.{opened-good}
 use Rattle.engine.proofs.ReplayLaws.{replayRest, replay-begins, replay-ends, no-command, command-here, command-fits, is-refused}

@@ -16,11 +16,10 @@ use Rattle.engine.specs.Commands as commands
 use Rattle.engine.specs.Commands.{widthOf}
 use Rattle.engine.specs.State.{emptySlot, slotAt}
 use Rattle.engine.specs.Journal.{code}
-use Rattle.engine.specs.Good.{Good}
-use Rattle.engine.specs.Run.{ran}
-use Rattle.engine.specs.RunCode.{answeredBy, answerAt, openedRun}
+use Rattle.engine.specs.RunCode.{ran, answeredBy, answerAt, openedRun}
 use Rattle.engine.specs.declared.state.ClockSlot.{ClockSlot}
 use Rattle.engine.specs.declared.state.EngineState.{EngineState}
+use Rattle.engine.proofs.Good.{Good}
 use Rattle.engine.proofs.EveryPlace.{getD-any}
 use Rattle.engine.proofs.JournalBytes.{partOf, code-at}
 use Rattle.engine.proofs.RunReverts.{when-true, when-false, reverted-within, next-reverted}

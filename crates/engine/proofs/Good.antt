@@ -5,13 +5,13 @@ use mathlib.Core.List.{List}
 use Prim.Native.Nat.{ℕ, _≤_, _<_}
 use lib.ListN.{length}
 use Rattle.hazards.specs.Draws.{streamLength}
-use Rattle.clocks.specs.Sound.{Each, SoundClock}
 use Rattle.engine.specs.Queue.{countFor}
 use Rattle.engine.specs.State.{slotAt, queuedRequests}
 use Rattle.engine.specs.Validation.{distinct}
 use Rattle.engine.specs.declared.state.ClockSlot.{ClockSlot}
 use Rattle.engine.specs.declared.state.Request.{Request}
 use Rattle.engine.specs.declared.state.EngineState.{EngineState}
+use Rattle.clocks.proofs.Sound.{Each, SoundClock}
 
 -- a present clock is sound
 abbrev pub SoundSlot : ClockSlot → Type 0
