@@ -2,7 +2,7 @@
 ghost use mathlib.Core.Path.{_≡_};
 ghost use mathlib.Core.Bool.{not, _&&_, _||_};
 ghost use mathlib.Core.List.{List};
-ghost use Prim.Native.Nat.{ℕ, _-_, _≤_, min};
+ghost use Prim.Native.Nat.{ℕ, _-_, _≤_, _<_, min};
 ghost use lib.Dec.{eqb, ltb};
 ghost use lib.Ieee.{Float, lt, le};
 ghost use Rattle.hazards.specs.Floats.{z, limit, zeroBits, inRange, isTime};
@@ -132,14 +132,13 @@ fn zero_pair(end: f64, rate: f64) -> bool
 fn unused_are_zero<'a>(ends: &'a [f64; 8], rates: &'a [f64; 8], used: usize) -> bool
     ensures { λ r. ⌜ ((n : ℕ) → r ≡ all zeroPair (pairsFrom (intervalsFrom (now (ends .entry)) (now (rates .entry)) n) used (8 - used))) ⌝ }
 {
+    let mut zero = true;
     let mut i = used;
     while i < 8 {
-        if !zero_pair(ends[i], rates[i]) {
-            return false;
-        }
+        zero = zero & zero_pair(ends[i], rates[i]);
         i += 1;
     }
-    true
+    zero
 }
 
 // Refusal 5 of a hazard, whatever its ends.
@@ -214,6 +213,27 @@ pub fn hazard_faults<'a>(
         choice: choice_fault(kind, first),
         range: range_fault(hazard, rates, pairs),
         intervals: intervals_fault(hazard, ends, rates, pairs),
+        identifier: false,
+    }
+}
+
+// The same of a kind that uses no pairs, which are then read at fixed places.
+pub fn single_rate_faults<'a>(
+    kind: u8,
+    first: f64,
+    count: u8,
+    ends: &'a [f64; 8],
+    rates: &'a [f64; 8],
+) -> Faults
+    ensures { λ r. ⌜ (kind < 3 → r ≡ hazardFaults (fieldsFrom kind first count (now (ends .entry)) (now (rates .entry)))) ⌝ }
+{
+    let own = in_range(own_rate(rate_of_kind(kind, first)));
+    let unused = unused_are_zero(ends, rates, 0);
+    let none = count == 0;
+    Faults {
+        choice: choice_fault(kind, first),
+        range: !own,
+        intervals: !(none & unused),
         identifier: false,
     }
 }

@@ -3,9 +3,10 @@ ghost use mathlib.Core.Path.{_≡_};
 ghost use mathlib.Core.Bool.{_&&_};
 ghost use Prim.Native.Nat.{_-_, min};
 ghost use mathlib.Core.List.{[]};
-ghost use lib.Ieee.{lt, le};
+ghost use lib.Ieee.{Float, lt, le};
 ghost use Rattle.hazards.specs.Floats.{z, notBelowZero};
-ghost use Rattle.hazards.specs.Rates.{intervalsFrom, pairsFrom, usedPairs, piecewiseHazard, piecewiseCumulative, pairsAfter};
+ghost use Rattle.hazards.specs.declared.rates.Intervals.{Intervals};
+ghost use Rattle.hazards.specs.Rates.{mostPairs, intervalsFrom, pairsFrom, usedPairs, piecewiseHazard, piecewiseCumulative, pairsAfter};
 ghost use Rattle.hazards.specs.Rates.{piecewiseWait, constantWait, hazardAt, cumulativeHazard, invertCumulativeHazard};
 
 // A kind with its own rate: the rate of Constant, eta of Gompertz (with b = 0), the trailing rate of PiecewiseConstant.
@@ -208,6 +209,21 @@ fn constant_wait(rate: f64, w: f64) -> Wait
         Wait::Never
     } else {
         Wait::After(w / rate)
+    }
+}
+
+// invert_cumulative_hazard of a kind that uses no pairs, from any age.
+pub fn single_rate_wait(hazard: HazardRate, target_w: f64) -> Wait
+    ensures { λ r. ⌜ ((p : Intervals) (start : Float) → mostPairs hazard ≡ 0 → r ≡ invertCumulativeHazard hazard p start «target_w») ⌝ }
+{
+    if target_w <= 0.0 {
+        return Wait::After(0.0);
+    }
+    match hazard {
+        HazardRate::Zero => Wait::Never,
+        HazardRate::Constant(rate) => constant_wait(not_below_zero(rate), target_w),
+        HazardRate::Gompertz(eta) => constant_wait(eta, target_w),
+        HazardRate::Piecewise(_) => Wait::Never,
     }
 }
 
