@@ -217,7 +217,7 @@ pub fn hazard_faults<'a>(
     }
 }
 
-// The same of a kind that uses no pairs, which are then read at fixed places.
+// The same of a kind that uses no pairs: all eight are looked at, at fixed places.
 pub fn single_rate_faults<'a>(
     kind: u8,
     first: f64,
@@ -228,10 +228,11 @@ pub fn single_rate_faults<'a>(
     ensures { λ r. ⌜ (kind < 3 → r ≡ hazardFaults (fieldsFrom kind first count (now (ends .entry)) (now (rates .entry)))) ⌝ }
 {
     let own = in_range(own_rate(rate_of_kind(kind, first)));
-    let unused = unused_are_zero(ends, rates, 0);
     let none = count == 0;
+    let unused = unused_are_zero(ends, rates, 0);
+    let choice = choice_fault(kind, first);
     Faults {
-        choice: choice_fault(kind, first),
+        choice,
         range: !own,
         intervals: !(none & unused),
         identifier: false,

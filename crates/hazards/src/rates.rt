@@ -212,17 +212,17 @@ fn constant_wait(rate: f64, w: f64) -> Wait
     }
 }
 
-// invert_cumulative_hazard of a kind that uses no pairs, from any age.
-pub fn single_rate_wait(hazard: HazardRate, target_w: f64) -> Wait
-    ensures { λ r. ⌜ ((p : Intervals) (start : Float) → mostPairs hazard ≡ 0 → r ≡ invertCumulativeHazard hazard p start «target_w») ⌝ }
+// The same as invert_cumulative_hazard for a kind that uses no pairs, from whatever age.
+pub fn single_rate_wait(hazard: HazardRate, w: f64) -> Wait
+    ensures { λ r. ⌜ ((p : Intervals) (start : Float) → mostPairs hazard ≡ 0 → r ≡ invertCumulativeHazard hazard p start w) ⌝ }
 {
-    if target_w <= 0.0 {
+    if w <= 0.0 {
         return Wait::After(0.0);
     }
     match hazard {
         HazardRate::Zero => Wait::Never,
-        HazardRate::Constant(rate) => constant_wait(not_below_zero(rate), target_w),
-        HazardRate::Gompertz(eta) => constant_wait(eta, target_w),
+        HazardRate::Constant(rate) => constant_wait(not_below_zero(rate), w),
+        HazardRate::Gompertz(eta) => constant_wait(eta, w),
         HazardRate::Piecewise(_) => Wait::Never,
     }
 }

@@ -13,26 +13,26 @@ pub struct Examined {
     pub wait: Wait,
 }
 
-// The faults of a hazard's fields and of the record's id.
-fn with_identifier(faults: Faults, cause_id: u32) -> Faults
-    ensures { λ r. ⌜ r ≡ joined faults (identifierFaultIf (isReserved «cause_id»)) ⌝ }
+// The faults of a record, given those of its hazard's fields.
+fn with_identifier(fields: Faults, cause_id: u32) -> Faults
+    ensures { λ r. ⌜ r ≡ joined fields (identifierFaultIf (isReserved «cause_id»)) ⌝ }
 {
     let reserved = crate::refusals::is_reserved(cause_id);
-    faults.joined(crate::refusals::identifier_fault_if(reserved))
+    fields.joined(crate::refusals::identifier_fault_if(reserved))
 }
 
-// A record of a kind that uses no pairs: they are read at fixed places, and the record is not copied.
+// A record of a kind that uses no pairs. None is read at a computed place, so the compiled code makes no copy of them.
 pub fn examined_single_rate(cause: CompetingCause, w: f64) -> Examined
     ensures { λ r. ⌜ (cause .hazard .kind < 3 → (age : Float) → r ≡ examinedRecord cause age w) ⌝ }
 {
-    let fields = crate::checks::single_rate_faults(
+    let rate_faults = crate::checks::single_rate_faults(
         cause.hazard.kind,
         cause.hazard.first,
         cause.hazard.count,
         &cause.hazard.ends,
         &cause.hazard.rates,
     );
-    let faults = with_identifier(fields, cause.cause_id);
+    let faults = with_identifier(rate_faults, cause.cause_id);
     let hazard = crate::checks::rate_of_kind(cause.hazard.kind, cause.hazard.first);
     let wait = crate::rates::single_rate_wait(hazard, w);
     Examined { faults, wait }
@@ -42,14 +42,14 @@ pub fn examined_single_rate(cause: CompetingCause, w: f64) -> Examined
 pub fn examined_with_pairs(cause: CompetingCause, age: f64, w: f64) -> Examined
     ensures { λ r. ⌜ r ≡ examinedRecord cause age w ⌝ }
 {
-    let fields = crate::checks::hazard_faults(
+    let field_faults = crate::checks::hazard_faults(
         cause.hazard.kind,
         cause.hazard.first,
         cause.hazard.count,
         &cause.hazard.ends,
         &cause.hazard.rates,
     );
-    let faults = with_identifier(fields, cause.cause_id);
+    let faults = with_identifier(field_faults, cause.cause_id);
     let hazard = crate::checks::rate_of_kind(cause.hazard.kind, cause.hazard.first);
     let wait = crate::rates::invert_cumulative_hazard(
         hazard,

@@ -16,7 +16,7 @@ joined-requires c κs = search needs
 returns : tie.Need-returns
 returns c =
     let a = c .before .before .before .args in
-    identifier-joined (a .faults) (a .cause-id) (c .before .before .is-reserved .ensures) (c .before .identifier-fault-if .ensures)
+    identifier-joined (a .fields) (a .cause-id) (c .before .before .is-reserved .ensures) (c .before .identifier-fault-if .ensures)
     (c .joined .ensures)
 
 pub with-identifier-spec : {M : Type 1} → statement M
