@@ -3,6 +3,7 @@ use mathlib.Core.Path.{_≡_, refl, sym, _∙_, ap}
 use mathlib.Core.Bool.{Bool, true, false, cond}
 use mathlib.Core.List.{List, [], _∷_}
 use Prim.Native.Nat.{ℕ, zero, suc, _+_, _-_, _<_, _≤_, min}
+use native.Mathlib.Numerals.{add-one}
 use native.Mathlib.Omega.{arith}
 use borrow.Author.Tests.{eq-eqb, ne-eqb, lt-ltb, le-ltb, ltb-false}
 use lib.Dec.{eqb, ltb, eqb·suc-zero}
@@ -21,6 +22,7 @@ use Rattle.hazards.specs.Ties.{candidateAfter, tieBreakerOf, earlier, ea
 use Rattle.hazards.specs.Sampler.{causeFaults, faultsOfAll, settingsFaults, drawsRefusal, sampleRefusal, inCauseOrder}
 use Rattle.hazards.specs.Sampler.{candidates, censoredAt, sampledEvent, sampleNext}
 use Rattle.hazards.specs.Records.{examinedRecord}
+use Rattle.hazards.specs.Candidates.{candidatesWith}
 use Rattle.hazards.specs.declared.refusals.Faults.{Faults}
 use Rattle.hazards.specs.declared.rates.Wait.{Wait}
 use Rattle.hazards.specs.declared.rates.Wait.the-variants.{After, Never}
@@ -116,21 +118,40 @@ module _ (tie : TieBreaker) (best : Earliest) (cause priority : ℕ) (timeOf : F
   unfolding candidateAfter foldl
   candidate-finite e h er = er ∙ rw (e, h)
 
--- ---- the candidates in order: the first record's and the others'
+-- ---- the candidates in order: the first record's and the others', and the same with thresholds that were drawn beforehand
 
-pub candidates-next : (tie : TieBreaker) (best : Earliest) (age : Float) (stream : List ℕ) (position : ℕ) {cs : List CompetingCause}
-    (c : CompetingCause) {rest : List CompetingCause} {w : Float} {next : Earliest} → cs ≡ c ∷ rest → w ≡ thresholdAt stream position
-    → next
-    ≡ foldl (earlier tie) best
-    (candidateAfter (c .«cause_id») (c .priority) (λ t. t) (invertCumulativeHazard (hazardOf (c .hazard)) (intervalsOf (c .hazard)) age w))
-    → foldl (earlier tie) best (candidates cs age stream position) ≡ foldl (earlier tie) next (candidates rest age stream (suc position))
-unfolding candidates
-candidates-next tie best age stream position c {rest} {w} first ew e =
-    rw (first, ← ew)
-    (foldl-append (earlier tie) best
-    (candidateAfter (c .«cause_id») (c .priority) (λ t. t) (invertCumulativeHazard (hazardOf (c .hazard)) (intervalsOf (c .hazard)) age w))
-    (candidates rest age stream (suc position))
-    ∙ ap (λ (b : Earliest). foldl (earlier tie) b (candidates rest age stream (suc position))) (sym e))
+pub candidates-next : (tie : TieBreaker) (best : Earliest) (age : Float) (thresholds : List Float) (k : ℕ) {cs : List CompetingCause}
+    (c : CompetingCause) {rest : List CompetingCause} {wait : Wait} {next : Earliest} → cs ≡ c ∷ rest
+    → wait ≡ examinedRecord c age (getD thresholds k nan) .wait
+    → next ≡ foldl (earlier tie) best (candidateAfter (c .«cause_id») (c .priority) (λ t. t) wait)
+    → foldl (earlier tie) best (candidatesWith cs age thresholds k) ≡ foldl (earlier tie) next (candidatesWith rest age thresholds (k + 1))
+unfolding candidatesWith
+candidates-next tie best age thresholds k c {rest} {wait} first ew e =
+    rw (first, ← ew, ← add-one)
+    (foldl-append (earlier tie) best (candidateAfter (c .«cause_id») (c .priority) (λ t. t) wait) (candidatesWith rest age thresholds (k + 1))
+    ∙ ap (λ (b : Earliest). foldl (earlier tie) b (candidatesWith rest age thresholds (k + 1))) (sym e))
+
+drawn-from : (cs : List CompetingCause) (age : Float) (thresholds : List Float) (k : ℕ) (stream : List ℕ) (position : ℕ)
+    → ((i : ℕ) → i < length cs → getD thresholds (k + i) nan ≡ thresholdAt stream (position + i))
+    → candidatesWith cs age thresholds k ≡ candidates cs age stream position
+unfolding candidatesWith candidates
+drawn-from [] age thresholds k stream position reads = refl
+drawn-from (c ∷ cs) age thresholds k stream position reads =
+    let k₀ : k + 0 ≡ k = omega arith in
+    let p₀ : position + 0 ≡ position = omega arith in
+    let first = rw (k₀, p₀) at (reads 0 (omega arith)) in
+    let others = drawn-from cs age thresholds (suc k) stream (suc position)
+    (λ i h.
+    let kᵢ : k + suc i ≡ suc k + i = omega arith in
+    let pᵢ : position + suc i ≡ suc position + i = omega arith in
+    rw (kᵢ, pᵢ) at (reads (suc i) (omega arith))) in
+    rw (first, others)
+
+pub drawn-candidates : (cs : List CompetingCause) (age : Float) (thresholds : List Float) (stream : List ℕ) (position : ℕ)
+    → ((i : ℕ) → i < length cs → getD thresholds i nan ≡ thresholdAt stream (position + i))
+    → candidatesWith cs age thresholds 0 ≡ candidates cs age stream position
+drawn-candidates cs age thresholds stream position reads =
+    drawn-from cs age thresholds 0 stream position (λ i h. let e : 0 + i ≡ i = omega arith in rw e (reads i h))
 
 pub sampled-some : (cs : List CompetingCause) (s : SampleSettings) (stream : List ℕ) (position : ℕ) → 0 < length cs
     → sampledEvent cs s stream position

@@ -11,4 +11,5 @@ pub mod Draws
 pub mod Ties
 pub mod Sampler
 pub mod Records
+pub mod Candidates
 pub mod Bounds

@@ -2,7 +2,7 @@
 ghost use mathlib.Core.Path.{_≡_};
 ghost use mathlib.Core.Bool.{not, _&&_, _||_};
 ghost use mathlib.Core.List.{List};
-ghost use Prim.Native.Nat.{ℕ, _-_, _≤_, _<_, min};
+ghost use Prim.Native.Nat.{ℕ, _-_, _≤_, min};
 ghost use lib.Dec.{eqb, ltb};
 ghost use lib.Ieee.{Float, lt, le};
 ghost use Rattle.hazards.specs.Floats.{z, limit, zeroBits, inRange, isTime};
@@ -129,7 +129,7 @@ fn zero_pair(end: f64, rate: f64) -> bool
 }
 
 // All bits of the pairs from `used` on are zero.
-fn unused_are_zero<'a>(ends: &'a [f64; 8], rates: &'a [f64; 8], used: usize) -> bool
+pub fn unused_are_zero<'a>(ends: &'a [f64; 8], rates: &'a [f64; 8], used: usize) -> bool
     ensures { λ r. ⌜ ((n : ℕ) → r ≡ all zeroPair (pairsFrom (intervalsFrom (now (ends .entry)) (now (rates .entry)) n) used (8 - used))) ⌝ }
 {
     let mut zero = true;
@@ -185,7 +185,7 @@ pub fn rate_of_kind(kind: u8, first: f64) -> HazardRate
 }
 
 // Refusal 4 of a hazard's fields.
-fn choice_fault(kind: u8, first: f64) -> bool
+pub fn choice_fault(kind: u8, first: f64) -> bool
     ensures { λ r. ⌜ r ≡ (ltb 3 kind || (eqb kind 0 && not (zeroBits first))) ⌝ }
 {
     if kind > 3 {
@@ -213,28 +213,6 @@ pub fn hazard_faults<'a>(
         choice: choice_fault(kind, first),
         range: range_fault(hazard, rates, pairs),
         intervals: intervals_fault(hazard, ends, rates, pairs),
-        identifier: false,
-    }
-}
-
-// The same of a kind that uses no pairs: all eight are looked at, at fixed places.
-pub fn single_rate_faults<'a>(
-    kind: u8,
-    first: f64,
-    count: u8,
-    ends: &'a [f64; 8],
-    rates: &'a [f64; 8],
-) -> Faults
-    ensures { λ r. ⌜ (kind < 3 → r ≡ hazardFaults (fieldsFrom kind first count (now (ends .entry)) (now (rates .entry)))) ⌝ }
-{
-    let own = in_range(own_rate(rate_of_kind(kind, first)));
-    let none = count == 0;
-    let unused = unused_are_zero(ends, rates, 0);
-    let choice = choice_fault(kind, first);
-    Faults {
-        choice,
-        range: !own,
-        intervals: !(none & unused),
         identifier: false,
     }
 }

@@ -3,10 +3,9 @@ ghost use mathlib.Core.Path.{_≡_};
 ghost use mathlib.Core.Bool.{_&&_};
 ghost use Prim.Native.Nat.{_-_, min};
 ghost use mathlib.Core.List.{[]};
-ghost use lib.Ieee.{Float, lt, le};
+ghost use lib.Ieee.{lt, le};
 ghost use Rattle.hazards.specs.Floats.{z, notBelowZero};
-ghost use Rattle.hazards.specs.declared.rates.Intervals.{Intervals};
-ghost use Rattle.hazards.specs.Rates.{mostPairs, intervalsFrom, pairsFrom, usedPairs, piecewiseHazard, piecewiseCumulative, pairsAfter};
+ghost use Rattle.hazards.specs.Rates.{intervalsFrom, pairsFrom, usedPairs, piecewiseHazard, piecewiseCumulative, pairsAfter};
 ghost use Rattle.hazards.specs.Rates.{piecewiseWait, constantWait, hazardAt, cumulativeHazard, invertCumulativeHazard};
 
 // A kind with its own rate: the rate of Constant, eta of Gompertz (with b = 0), the trailing rate of PiecewiseConstant.
@@ -202,28 +201,13 @@ fn piecewise_wait<'a>(
     trailing_wait(trailing, start, cur_t, remaining_w)
 }
 
-fn constant_wait(rate: f64, w: f64) -> Wait
+pub fn constant_wait(rate: f64, w: f64) -> Wait
     ensures { λ r. ⌜ r ≡ constantWait rate w ⌝ }
 {
     if rate <= 0.0 {
         Wait::Never
     } else {
         Wait::After(w / rate)
-    }
-}
-
-// The same as invert_cumulative_hazard for a kind that uses no pairs, from whatever age.
-pub fn single_rate_wait(hazard: HazardRate, w: f64) -> Wait
-    ensures { λ r. ⌜ ((p : Intervals) (start : Float) → mostPairs hazard ≡ 0 → r ≡ invertCumulativeHazard hazard p start w) ⌝ }
-{
-    if w <= 0.0 {
-        return Wait::After(0.0);
-    }
-    match hazard {
-        HazardRate::Zero => Wait::Never,
-        HazardRate::Constant(rate) => constant_wait(not_below_zero(rate), w),
-        HazardRate::Gompertz(eta) => constant_wait(eta, w),
-        HazardRate::Piecewise(_) => Wait::Never,
     }
 }
 

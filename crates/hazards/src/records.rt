@@ -3,7 +3,10 @@ ghost use mathlib.Core.Path.{_≡_};
 ghost use Prim.Native.Nat.{_<_};
 ghost use lib.Ieee.{Float};
 ghost use Rattle.hazards.specs.Refusals.{joined, identifierFaultIf, isReserved};
+ghost use Rattle.hazards.specs.Rates.{invertCumulativeHazard};
+ghost use Rattle.hazards.specs.Checks.{rateOfKind, fieldsFrom, hazardFaults};
 ghost use Rattle.hazards.specs.Records.{examinedRecord};
+ghost use Rattle.hazards.specs.declared.rates.Intervals.{Intervals};
 use crate::rates::Wait;
 use crate::refusals::Faults;
 use crate::sampler::CompetingCause;
@@ -21,11 +24,52 @@ fn with_identifier(fields: Faults, cause_id: u32) -> Faults
     fields.joined(crate::refusals::identifier_fault_if(reserved))
 }
 
-// A record of a kind that uses no pairs. None is read at a computed place, so the compiled code makes no copy of them.
-pub fn examined_single_rate(cause: CompetingCause, w: f64) -> Examined
-    ensures { λ r. ⌜ (cause .hazard .kind < 3 → (age : Float) → r ≡ examinedRecord cause age w) ⌝ }
+// hazard_faults of a kind that uses no pairs.
+fn single_rate_faults<'a>(
+    kind: u8,
+    first: f64,
+    count: u8,
+    ends: &'a [f64; 8],
+    rates: &'a [f64; 8],
+) -> Faults
+    requires { ⌜ kind < 3 ⌝ }
+    ensures { λ r. ⌜ r ≡ hazardFaults (fieldsFrom kind first count (now (ends .entry)) (now (rates .entry))) ⌝ }
 {
-    let rate_faults = crate::checks::single_rate_faults(
+    let hazard = crate::checks::rate_of_kind(kind, first);
+    let own = crate::checks::in_range(crate::checks::own_rate(hazard));
+    let none = count == 0;
+    let unused = crate::checks::unused_are_zero(ends, rates, 0);
+    Faults {
+        choice: crate::checks::choice_fault(kind, first),
+        range: !own,
+        intervals: !(none & unused),
+        identifier: false,
+    }
+}
+
+// invert_cumulative_hazard of a kind that uses no pairs, from whatever age.
+fn single_rate_wait(kind: u8, first: f64, w: f64) -> Wait
+    requires { ⌜ kind < 3 ⌝ }
+    ensures { λ r. ⌜ ((p : Intervals) (start : Float) → r ≡ invertCumulativeHazard (rateOfKind kind first) p start w) ⌝ }
+{
+    if w <= 0.0 {
+        return Wait::After(0.0);
+    }
+    if kind == 0 {
+        return Wait::Never;
+    }
+    if kind == 1 {
+        return crate::rates::constant_wait(crate::rates::not_below_zero(first), w);
+    }
+    crate::rates::constant_wait(first, w)
+}
+
+// A record of a kind that uses no pairs. They are read at fixed places only, so the compiled code makes no copy of them.
+fn examined_single_rate(cause: CompetingCause, age: f64, w: f64) -> Examined
+    requires { ⌜ cause .hazard .kind < 3 ⌝ }
+    ensures { λ r. ⌜ r ≡ examinedRecord cause age w ⌝ }
+{
+    let rate_faults = single_rate_faults(
         cause.hazard.kind,
         cause.hazard.first,
         cause.hazard.count,
@@ -33,13 +77,12 @@ pub fn examined_single_rate(cause: CompetingCause, w: f64) -> Examined
         &cause.hazard.rates,
     );
     let faults = with_identifier(rate_faults, cause.cause_id);
-    let hazard = crate::checks::rate_of_kind(cause.hazard.kind, cause.hazard.first);
-    let wait = crate::rates::single_rate_wait(hazard, w);
+    let wait = single_rate_wait(cause.hazard.kind, cause.hazard.first, w);
     Examined { faults, wait }
 }
 
 // A record of any kind.
-pub fn examined_with_pairs(cause: CompetingCause, age: f64, w: f64) -> Examined
+fn examined_with_pairs(cause: CompetingCause, age: f64, w: f64) -> Examined
     ensures { λ r. ⌜ r ≡ examinedRecord cause age w ⌝ }
 {
     let field_faults = crate::checks::hazard_faults(
@@ -60,4 +103,13 @@ pub fn examined_with_pairs(cause: CompetingCause, age: f64, w: f64) -> Examined
         w,
     );
     Examined { faults, wait }
+}
+
+pub fn examined_record(cause: CompetingCause, age: f64, w: f64) -> Examined
+    ensures { λ r. ⌜ r ≡ examinedRecord cause age w ⌝ }
+{
+    if cause.hazard.kind < 3 {
+        return examined_single_rate(cause, age, w);
+    }
+    examined_with_pairs(cause, age, w)
 }

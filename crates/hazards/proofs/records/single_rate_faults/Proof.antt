@@ -1,11 +1,11 @@
--- `checks::single_rate_faults` meets its contract.
+-- `records::single_rate_faults` meets its contract.
 use mathlib.Core.Path.{_∙_, ap}
 use borrow.Author.Needs.{needs}
 use Rattle.hazards.specs.Floats.{inRange}
 use Rattle.hazards.specs.Checks.{fieldsFrom, ownRate}
 use Rattle.hazards.proofs.CheckLaws.{single-rate-is}
-use Rattle.hazards.proofs.checks.single_rate_faults.Statement.{statement}
-use Rattle.hazards.proofs.checks.single_rate_faults.Tie as tie
+use Rattle.hazards.proofs.records.single_rate_faults.Statement.{statement}
+use Rattle.hazards.proofs.records.single_rate_faults.Tie as tie
 
 rate-of-kind-requires : tie.Need-rate-of-kind-requires
 rate-of-kind-requires c κs = search needs
@@ -26,8 +26,7 @@ returns : tie.Need-returns
 returns c =
     let o = c .before .before .before in
     let a = o .before .before .args in
-    λ small.
-    single-rate-is (fieldsFrom (a .kind) (a .first) (a .count) (a .ends .now) (a .rates .now)) small (c .choice-fault .ensures)
+    single-rate-is (fieldsFrom (a .kind) (a .first) (a .count) (a .ends .now) (a .rates .now)) (o .before .before .pre) (c .choice-fault .ensures)
     (c .before .before .in-range .ensures ∙ ap inRange (o .own-rate .ensures ∙ ap ownRate (o .before .rate-of-kind .ensures)))
     (c .before .unused-are-zero .ensures (a .count))
 
