@@ -1,4 +1,4 @@
--- What the sampler's loops and branches come to: the faults of all records, the draws, the candidates in order, and the refusals.
+-- What the sampler's loops and branches come to: a record, the draws, the candidates in order, the event and the refusals.
 use mathlib.Core.Path.{_≡_, refl, sym, _∙_, ap}
 use mathlib.Core.Bool.{Bool, true, false, cond}
 use mathlib.Core.List.{List, [], _∷_}
@@ -8,18 +8,16 @@ use native.Mathlib.Omega.{arith}
 use borrow.Author.Tests.{eq-eqb, ne-eqb, lt-ltb, le-ltb, ltb-false}
 use lib.Dec.{eqb, ltb, eqb·suc-zero}
 use lib.ListN.{length, getD, take, length-take}
-use lib.Seq.{slice}
 use lib.Ieee.{Float, nan}
 use Rattle.hazards.specs.Floats.{isFiniteWait}
 use Rattle.hazards.specs.Lists.{foldl}
 use Rattle.hazards.specs.Refusals.{joined, isReserved, identifierFaultIf, numberOf, tooManyCauses, invalidState}
 use Rattle.hazards.specs.Answers.{noEvent}
 use Rattle.hazards.specs.Checks.{hazardFaults, hazardOf, intervalsOf}
-use Rattle.hazards.specs.declared.checks.HazardFields.{HazardFields}
 use Rattle.hazards.specs.Rates.{invertCumulativeHazard}
 use Rattle.hazards.specs.Draws.{streamLength, thresholdAt, drawAt}
 use Rattle.hazards.specs.Ties.{candidateAfter, tieBreakerOf, earlier, earliest}
-use Rattle.hazards.specs.Sampler.{causeFaults, faultsOfAll, settingsFaults, drawsRefusal, sampleRefusal, inCauseOrder}
+use Rattle.hazards.specs.Sampler.{faultsOfAll, settingsFaults, drawsRefusal, sampleRefusal, inCauseOrder}
 use Rattle.hazards.specs.Sampler.{candidates, censoredAt, sampledEvent, sampleNext}
 use Rattle.hazards.specs.Records.{examinedRecord}
 use Rattle.hazards.specs.Candidates.{candidatesWith}
@@ -31,7 +29,7 @@ use Rattle.hazards.specs.declared.ties.Earliest.{Earliest}
 use Rattle.hazards.specs.declared.answers.Answer.{Answer}
 use Rattle.hazards.specs.declared.sampler.CompetingCause.{CompetingCause}
 use Rattle.hazards.specs.declared.sampler.SampleSettings.{SampleSettings}
-use Rattle.hazards.proofs.ListLaws.{slice-next, slice-none, foldl-append}
+use Rattle.hazards.proofs.ListLaws.{foldl-append}
 use Rattle.hazards.proofs.Pairs.{one-left, none-left}
 
 -- past the end of an array of records
@@ -79,14 +77,6 @@ module _ (stream : List ℕ) (position n i : ℕ) where
 first-zero : (a b : ℕ) → cond (eqb a 0) b a ≡ 0 → a ≡ 0
 first-zero zero b h = refl
 first-zero (suc a) b h = rw (eqb·suc-zero a) at h
-
--- where none fails, the one at i passes
-pub draw-passes : (stream : List ℕ) (position n i : ℕ) → i < n → drawsRefusal stream (position + i) (n - i) ≡ 0
-    → drawAt stream (position + i) .number ≡ 0
-unfolding drawsRefusal
-draw-passes stream position n i h e =
-    first-zero (drawAt stream (position + i) .number) (drawsRefusal stream (suc (position + i)) (n - (i + 1)))
-    (rw (one-left n i h) at e)
 
 -- ---- the number of the draws from any position: it is past the stream, it is not
 

@@ -81,7 +81,7 @@ fn examined_single_rate(cause: CompetingCause, age: f64, w: f64) -> Examined
     Examined { faults, wait }
 }
 
-// A record of any kind.
+// A record of any kind, and the one way for a kind that uses pairs.
 fn examined_with_pairs(cause: CompetingCause, age: f64, w: f64) -> Examined
     ensures { λ r. ⌜ r ≡ examinedRecord cause age w ⌝ }
 {
@@ -105,6 +105,7 @@ fn examined_with_pairs(cause: CompetingCause, age: f64, w: f64) -> Examined
     Examined { faults, wait }
 }
 
+// What is found of a record, whatever its kind.
 pub fn examined_record(cause: CompetingCause, age: f64, w: f64) -> Examined
     ensures { λ r. ⌜ r ≡ examinedRecord cause age w ⌝ }
 {
