@@ -74,10 +74,6 @@ module _ (stream : List ℕ) (position n i : ℕ) where
   unfolding drawsRefusal
   draws-none h = rw (none-left n i h)
 
-first-zero : (a b : ℕ) → cond (eqb a 0) b a ≡ 0 → a ≡ 0
-first-zero zero b h = refl
-first-zero (suc a) b h = rw (eqb·suc-zero a) at h
-
 -- ---- the number of the draws from any position: it is past the stream, it is not
 
 abbrev pub drawnNumber : List ℕ → ℕ → ℕ → ℕ
@@ -162,6 +158,10 @@ event-is causes (suc n) s stream position h e =
     (sym (sampled-some (take (suc n) causes) s stream position (omega (arith, length-take (suc n) causes))))
 
 -- ---- refusals
+
+first-zero : (a b : ℕ) → cond (eqb a 0) b a ≡ 0 → a ≡ 0
+first-zero zero b h = refl
+first-zero (suc a) b h = rw (eqb·suc-zero a) at h
 
 chain-passes : (number d : ℕ) (a b : Bool) → cond (eqb number 0) (cond a tooManyCauses (cond b invalidState d)) number ≡ 0
     → (a ≡ false) × ((b ≡ false) × (d ≡ 0))
