@@ -8,6 +8,7 @@ pub mod DrawLaws
 pub mod EvaluationLaws
 pub mod Exact
 pub mod HazardBounds
+pub mod JoinedFaults
 pub mod Largest
 pub mod Limits
 pub mod ListLaws

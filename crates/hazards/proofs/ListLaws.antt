@@ -1,6 +1,6 @@
 -- Laws of lists: a test of every element, the part from index i up to n, and folds.
 use mathlib.Core.Path.{_≡_, refl, sym, _∙_, ap}
-use mathlib.Core.Bool.{Bool, true, false}
+use mathlib.Core.Bool.{Bool, true, false, _&&_}
 use mathlib.Core.List.{List, [], _∷_, _++_, map}
 use Prim.Native.Nat.{ℕ, zero, suc, _+_, _<_, _≤_, min}
 use native.Mathlib.Numerals.{add-one}
@@ -21,9 +21,20 @@ module _ {A : Type 0} (p : A → Bool) {l xs : List A} {x : A} where
   unfolding all
   all-fails first h = rw (first, h)
 
+  -- with the answer for the elements before
+  pub all-so-far : (before : Bool) {r : Bool} → l ≡ x ∷ xs → r ≡ p x → ((before && r) && all p xs) ≡ (before && all p l)
+  unfolding all
+  all-so-far true first e = rw (e, first)
+  all-so-far false first e = refl
+
 pub all-none : {A : Type 0} (p : A → Bool) {l : List A} → l ≡ [] → all p l ≡ true
 unfolding all
 all-none p none = rw none
+
+pub all-done : {A : Type 0} (p : A → Bool) (before : Bool) {l : List A} → l ≡ [] → (before && all p l) ≡ before
+unfolding all
+all-done p true none = rw none
+all-done p false none = refl
 
 -- ---- the part from i up to n, and the first i + 1 elements
 
@@ -61,6 +72,10 @@ pub set-next : {A : Type 0} (f : ℕ → A) (l : List A) (i : ℕ) (d : A) → i
 set-next f l i d h below =
     below-more (λ (k : ℕ). getD (set l i (f i)) k d ≡ f k) i (λ k m. getD-set-other l i k (f i) d (λ q. omega arith) ∙ below k m)
     (getD-set-same l i (f i) d h)
+
+pub set-next-to : {A : Type 0} (f : ℕ → A) (l : List A) (i : ℕ) (d : A) {x : A} → x ≡ f i → i < length l
+    → ((k : ℕ) → k < i → getD l k d ≡ f k) → (k : ℕ) → k < i + 1 → getD (set l i x) k d ≡ f k
+set-next-to f l i d e h below k m = rw e (set-next f l i d h below k m)
 
 -- ---- folds
 

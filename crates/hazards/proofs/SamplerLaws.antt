@@ -1,25 +1,26 @@
--- What the sampler's loops and branches come to: the faults of all records, the draws, the candidates in order, and the refusals.
+-- What the sampler's loops and branches come to: a record, the draws, the candidates in order, the event and the refusals.
 use mathlib.Core.Path.{_≡_, refl, sym, _∙_, ap}
 use mathlib.Core.Bool.{Bool, true, false, cond}
 use mathlib.Core.List.{List, [], _∷_}
-use Prim.Native.Nat.{ℕ, zero, suc, _+_, _-_, _<_, _≤_}
+use Prim.Native.Nat.{ℕ, zero, suc, _+_, _-_, _<_, _≤_, min}
+use native.Mathlib.Numerals.{add-one}
 use native.Mathlib.Omega.{arith}
 use borrow.Author.Tests.{eq-eqb, ne-eqb, lt-ltb, le-ltb, ltb-false}
 use lib.Dec.{eqb, ltb, eqb·suc-zero}
-use lib.ListN.{length, getD, take}
-use lib.Seq.{slice}
+use lib.ListN.{length, getD, take, length-take}
 use lib.Ieee.{Float, nan}
 use Rattle.hazards.specs.Floats.{isFiniteWait}
 use Rattle.hazards.specs.Lists.{foldl}
 use Rattle.hazards.specs.Refusals.{joined, isReserved, identifierFaultIf, numberOf, tooManyCauses, invalidState}
 use Rattle.hazards.specs.Answers.{noEvent}
 use Rattle.hazards.specs.Checks.{hazardFaults, hazardOf, intervalsOf}
-use Rattle.hazards.specs.declared.checks.HazardFields.{HazardFields}
 use Rattle.hazards.specs.Rates.{invertCumulativeHazard}
 use Rattle.hazards.specs.Draws.{streamLength, thresholdAt, drawAt}
 use Rattle.hazards.specs.Ties.{candidateAfter, tieBreakerOf, earlier, earliest}
-use Rattle.hazards.specs.Sampler.{causeFaults, faultsOfAll, settingsFaults, drawsRefusal, sampleRefusal, inCauseOrder}
+use Rattle.hazards.specs.Sampler.{faultsOfAll, settingsFaults, drawsRefusal, sampleRefusal, inCauseOrder}
 use Rattle.hazards.specs.Sampler.{candidates, censoredAt, sampledEvent, sampleNext}
+use Rattle.hazards.specs.Records.{examinedRecord}
+use Rattle.hazards.specs.Candidates.{candidatesWith}
 use Rattle.hazards.specs.declared.refusals.Faults.{Faults}
 use Rattle.hazards.specs.declared.rates.Wait.{Wait}
 use Rattle.hazards.specs.declared.rates.Wait.the-variants.{After, Never}
@@ -28,7 +29,7 @@ use Rattle.hazards.specs.declared.ties.Earliest.{Earliest}
 use Rattle.hazards.specs.declared.answers.Answer.{Answer}
 use Rattle.hazards.specs.declared.sampler.CompetingCause.{CompetingCause}
 use Rattle.hazards.specs.declared.sampler.SampleSettings.{SampleSettings}
-use Rattle.hazards.proofs.ListLaws.{slice-next, slice-none, foldl-append}
+use Rattle.hazards.proofs.ListLaws.{foldl-append}
 use Rattle.hazards.proofs.Pairs.{one-left, none-left}
 
 -- past the end of an array of records
@@ -39,22 +40,19 @@ noRecord = record {
   hazard = record { kind = 0; first = nan; count = 0; ends = []; rates = [] };
 }
 
--- ---- the faults of one record, from those of its parts
+-- ---- what is found of a record: the faults of its fields and of its id, and its wait
 
-pub cause-faults-are : (id : ℕ) (f : HazardFields) {reserved : Bool} {a b r : Faults} → reserved ≡ isReserved id
-    → a ≡ hazardFaults f → b ≡ identifierFaultIf reserved → r ≡ joined a b → r ≡ joined (hazardFaults f) (identifierFaultIf (isReserved id))
-cause-faults-are id f e₁ e₂ e₃ e₄ = e₄ ∙ rw (e₂, e₃, e₁)
+pub identifier-joined : (f : Faults) (id : ℕ) {reserved : Bool} {b r : Faults} → reserved ≡ isReserved id
+    → b ≡ identifierFaultIf reserved → r ≡ joined f b → r ≡ joined f (identifierFaultIf (isReserved id))
+identifier-joined f id e₁ e₂ e₃ = e₃ ∙ rw (e₂, e₁)
 
--- ---- the faults of all records from i up to n: of the one at i and of the rest, of none
-
-module _ (l : List CompetingCause) (n i : ℕ) where
-  pub faults-next : i < n → n ≤ length l → {a b r : Faults} → a ≡ causeFaults (getD l i noRecord) → b ≡ faultsOfAll (slice (i + 1) n l)
-      → r ≡ joined a b → r ≡ faultsOfAll (slice i n l)
-  unfolding faultsOfAll
-  faults-next h k ea eb er = er ∙ rw (ea, eb, slice-next l n i noRecord h k)
-
-  pub faults-none : n ≤ i → faultsOfAll (slice i n l) ≡ faultsOfAll []
-  faults-none h = rw (slice-none l n i h)
+pub examined-is : (c : CompetingCause) (age w : Float) {a b : Faults} {wait : Wait} → a ≡ hazardFaults (c .hazard)
+    → b ≡ joined a (identifierFaultIf (isReserved (c .«cause_id»)))
+    → wait ≡ invertCumulativeHazard (hazardOf (c .hazard)) (intervalsOf (c .hazard)) age w
+    → record { faults = b; wait = wait } ≡ examinedRecord c age w
+examined-is c age w ea eb ew =
+    let e = eb ∙ ap (λ (f : Faults). joined f (identifierFaultIf (isReserved (c .«cause_id»)))) ea in
+    λ i. record { faults = e i; wait = ew i }
 
 -- ---- draws: the one at i passes, it fails, none is left
 
@@ -76,17 +74,17 @@ module _ (stream : List ℕ) (position n i : ℕ) where
   unfolding drawsRefusal
   draws-none h = rw (none-left n i h)
 
-first-zero : (a b : ℕ) → cond (eqb a 0) b a ≡ 0 → a ≡ 0
-first-zero zero b h = refl
-first-zero (suc a) b h = rw (eqb·suc-zero a) at h
+-- ---- the number of the draws from any position: it is past the stream, it is not
 
--- where none fails, the one at i passes
-pub draw-passes : (stream : List ℕ) (position n i : ℕ) → i < n → drawsRefusal stream (position + i) (n - i) ≡ 0
-    → drawAt stream (position + i) .number ≡ 0
-unfolding drawsRefusal
-draw-passes stream position n i h e =
-    first-zero (drawAt stream (position + i) .number) (drawsRefusal stream (suc (position + i)) (n - (i + 1)))
-    (rw (one-left n i h) at e)
+abbrev pub drawnNumber : List ℕ → ℕ → ℕ → ℕ
+drawnNumber stream position n = cond (ltb (streamLength stream) position) invalidState (drawsRefusal stream position n)
+
+module _ (stream : List ℕ) (position n : ℕ) where
+  pub drawn-past : streamLength stream < position → invalidState ≡ drawnNumber stream position n
+  drawn-past h = rw (lt-ltb (streamLength stream) position h)
+
+  pub drawn-within : position ≤ streamLength stream → {d : ℕ} → d ≡ drawsRefusal stream position n → d ≡ drawnNumber stream position n
+  drawn-within h e = e ∙ rw (le-ltb (streamLength stream) position h)
 
 -- ---- one more candidate: there is no wait, the wait is not finite, it is
 
@@ -106,21 +104,40 @@ module _ (tie : TieBreaker) (best : Earliest) (cause priority : ℕ) (timeOf : F
   unfolding candidateAfter foldl
   candidate-finite e h er = er ∙ rw (e, h)
 
--- ---- the candidates in order: the first record's and the others'
+-- ---- the candidates in order: the first record's and the others', and the same with thresholds that were drawn beforehand
 
-pub candidates-next : (tie : TieBreaker) (best : Earliest) (age : Float) (stream : List ℕ) (position : ℕ) {cs : List CompetingCause}
-    (c : CompetingCause) {rest : List CompetingCause} {w : Float} {next : Earliest} → cs ≡ c ∷ rest → w ≡ thresholdAt stream position
-    → next
-    ≡ foldl (earlier tie) best
-    (candidateAfter (c .«cause_id») (c .priority) (λ t. t) (invertCumulativeHazard (hazardOf (c .hazard)) (intervalsOf (c .hazard)) age w))
-    → foldl (earlier tie) best (candidates cs age stream position) ≡ foldl (earlier tie) next (candidates rest age stream (suc position))
-unfolding candidates
-candidates-next tie best age stream position c {rest} {w} first ew e =
-    rw (first, ← ew)
-    (foldl-append (earlier tie) best
-    (candidateAfter (c .«cause_id») (c .priority) (λ t. t) (invertCumulativeHazard (hazardOf (c .hazard)) (intervalsOf (c .hazard)) age w))
-    (candidates rest age stream (suc position))
-    ∙ ap (λ (b : Earliest). foldl (earlier tie) b (candidates rest age stream (suc position))) (sym e))
+pub candidates-next : (tie : TieBreaker) (best : Earliest) (age : Float) (thresholds : List Float) (k : ℕ) {cs : List CompetingCause}
+    (c : CompetingCause) {rest : List CompetingCause} {wait : Wait} {next : Earliest} → cs ≡ c ∷ rest
+    → wait ≡ examinedRecord c age (getD thresholds k nan) .wait
+    → next ≡ foldl (earlier tie) best (candidateAfter (c .«cause_id») (c .priority) (λ t. t) wait)
+    → foldl (earlier tie) best (candidatesWith cs age thresholds k) ≡ foldl (earlier tie) next (candidatesWith rest age thresholds (k + 1))
+unfolding candidatesWith
+candidates-next tie best age thresholds k c {rest} {wait} first ew e =
+    rw (first, ← ew, ← add-one)
+    (foldl-append (earlier tie) best (candidateAfter (c .«cause_id») (c .priority) (λ t. t) wait) (candidatesWith rest age thresholds (k + 1))
+    ∙ ap (λ (b : Earliest). foldl (earlier tie) b (candidatesWith rest age thresholds (k + 1))) (sym e))
+
+drawn-from : (cs : List CompetingCause) (age : Float) (thresholds : List Float) (k : ℕ) (stream : List ℕ) (position : ℕ)
+    → ((i : ℕ) → i < length cs → getD thresholds (k + i) nan ≡ thresholdAt stream (position + i))
+    → candidatesWith cs age thresholds k ≡ candidates cs age stream position
+unfolding candidatesWith candidates
+drawn-from [] age thresholds k stream position reads = refl
+drawn-from (c ∷ cs) age thresholds k stream position reads =
+    let k₀ : k + 0 ≡ k = omega arith in
+    let p₀ : position + 0 ≡ position = omega arith in
+    let first = rw (k₀, p₀) at (reads 0 (omega arith)) in
+    let others = drawn-from cs age thresholds (suc k) stream (suc position)
+    (λ i h.
+    let kᵢ : k + suc i ≡ suc k + i = omega arith in
+    let pᵢ : position + suc i ≡ suc position + i = omega arith in
+    rw (kᵢ, pᵢ) at (reads (suc i) (omega arith))) in
+    rw (first, others)
+
+pub drawn-candidates : (cs : List CompetingCause) (age : Float) (thresholds : List Float) (stream : List ℕ) (position : ℕ)
+    → ((i : ℕ) → i < length cs → getD thresholds i nan ≡ thresholdAt stream (position + i))
+    → candidatesWith cs age thresholds 0 ≡ candidates cs age stream position
+drawn-candidates cs age thresholds stream position reads =
+    drawn-from cs age thresholds 0 stream position (λ i h. let e : 0 + i ≡ i = omega arith in rw e (reads i h))
 
 pub sampled-some : (cs : List CompetingCause) (s : SampleSettings) (stream : List ℕ) (position : ℕ) → 0 < length cs
     → sampledEvent cs s stream position
@@ -129,7 +146,22 @@ unfolding sampledEvent
 sampled-some [] s stream position h = absurd (let e : 0 < 0 = h in omega arith)
 sampled-some (c ∷ cs) s stream position h = refl
 
+-- no record, or some
+pub event-is : (causes : List CompetingCause) (n : ℕ) (s : SampleSettings) (stream : List ℕ) (position : ℕ) → length causes ≡ 8
+    → {best : Earliest}
+    → best ≡ earliest (tieBreakerOf (s .tie)) (candidates (inCauseOrder (take n causes)) (s .«current_age») stream position)
+    → cond (eqb n 0) (noEvent 0) (censoredAt best s) ≡ sampledEvent (take n causes) s stream position
+unfolding sampledEvent
+event-is causes zero s stream position h e = refl
+event-is causes (suc n) s stream position h e =
+    rw (eqb·suc-zero n, e)
+    (sym (sampled-some (take (suc n) causes) s stream position (omega (arith, length-take (suc n) causes))))
+
 -- ---- refusals
+
+first-zero : (a b : ℕ) → cond (eqb a 0) b a ≡ 0 → a ≡ 0
+first-zero zero b h = refl
+first-zero (suc a) b h = rw (eqb·suc-zero a) at h
 
 chain-passes : (number d : ℕ) (a b : Bool) → cond (eqb number 0) (cond a tooManyCauses (cond b invalidState d)) number ≡ 0
     → (a ≡ false) × ((b ≡ false) × (d ≡ 0))
@@ -141,28 +173,24 @@ chain-passes (suc number) d a b h = absurd (let e : _≡_ {A = ℕ} (suc number)
 abbrev pub faultNumber : List CompetingCause → ℕ → SampleSettings → ℕ
 faultNumber causes n s = numberOf (joined (settingsFaults s) (faultsOfAll (take n causes)))
 
-pub fault-number : (causes : List CompetingCause) (n : ℕ) (s : SampleSettings) {a b j : Faults} {number : ℕ} → a ≡ settingsFaults s
-    → b ≡ faultsOfAll (take n causes) → j ≡ joined a b → number ≡ numberOf j → number ≡ faultNumber causes n s
-fault-number causes n s ea eb ej en = en ∙ rw (ej, ea, eb)
-
 module _ (causes : List CompetingCause) (n : ℕ) (s : SampleSettings) (stream : List ℕ) (position : ℕ) where
-  module _ {number : ℕ} (e : number ≡ faultNumber causes n s) where
-    pub refused-faults : (number ≡ 0 → ⊥) → number ≡ sampleRefusal causes n s stream position
-    unfolding sampleRefusal
-    refused-faults h = rw (← e, ne-eqb number 0 h)
+  -- more than eight records are refused whatever is drawn
+  many-or-few : (b : Bool) → ltb 8 n ≡ b → {d : ℕ} → d ≡ drawnNumber stream position (min n 8)
+      → cond b tooManyCauses d ≡ cond b tooManyCauses (drawnNumber stream position n)
+  many-or-few true many e = refl
+  many-or-few false few e =
+      let m : min n 8 ≡ n = omega (arith, ltb-false 8 n few) in
+      e ∙ ap (drawnNumber stream position) m
 
-    pub refused-many : number ≡ 0 → 8 < n → tooManyCauses ≡ sampleRefusal causes n s stream position
-    unfolding sampleRefusal
-    refused-many h m = rw (← e, eq-eqb number 0 h, lt-ltb 8 n m)
-
-    pub refused-position : number ≡ 0 → n ≤ 8 → streamLength stream < position → invalidState ≡ sampleRefusal causes n s stream position
-    unfolding sampleRefusal
-    refused-position h m p = rw (← e, eq-eqb number 0 h, le-ltb 8 n m, lt-ltb (streamLength stream) position p)
-
-    pub refused-draws : number ≡ 0 → n ≤ 8 → position ≤ streamLength stream
-        → drawsRefusal stream position n ≡ sampleRefusal causes n s stream position
-    unfolding sampleRefusal
-    refused-draws h m p = rw (← e, eq-eqb number 0 h, le-ltb 8 n m, le-ltb (streamLength stream) position p)
+  pub refusal-is : {a b f : Faults} {used d number : ℕ} → a ≡ settingsFaults s → b ≡ faultsOfAll (take n causes) → f ≡ joined a b
+      → used ≡ min n 8 → d ≡ drawnNumber stream position used
+      → number ≡ cond (eqb (numberOf f) 0) (cond (ltb 8 n) tooManyCauses d) (numberOf f)
+      → number ≡ sampleRefusal causes n s stream position
+  unfolding sampleRefusal
+  refusal-is ea eb ef eu ed en =
+      en ∙ rw (ef, ea, eb)
+      (ap (λ (r : ℕ). cond (eqb (faultNumber causes n s) 0) r (faultNumber causes n s))
+      (many-or-few (ltb 8 n) refl (ed ∙ ap (drawnNumber stream position) eu)))
 
   pub passed-faults : sampleRefusal causes n s stream position ≡ 0 → faultNumber causes n s ≡ 0
   unfolding sampleRefusal
@@ -174,6 +202,13 @@ module _ (causes : List CompetingCause) (n : ℕ) (s : SampleSettings) (stream :
   passed-all h =
       let p = chain-passes (faultNumber causes n s) (drawsRefusal stream position n) (ltb 8 n) (ltb (streamLength stream) position) h in
       (ltb-false 8 n (p .0), (ltb-false (streamLength stream) position (p .1 .0), p .1 .1))
+
+  pub drawn-all : sampleRefusal causes n s stream position ≡ 0 → {used d : ℕ} → used ≡ min n 8 → d ≡ drawnNumber stream position used
+      → d ≡ 0
+  drawn-all h eu e =
+      let p = passed-all h in
+      let m : min n 8 ≡ n = omega (arith, p .0) in
+      e ∙ ap (drawnNumber stream position) (eu ∙ m) ∙ sym (drawn-within stream position n (p .1 .0) (sym (p .1 .1)))
 
   -- ---- the answer and the position: refused, passed
 

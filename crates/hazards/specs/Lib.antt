@@ -10,4 +10,6 @@ pub mod Evaluations
 pub mod Draws
 pub mod Ties
 pub mod Sampler
+pub mod Records
+pub mod Candidates
 pub mod Bounds

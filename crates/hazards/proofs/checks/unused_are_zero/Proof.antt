@@ -1,24 +1,24 @@
 -- `checks::unused_are_zero` meets its contract.
+use mathlib.Core.Bool.{_&&_}
 use mathlib.Core.Path.{_≡_, refl, sym, _∙_}
 use Prim.Native.Nat.{ℕ, _-_}
 use native.Mathlib.Omega.{arith}
 use borrow.Author.Needs.{needs}
-use borrow.Author.Tests.{not-true, not-false}
 use Rattle.hazards.specs.Checks.{zeroPair}
 use Rattle.hazards.specs.Lists.{all}
 use Rattle.hazards.specs.Rates.{intervalsFrom, pairsFrom}
-use Rattle.hazards.proofs.ListLaws.{all-next, all-fails, all-none}
+use Rattle.hazards.proofs.ListLaws.{all-so-far, all-done}
 use Rattle.hazards.proofs.Pairs.{pairs-next, pairs-end}
 use Rattle.hazards.proofs.checks.unused_are_zero.Statement.{statement}
 use Rattle.hazards.proofs.checks.unused_are_zero.Tie as tie
 
 abbrev Inv-loop : tie.InvT-loop
-Inv-loop ends rates used i₀ i =
-    (n : ℕ) → all zeroPair (pairsFrom (intervalsFrom ends rates n) i (8 - i))
+Inv-loop ends rates used zero₀ i₀ zero i =
+    (n : ℕ) → (zero && all zeroPair (pairsFrom (intervalsFrom ends rates n) i (8 - i)))
     ≡ all zeroPair (pairsFrom (intervalsFrom ends rates n) used (8 - used))
 
 abbrev μ-loop : tie.MeasureT-loop
-μ-loop ends rates used i₀ i = 8 - i
+μ-loop ends rates used zero₀ i₀ zero i = 8 - i
 
 loop-holds : tie.Need-loop-holds Inv-loop μ-loop
 loop-holds c = λ n. refl
@@ -38,14 +38,6 @@ element-copy-out-zero-pair-2 c = omega arith
 zero-pair-requires : tie.Need-zero-pair-requires Inv-loop μ-loop
 zero-pair-requires c κs = search needs
 
-returns : tie.Need-returns Inv-loop μ-loop
-returns c =
-    let l = c .before .before .before .before .before in
-    let a = l .before .args in
-    λ n.
-    let next = pairs-next (intervalsFrom (a .ends .now) (a .rates .now) n) 8 (l .loop .i) (omega arith) in
-    sym (all-fails zeroPair next (sym (c .before .zero-pair .ensures) ∙ not-true _ (c .if1 .taken))) ∙ l .loop .inv n
-
 add-i : tie.Need-add-i Inv-loop μ-loop
 add-i c = omega arith
 
@@ -54,17 +46,18 @@ loop-less c = omega arith
 
 loop-again : tie.Need-loop-again Inv-loop μ-loop
 loop-again c =
-    let l = c .before .before .before .before .before in
+    let l = c .before .before .before .before in
     let a = l .before .args in
     λ n.
     let next = pairs-next (intervalsFrom (a .ends .now) (a .rates .now) n) 8 (l .loop .i) (omega arith) in
-    sym (all-next zeroPair next (sym (c .before .zero-pair .ensures) ∙ not-false _ (c .if1 .left))) ∙ l .loop .inv n
+    all-so-far zeroPair (l .loop .zero) next (c .zero-pair .ensures) ∙ l .loop .inv n
 
-returns-2 : tie.Need-returns-2 Inv-loop μ-loop
-returns-2 c =
+returns : tie.Need-returns Inv-loop μ-loop
+returns c =
     let l = c .before in
     let a = l .before .args in
-    λ n. sym (all-none zeroPair (pairs-end (intervalsFrom (a .ends .now) (a .rates .now) n) 8 (l .loop .i) (omega arith))) ∙ l .loop .inv n
+    λ n. sym (all-done zeroPair (l .loop .zero) (pairs-end (intervalsFrom (a .ends .now) (a .rates .now) n) 8 (l .loop .i) (omega arith)))
+    ∙ l .loop .inv n
 
 pub unused-are-zero-spec : {M : Type 1} → statement M
 unused-are-zero-spec =
@@ -78,8 +71,7 @@ unused-are-zero-spec =
     mul-zero-pair-2
     element-copy-out-zero-pair-2
     zero-pair-requires
-    returns
     add-i
     loop-less
     loop-again
-    returns-2)
+    returns)

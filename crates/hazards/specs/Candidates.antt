@@ -1,0 +1,26 @@
+-- The sampler's scan of its records, accepted or not, with thresholds that were drawn beforehand.
+use mathlib.Core.List.{List, [], _∷_, _++_}
+use Prim.Native.Nat.{ℕ, suc}
+use lib.ListN.{getD, take}
+use lib.Ieee.{Float, nan}
+use Rattle.hazards.specs.Records.{examinedRecord}
+use Rattle.hazards.specs.Sampler.{faultsOfAll, inCauseOrder}
+use Rattle.hazards.specs.Ties.{candidateAfter, earliest}
+use Rattle.hazards.specs.declared.candidates.Scan.{Scan}
+use Rattle.hazards.specs.declared.sampler.CompetingCause.{CompetingCause}
+use Rattle.hazards.specs.declared.ties.Candidate.{Candidate}
+use Rattle.hazards.specs.declared.ties.TieBreaker.{TieBreaker}
+
+-- each record takes the next threshold, from place k on
+unfoldable pub candidatesWith : List CompetingCause → Float → List Float → ℕ → List Candidate
+candidatesWith [] age thresholds k = []
+candidatesWith (c ∷ cs) age thresholds k =
+    candidateAfter (c .«cause_id») (c .priority) (λ t. t) (examinedRecord c age (getD thresholds k nan) .wait)
+    ++ candidatesWith cs age thresholds (suc k)
+
+-- the faults of the first n records, and the best of their candidates
+abbrev pub scanOf : List CompetingCause → ℕ → TieBreaker → Float → List Float → Scan
+scanOf causes n tie age thresholds = record {
+  faults = faultsOfAll (take n causes);
+  best = earliest tie (candidatesWith (inCauseOrder (take n causes)) age thresholds 0);
+}
