@@ -10,6 +10,5 @@ pub mod Evaluations
 pub mod Draws
 pub mod Ties
 pub mod Sampler
-pub mod Records
-pub mod Candidates
+pub mod SamplerCode
 pub mod Bounds

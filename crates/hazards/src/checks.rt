@@ -129,7 +129,7 @@ fn zero_pair(end: f64, rate: f64) -> bool
 }
 
 // All bits of the pairs from `used` on are zero.
-pub fn unused_are_zero<'a>(ends: &'a [f64; 8], rates: &'a [f64; 8], used: usize) -> bool
+pub(crate) fn unused_are_zero<'a>(ends: &'a [f64; 8], rates: &'a [f64; 8], used: usize) -> bool
     ensures { λ r. ⌜ ((n : ℕ) → r ≡ all zeroPair (pairsFrom (intervalsFrom (now (ends .entry)) (now (rates .entry)) n) used (8 - used))) ⌝ }
 {
     let mut zero = true;
@@ -185,7 +185,7 @@ pub fn rate_of_kind(kind: u8, first: f64) -> HazardRate
 }
 
 // Refusal 4 of a hazard's fields.
-pub fn choice_fault(kind: u8, first: f64) -> bool
+pub(crate) fn choice_fault(kind: u8, first: f64) -> bool
     ensures { λ r. ⌜ r ≡ (ltb 3 kind || (eqb kind 0 && not (zeroBits first))) ⌝ }
 {
     if kind > 3 {

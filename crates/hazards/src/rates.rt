@@ -201,7 +201,7 @@ fn piecewise_wait<'a>(
     trailing_wait(trailing, start, cur_t, remaining_w)
 }
 
-pub fn constant_wait(rate: f64, w: f64) -> Wait
+pub(crate) fn constant_wait(rate: f64, w: f64) -> Wait
     ensures { λ r. ⌜ r ≡ constantWait rate w ⌝ }
 {
     if rate <= 0.0 {

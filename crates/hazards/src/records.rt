@@ -5,7 +5,7 @@ ghost use lib.Ieee.{Float};
 ghost use Rattle.hazards.specs.Refusals.{joined, identifierFaultIf, isReserved};
 ghost use Rattle.hazards.specs.Rates.{invertCumulativeHazard};
 ghost use Rattle.hazards.specs.Checks.{rateOfKind, fieldsFrom, hazardFaults};
-ghost use Rattle.hazards.specs.Records.{examinedRecord};
+ghost use Rattle.hazards.specs.SamplerCode.{examinedRecord};
 ghost use Rattle.hazards.specs.declared.rates.Intervals.{Intervals};
 use crate::rates::Wait;
 use crate::refusals::Faults;
@@ -106,7 +106,7 @@ fn examined_with_pairs(cause: CompetingCause, age: f64, w: f64) -> Examined
 }
 
 // What is found of a record, whatever its kind.
-pub fn examined_record(cause: CompetingCause, age: f64, w: f64) -> Examined
+pub(crate) fn examined_record(cause: CompetingCause, age: f64, w: f64) -> Examined
     ensures { λ r. ⌜ r ≡ examinedRecord cause age w ⌝ }
 {
     if cause.hazard.kind < 3 {

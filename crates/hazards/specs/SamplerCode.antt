@@ -1,15 +1,25 @@
--- The sampler's scan of its records, accepted or not, with thresholds that were drawn beforehand.
+-- What the code's answers mean: what the sampler finds of one record, and of all of them, accepted or not, with thresholds that were drawn
+-- beforehand.
 use mathlib.Core.List.{List, [], _∷_, _++_}
 use Prim.Native.Nat.{ℕ, suc}
 use lib.ListN.{getD, take}
 use lib.Ieee.{Float, nan}
-use Rattle.hazards.specs.Records.{examinedRecord}
-use Rattle.hazards.specs.Sampler.{faultsOfAll, inCauseOrder}
+use Rattle.hazards.specs.Sampler.{faultsOfAll, inCauseOrder, causeFaults}
 use Rattle.hazards.specs.Ties.{candidateAfter, earliest}
+use Rattle.hazards.specs.Checks.{hazardOf, intervalsOf}
+use Rattle.hazards.specs.Rates.{invertCumulativeHazard}
 use Rattle.hazards.specs.declared.candidates.Scan.{Scan}
 use Rattle.hazards.specs.declared.sampler.CompetingCause.{CompetingCause}
 use Rattle.hazards.specs.declared.ties.Candidate.{Candidate}
 use Rattle.hazards.specs.declared.ties.TieBreaker.{TieBreaker}
+use Rattle.hazards.specs.declared.records.Examined.{Examined}
+
+-- a record's faults, and its wait from an age on until its hazard has accumulated w
+abbrev pub examinedRecord : CompetingCause → Float → Float → Examined
+examinedRecord c age w = record {
+  faults = causeFaults c;
+  wait = invertCumulativeHazard (hazardOf (c .hazard)) (intervalsOf (c .hazard)) age w;
+}
 
 -- each record takes the next threshold, from place k on
 unfoldable pub candidatesWith : List CompetingCause → Float → List Float → ℕ → List Candidate
