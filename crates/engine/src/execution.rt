@@ -10,6 +10,18 @@ ghost use Rattle.engine.specs.Execution.{refused, done, holding, isWithd
 ghost use Rattle.engine.specs.Execution.{afterSet, afterReschedule, afterPause, performCreate, performSet, performRemove};
 ghost use Rattle.engine.specs.Execution.{performReschedule, performResume, performPause, performDeliver, performOn, target};
 ghost use Rattle.engine.specs.ExecutionCode.{onSlotOf, Countable};
+use crate::commands::CAUSE_FIELD;
+use crate::commands::CLOCK_FIELD;
+use crate::commands::CREATE;
+use crate::commands::DELIVER;
+use crate::commands::NOW_FIELD;
+use crate::commands::PAUSE;
+use crate::commands::PRIORITY_FIELD;
+use crate::commands::REMOVE;
+use crate::commands::RESCHEDULE;
+use crate::commands::RESUME;
+use crate::commands::SET;
+use crate::commands::byte_at;
 use crate::state::ClockSlot;
 use crate::state::Progress;
 use crate::state::Request;
@@ -179,7 +191,7 @@ fn perform_remove(
         return refuse(slot, progress, JOURNAL_FULL);
     }
     let clock = slot.clock;
-    let after = clock.remove_channel(hazards::fields::u32_at(command, 2));
+    let after = clock.remove_channel(hazards::fields::u32_at(command, CAUSE_FIELD));
     apply(
         after,
         progress,
@@ -231,9 +243,9 @@ fn enqueue(progress: Progress, command: &[u8], present: bool, ticks: Ticks) -> P
         return progress;
     }
     let request = Request {
-        clock: crate::commands::byte_at(command, 1) as usize,
+        clock: byte_at(command, CLOCK_FIELD) as usize,
         ticks,
-        priority: hazards::fields::i32_at(command, 19),
+        priority: hazards::fields::i32_at(command, PRIORITY_FIELD),
         index: progress.request_count,
     };
     crate::queue::put_in(progress, request)
@@ -277,7 +289,7 @@ fn perform_reschedule(
     if number != 0 {
         return refuse(slot, progress, number);
     }
-    let now = hazards::fields::f64_at(command, 2);
+    let now = hazards::fields::f64_at(command, NOW_FIELD);
     let censor = crate::commands::censor_of(command);
     let r = clocks::scheduling::reschedule(slot.clock, now, censor, progress.request_count);
     after_reschedule(slot, progress, journal_length, command, r)
@@ -296,7 +308,7 @@ fn perform_resume(
     if number != 0 {
         return refuse(slot, progress, number);
     }
-    let now = hazards::fields::f64_at(command, 2);
+    let now = hazards::fields::f64_at(command, NOW_FIELD);
     let censor = crate::commands::censor_of(command);
     let r = clocks::scheduling::resume(slot.clock, now, censor, progress.request_count);
     after_reschedule(slot, progress, journal_length, command, r)
@@ -337,7 +349,7 @@ fn perform_pause(
     if number != 0 {
         return refuse(slot, progress, number);
     }
-    let r = clocks::scheduling::pause(slot.clock, hazards::fields::f64_at(command, 2));
+    let r = clocks::scheduling::pause(slot.clock, hazards::fields::f64_at(command, NOW_FIELD));
     after_pause(slot, progress, journal_length, command, r)
 }
 
@@ -368,14 +380,14 @@ fn perform_deliver(
 pub fn target(progress: Progress, command: &[u8]) -> usize
     ensures { λ r. ⌜ r ≡ target progress (now (command .entry)) ⌝ }
 {
-    if crate::commands::byte_at(command, 0) == crate::commands::DELIVER {
+    if byte_at(command, 0) == DELIVER {
         let next = crate::queue::next_request(progress);
         if next.found {
             return next.request.clock;
         }
         return 0;
     }
-    crate::commands::byte_at(command, 1) as usize
+    byte_at(command, CLOCK_FIELD) as usize
 }
 
 // A command but UNDO, on the slot of its clock.
@@ -389,14 +401,14 @@ pub(crate) fn perform_on(
     requires { ⌜ Countable progress ⌝ }
     ensures { λ r. ⌜ onSlotOf r ≡ performOn (now (stream .entry)) «journal_length» slot progress (now (command .entry)) ⌝ }
 {
-    let code = crate::commands::byte_at(command, 0);
+    let code = byte_at(command, 0);
     match code {
-        1 => perform_create(slot, progress, journal_length, command),
-        2 => perform_set(slot, progress, stream, journal_length, command),
-        3 => perform_remove(slot, progress, journal_length, command),
-        4 => perform_reschedule(slot, progress, journal_length, command),
-        5 => perform_pause(slot, progress, journal_length, command),
-        6 => perform_resume(slot, progress, journal_length, command),
+        CREATE => perform_create(slot, progress, journal_length, command),
+        SET => perform_set(slot, progress, stream, journal_length, command),
+        REMOVE => perform_remove(slot, progress, journal_length, command),
+        RESCHEDULE => perform_reschedule(slot, progress, journal_length, command),
+        PAUSE => perform_pause(slot, progress, journal_length, command),
+        RESUME => perform_resume(slot, progress, journal_length, command),
         _ => perform_deliver(slot, progress, journal_length, command),
     }
 }
