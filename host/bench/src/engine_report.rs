@@ -16,16 +16,18 @@ const SESSION_COMMANDS: usize = 1000;
 const SOME_UNDOS: u64 = 10;
 /// UNDO and the last command again, so often for each side: where nothing is replayed, 8 could not be told from none.
 const PAIRS: [usize; 3] = [8, 8, 1024];
-const IN_A_ROW: usize = 8;
+/// A workload of so many commands and undos.
+type Undos = fn(usize, usize) -> EngineWorkload;
 
 const HEAD: &str = "
 The engine's batch run. All sides are given the same bytes and leave the same bytes; nothing is cleared between runs, and
 the journal of a run was written by the run before it.
 Oracle: document 01's rules over the Rust, as written: every state validated, UNDO with a journal of its own and a
 comparison of states. Rust: the same without these, which no run from opening needs; UNDO replays straight from the journal.
-Rattle: no state is validated, UNDO compares none, and an UNDO right after an accepted command replays nothing (all proved
-needless). ratio = the other's time / Rattle's. An undo's time is a run of the commands and of some undos, each followed by
-the command again or one after another, less a run of the commands alone, for one undo.";
+Rattle: no state is validated, and UNDO compares none and replays only where a command needs the state (proved needless).
+ratio = the other's time / Rattle's. An undo's time is a run of n commands and of undos less a run of the n commands alone, for
+one undo: each followed by the command that it took back; 8 in a row, then that command; each after a refused command and
+followed by the command that it took back, so that it needs a replay.";
 
 pub fn print() {
     println!("{HEAD}");
@@ -82,28 +84,24 @@ fn memset(_: &[u8], _: &[u8], journal: &mut [u8], _: &mut [u8], _: &mut [u8]) ->
     0
 }
 
-/// After so many applied commands: an UNDO right after a command, then each of several in a row.
+/// After so many applied commands: an UNDO right after its command, each of several in a row before a command, and one that needs a
+/// replay of its own.
 fn print_undos() {
-    for count in [100, 1000, 5000] {
-        row(
-            &format!("UNDO of the command before it, {count} applied, ns"),
-            added_time(count, PAIRS, workloads::undone),
-        );
-    }
-    for count in [100, 1000, 5000] {
-        row(
-            &format!("each of {IN_A_ROW} UNDOs in a row, {count} applied, ns"),
-            added_time(count, [IN_A_ROW; 3], workloads::reverted),
-        );
+    let kinds: [(&str, [usize; 3], Undos); 3] = [
+        ("UNDO right after its command", PAIRS, workloads::undone),
+        ("each of 8 UNDOs in a row", [8; 3], workloads::reverted),
+        ("UNDO with a replay of its own", [8; 3], workloads::replayed),
+    ];
+    for (name, undos, workload) in kinds {
+        for count in [100, 1000, 5000] {
+            let times = added_time(count, undos, workload);
+            row(&format!("{name}, {count} applied, ns"), times);
+        }
     }
 }
 
 /// For each side, a run of `count` commands and its `added` undos less a run of the commands alone, for one undo.
-fn added_time(
-    count: usize,
-    added: [usize; 3],
-    workload: fn(usize, usize) -> EngineWorkload,
-) -> [f64; 3] {
+fn added_time(count: usize, added: [usize; 3], workload: Undos) -> [f64; 3] {
     let alone = checked_times(&workload(count, 0));
     [0, 1, 2].map(|side| {
         let workload = workload(count, added[side]);

@@ -65,10 +65,26 @@ pub fn undone(count: usize, pairs: usize) -> EngineWorkload {
     EngineWorkload::new(&commands)
 }
 
-/// `count` commands without UNDO, then `undos` times UNDO.
+/// `count` commands without UNDO, then `undos` times UNDO and the command that was the last, which needs the state.
 pub fn reverted(count: usize, undos: usize) -> EngineWorkload {
     let mut commands = mixed_commands(count, 0);
-    commands.extend([Command::Undo].repeat(undos));
+    if undos > 0 {
+        let last = commands[count - 1];
+        commands.extend([Command::Undo].repeat(undos));
+        commands.push(last);
+    }
+    EngineWorkload::new(&commands)
+}
+
+/// `count` commands without UNDO, then so many times a refused command, UNDO and the command that was the last, so that each UNDO needs a replay.
+pub fn replayed(count: usize, undos: usize) -> EngineWorkload {
+    let mut commands = mixed_commands(count, 0);
+    let last = commands[count - 1];
+    let refused = Command::Remove {
+        clock: MACHINES,
+        cause: 0,
+    };
+    commands.extend([refused, Command::Undo, last].repeat(undos));
     EngineWorkload::new(&commands)
 }
 
