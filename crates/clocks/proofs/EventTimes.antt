@@ -10,7 +10,7 @@ use Rattle.hazards.specs.Floats.{z, isFiniteWait}
 use Rattle.hazards.specs.Lists.{foldl}
 use Rattle.hazards.specs.Rates.{invertCumulativeHazard}
 use Rattle.hazards.specs.Ties.{candidateAfter, precedes, earlier, earliest}
-use Rattle.hazards.specs.Bounds.{Upto, largest}
+use Rattle.hazards.proofs.Bounds.{Upto, largest}
 use Rattle.hazards.specs.declared.rates.Wait.{Wait}
 use Rattle.hazards.specs.declared.rates.Wait.the-variants.{After, Never}
 use Rattle.hazards.specs.declared.ties.Candidate.{Candidate}

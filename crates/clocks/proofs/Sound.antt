@@ -8,7 +8,7 @@ use lib.Dec.{T}
 use lib.ListN.{length, drop, replicate}
 use Rattle.hazards.specs.Floats.{isThreshold}
 use Rattle.hazards.specs.Checks.{rangeFault, intervalsFault}
-use Rattle.hazards.specs.Bounds.{Upto, largest}
+use Rattle.hazards.proofs.Bounds.{Upto, largest}
 use Rattle.clocks.specs.Channels.{emptyChannel}
 use Rattle.clocks.specs.Clocks.{usedChannels}
 use Rattle.clocks.specs.Validation.{isFinite, ascendingFrom}

@@ -6,7 +6,7 @@ use lib.Dec.{T}
 use lib.Ieee.{Float}
 use Rattle.hazards.specs.Floats.{isThreshold}
 use Rattle.hazards.specs.Checks.{rangeFault, intervalsFault}
-use Rattle.hazards.specs.Bounds.{Upto, largest}
+use Rattle.hazards.proofs.Bounds.{Upto, largest}
 use Rattle.hazards.proofs.AcceptedHazards.{faultless-sound}
 use Rattle.hazards.proofs.HazardBounds.{settled-upto}
 use Rattle.hazards.proofs.SoundPairs.{sound}

@@ -6,7 +6,7 @@ use Prim.Native.Nat.{ℕ, _-_, _^_, _≤_}
 use lib.Dec.{T}
 use lib.ListN.{length, take, drop}
 use lib.Ieee.{Float}
-use Rattle.hazards.specs.Bounds.{Upto, largest}
+use Rattle.hazards.proofs.Bounds.{Upto, largest}
 use Rattle.clocks.specs.Channels.{onUsed}
 use Rattle.clocks.specs.Clocks.{withChannels, withSchedule}
 use Rattle.clocks.specs.Validation.{ascendingFrom}

@@ -10,7 +10,7 @@ use lib.Ieee.{Float}
 use Rattle.hazards.specs.Floats.{z, isThreshold, isTime}
 use Rattle.hazards.specs.Checks.{rangeFault, intervalsFault}
 use Rattle.hazards.specs.Draws.{drawAt}
-use Rattle.hazards.specs.Bounds.{Upto, largest}
+use Rattle.hazards.proofs.Bounds.{Upto, largest}
 use Rattle.hazards.proofs.Upto.{zero-upto}
 use Rattle.hazards.proofs.Limits.{time-upto}
 use Rattle.hazards.proofs.DrawLaws.{accepted-threshold}

@@ -10,7 +10,7 @@ use lib.Ieee.{Float, nan, inf, fin, lt, le}
 use lib.Ieee.Bits.{is-true}
 use Rattle.hazards.specs.Floats.{isThreshold}
 use Rattle.hazards.specs.Lists.{all}
-use Rattle.hazards.specs.Bounds.{Upto}
+use Rattle.hazards.proofs.Bounds.{Upto}
 use Rattle.hazards.proofs.Upto.{for-fin}
 use Rattle.clocks.specs.Clocks.{usedChannels}
 use Rattle.clocks.specs.Validation.{isFinite, validChannel, ascendingFrom, validClock}

@@ -22,8 +22,8 @@ use Rattle.engine.specs.Instance.{engineOf}
 use Rattle.engine.specs.Comparison.{sameState}
 use Rattle.engine.specs.Parts.{copiedInto, clearedFront}
 use Rattle.engine.specs.ReplayCode.{beforeLast, replayedOf}
-use Rattle.engine.specs.ExecuteCode.{left, Applied, appliedOn, journalAfter, applyOn}
-use Rattle.engine.specs.Answers.{after}
+use Rattle.engine.specs.ExecuteCode.{Applied, appliedOn, journalAfter, applyOn}
+use Rattle.engine.specs.Answers.{after, left}
 use Rattle.engine.specs.declared.execute.Executed.{Executed}
 use Rattle.engine.specs.declared.execution.SlotOutcome.{SlotOutcome}
 use Rattle.engine.specs.declared.replay.Replay.{Replay}
@@ -31,7 +31,6 @@ use Rattle.engine.specs.declared.state.ClockSlot.{ClockSlot}
 use Rattle.engine.specs.declared.state.Progress.{Progress}
 use Rattle.engine.specs.declared.state.EngineState.{EngineState}
 use Rattle.engine.proofs.Asking.{undo-reverts}
-use Rattle.engine.proofs.ComparisonLaws.{state-same}
 use Rattle.engine.proofs.Conjunctions.{both-true}
 use Rattle.engine.proofs.JournalBytes.{restOf, zeroed-part, pasted-part}
 use Rattle.engine.proofs.PartLaws.{copied-whole, cleared-whole}

@@ -1,6 +1,6 @@
 -- An accepted command of a batch run that the next input, an UNDO, reverts: after both, what is left of the run goes on from the state and
 -- the journal before it.
-use mathlib.Core.Path.{_≡_, refl, sym, ap, _∙_, subst}
+use mathlib.Core.Path.{_≡_, refl, sym, ap, _∙_}
 use mathlib.Core.Bool.{Bool, true, false, cond, _&&_}
 use Prim.Native.Nat.{ℕ, _+_, _*_, _<_, _≤_}
 use native.Mathlib.Omega.{arith}
@@ -15,11 +15,10 @@ use Rattle.engine.specs.State.{slotAt, withSlot}
 use Rattle.engine.specs.Journal.{Bytes, code, undo}
 use Rattle.engine.specs.Execution.{performOn, target}
 use Rattle.engine.specs.ExecutionCode.{onSlotOf}
-use Rattle.engine.specs.ExecuteCode.{left}
-use Rattle.engine.specs.Answers.{after}
+use Rattle.engine.specs.Answers.{after, left}
 use Rattle.engine.specs.Instance.{engineOf}
 use Rattle.engine.specs.Run.{Ran}
-use Rattle.engine.specs.RunCode.{answeredBy, answerAt, isReverted, bothAnswered}
+use Rattle.engine.specs.RunCode.{isReverted, bothAnswered}
 use Rattle.engine.specs.declared.execution.SlotOutcome.{SlotOutcome}
 use Rattle.engine.specs.declared.state.ClockSlot.{ClockSlot}
 use Rattle.engine.specs.declared.state.EngineState.{EngineState}

@@ -21,11 +21,10 @@ use Rattle.engine.specs.Journal.{unchanged, answered, undo, execute}
 use Rattle.engine.specs.Instance.{engineOf}
 use Rattle.engine.specs.Validation.{validState}
 use Rattle.engine.specs.ExecutionCode.{onSlotOf}
-use Rattle.engine.specs.ExecuteCode.{left}
 use Rattle.engine.specs.Execution.{performOn, target, perform}
-use Rattle.engine.specs.Run.{Ran, finished, endsRun, executed, runFrom}
-use Rattle.engine.specs.RunCode.{Stop, stop, stopAt, Answered, answeredBy, answerAt, openedRun, endNumber, ran}
-use Rattle.engine.specs.Answers.{AfterInput, after, answerOf}
+use Rattle.engine.specs.Run.{Ran, finished, endsRun, executed, runFrom, ran}
+use Rattle.engine.specs.RunCode.{Stop, stop, stopAt, Answered, answeredBy, answerAt, openedRun, endNumber}
+use Rattle.engine.specs.Answers.{AfterInput, after, answerOf, left}
 use Rattle.engine.specs.declared.execute.Executed.{Executed}
 use Rattle.engine.specs.declared.execution.SlotOutcome.{SlotOutcome}
 use Rattle.engine.specs.declared.state.ClockSlot.{ClockSlot}

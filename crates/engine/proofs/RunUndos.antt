@@ -13,14 +13,13 @@ use Rattle.engine.specs.Refusals.{nothingApplied}
 use Rattle.engine.specs.State.{openedState}
 use Rattle.engine.specs.Journal.{Bytes, Engine, code, ends, replayAll, cleared, undo}
 use Rattle.engine.specs.Instance.{engineOf}
-use Rattle.engine.specs.ExecuteCode.{left}
-use Rattle.engine.specs.Answers.{after}
+use Rattle.engine.specs.Answers.{after, left}
 use Rattle.engine.specs.Run.{Ran}
 use Rattle.engine.specs.RunCode.{openedRun}
 use Rattle.engine.specs.declared.state.EngineState.{EngineState}
 use Rattle.engine.proofs.Asking.{undo-nothing}
 use Rattle.engine.proofs.ExecuteLaws.{onlyNumber, left-refused}
-use Rattle.engine.proofs.RunStates.{Undone, reached-undo, reached-replays, replay-nothing}
+use Rattle.engine.proofs.RunStates.{reached-undo, reached-replays, replay-nothing}
 use Rattle.engine.proofs.RunTurns.{Running, Input, running-begins, next-undo}
 
 module _ (bytes stream : Bytes) (n size : ℕ) (all : Ran) where

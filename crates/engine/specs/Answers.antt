@@ -5,6 +5,7 @@ use Rattle.hazards.specs.Answers.{noEvent}
 use Rattle.hazards.specs.declared.answers.Answer.{Answer}
 use Rattle.engine.specs.Journal.{Bytes, Reply, refusal, reverted, answered, Outcome}
 use Rattle.engine.specs.Instance.{engineOf}
+use Rattle.engine.specs.declared.execute.Executed.{Executed}
 use Rattle.engine.specs.declared.state.EngineState.{EngineState}
 
 -- a refusal has its number and zero elsewhere, an accepted UNDO is all zero
@@ -21,3 +22,7 @@ pub record AfterInput : Type 0 where
 
 abbrev pub after : (stream : List ℕ) (n : ℕ) → Outcome (engineOf stream n) → AfterInput
 after stream n o = record { answer = answerOf (o .reply); state = o .state; journal = o .journal }
+
+-- as the code returns it: the answer and the state, and the journal that it was lent
+abbrev pub left : Executed → Bytes → AfterInput
+left r journal = record { answer = r .answer; state = r .state; journal = journal }

@@ -1,20 +1,13 @@
--- What the code's answers mean: what executing one input leaves, and one command on the slot of its clock.
-use Prim.Native.Nat.{ℕ, _≤_}
+-- What the code's answers mean: one command on the slot of its clock, and the journal after it.
+use Prim.Native.Nat.{_≤_}
 use lib.ListN.{length}
 use lib.Seq.{paste}
 use Rattle.engine.specs.Journal.{Bytes}
-use Rattle.engine.specs.Answers.{AfterInput}
 use Rattle.engine.specs.Execution.{OnSlot, refused, done, performOn}
 use Rattle.engine.specs.ExecutionCode.{onSlotOf, Countable}
-use Rattle.engine.specs.declared.execute.Executed.{Executed}
 use Rattle.engine.specs.declared.execution.SlotOutcome.{SlotOutcome}
 use Rattle.engine.specs.declared.state.ClockSlot.{ClockSlot}
 use Rattle.engine.specs.declared.state.Progress.{Progress}
-use Rattle.engine.specs.declared.state.EngineState.{EngineState}
-
--- what one input leaves, as the code returns it
-abbrev pub left : Executed → Bytes → AfterInput
-left r journal = record { answer = r .answer; state = r .state; journal = journal }
 
 -- the outcome of a command on the slot of its clock, and the journal
 pub record Applied : Type 0 where

@@ -110,7 +110,7 @@ module _ (E : Engine) where
     ends : E .State → E .State → ℕ → Replayed
 
   -- the bytes run as commands, one after another, from s at the place `at`; `before` and `last` are the state before the last command run
-  -- and its place
+  -- and its place. The first number bounds the commands: each takes a byte or more, so the bytes' length is enough
   unfoldable pub replayFrom : ℕ → E .State → E .State → ℕ → ℕ → Bytes → Replayed
   replayFrom zero s before last at [] = ends s before last
   replayFrom zero s before last at (b ∷ bs) = fails

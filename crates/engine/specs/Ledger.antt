@@ -37,7 +37,7 @@ abbrev pub nextPending : (ℕ → Row) → ℕ → Option Request
 nextPending f zero = none
 nextPending f (suc k) = earlierOf (nextPending f k) (f k .pending)
 
--- a clock's row after a withdrawal: its pending request is taken off
+-- a clock's row after a withdrawal: its pending request is removed
 abbrev pub withdrawnRow : Row → Row
 withdrawnRow r = record { made = r .made; withdrawn = r .withdrawn + 1; delivered = r .delivered; pending = none }
 
@@ -45,7 +45,7 @@ withdrawnRow r = record { made = r .made; withdrawn = r .withdrawn + 1; delivere
 abbrev pub requestedRow : Row → Request → Row
 requestedRow r request = record { made = r .made + 1; withdrawn = r .withdrawn; delivered = r .delivered; pending = some request }
 
--- after a delivery: its pending request is taken off
+-- after a delivery: its pending request is removed
 abbrev pub deliveredRow : Row → Row
 deliveredRow r = record { made = r .made; withdrawn = r .withdrawn; delivered = r .delivered + 1; pending = none }
 

@@ -7,7 +7,7 @@ use lib.ListN.{length, take}
 use Rattle.engine.specs.Commands.{widthOf}
 use Rattle.engine.specs.Commands as commands
 use Rattle.engine.specs.State.{withSlot}
-use Rattle.engine.specs.Journal.{Bytes, Replayed, fails, ends, replayAll, code}
+use Rattle.engine.specs.Journal.{Bytes, Replayed, fails, ends, code}
 use Rattle.engine.specs.Execution.{target}
 use Rattle.engine.specs.Instance.{engineOf}
 use Rattle.engine.specs.declared.replay.FrontCommand.{FrontCommand}

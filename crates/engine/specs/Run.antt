@@ -21,6 +21,10 @@ pub record Ran : Type 0 where
   pub answers : Bytes
   pub result : Bytes
 
+-- as the code leaves them: the number that it returns, and the buffers that it was lent
+abbrev pub ran : ℕ → Bytes → Bytes → Bytes → Ran
+ran number journal answers result = record { number = number; journal = journal; answers = answers; result = result }
+
 -- the result: commands answered u64, bytes read u64
 abbrev pub finished : ℕ → Bytes → Bytes → ℕ → ℕ → Ran
 finished number journal answers answered read = record {
@@ -38,7 +42,8 @@ endsRun number = eqb number noCommand || eqb number cutShort
 abbrev pub executed : Bytes → EngineState → Bytes → Bytes → AfterInput
 executed stream state journal input = after stream (length journal) (execute (engineOf stream (length journal)) state journal input)
 
--- 17 if under an answer's bytes are left for a command, which is not executed
+-- 17 if under an answer's bytes are left for a command, which is not executed. `turns` bounds the commands: each takes a byte or more, so
+-- the list's length is enough, and the run ends at the list's end.
 unfoldable pub runFrom : ℕ → Bytes → EngineState → Bytes → Bytes → ℕ → ℕ → Bytes → Ran
 runFrom zero stream state journal answers answered read rest = finished 0 journal answers answered read
 runFrom (suc turns) stream state journal answers answered read [] = finished 0 journal answers answered read

@@ -1,5 +1,4 @@
--- What the code's answers mean: a batch run as the code leaves it, and its parts: what ends it before an input, one command answered, and
--- the run from opening.
+-- What the code's answers mean: a batch run in its parts: what ends it before an input, one command answered, and the run from opening.
 use mathlib.Core.Bool.{Bool, cond, _&&_}
 use mathlib.Core.List.{_++_}
 use Prim.Native.Nat.{ℕ, _+_, _*_}
@@ -15,10 +14,6 @@ use Rattle.engine.specs.State.{openedState}
 use Rattle.engine.specs.Commands as commands
 use Rattle.engine.specs.Journal.{Bytes, code}
 use Rattle.engine.specs.Run.{Ran, runFrom}
-
--- what the run leaves, as the code returns it
-abbrev pub ran : ℕ → Bytes → Bytes → Bytes → Ran
-ran number journal answers result = record { number = number; journal = journal; answers = answers; result = result }
 
 -- the number that ends a run, or 0, with the answers and the result
 pub record Stop : Type 0 where

@@ -11,8 +11,8 @@ module _ (E : Engine) where
     pub journal : Bytes
     pub applied : List Bytes
 
-  -- only accepted commands but UNDO are applied: each, cut to its width, goes to the end of those that are; an accepted UNDO takes the
-  -- last of them off, and a refused input leaves them
+  -- only accepted commands but UNDO are applied: each, cut to its width, goes to the end of those that are; an accepted UNDO removes
+  -- the last of them, and a refused input leaves them
   abbrev pub appliedAfter : Reply (E .Answer) → Bytes → List Bytes → List Bytes
   appliedAfter (refusal n) i cs = cs
   appliedAfter reverted i cs = init cs

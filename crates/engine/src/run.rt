@@ -7,12 +7,16 @@ ghost use lib.Dec.{eqb};
 ghost use lib.ListN.{length, replicate};
 ghost use Rattle.hazards.specs.Fields.{bytesOf};
 ghost use Rattle.engine.specs.Refusals.{nothingApplied};
-ghost use Rattle.engine.specs.Run.{runOf};
-ghost use Rattle.engine.specs.RunCode.{ran, stop, endNumber, stopAt, answeredBy, answerAt, isReverted, bothAnswered, openedRun};
+ghost use Rattle.engine.specs.Run.{runOf, ran};
+ghost use Rattle.engine.specs.RunCode.{stop, endNumber, stopAt, answeredBy, answerAt, isReverted, bothAnswered, openedRun};
 use crate::execution::perform_on;
+use hazards::answers::ANSWER_WIDTH;
 use hazards::answers::Answer;
 use hazards::answers::no_event;
 use hazards::answers::put_answer;
+
+// Room for a command's answer and that of an UNDO after it.
+const TWO_ANSWERS: usize = 2 * ANSWER_WIDTH;
 
 pub const ANSWERS_FULL: u8 = 17;
 
@@ -61,8 +65,8 @@ fn end_run(input: &[u8], answers: &mut [u8], result: &mut [u8], answered: usize,
     ensures { λ r. ⌜ stop r (now (answers .exit)) (now (result .exit))
         ≡ stopAt (now (input .entry)) (now (answers .entry)) (now (result .entry)) answered read ⌝ }
 {
-    let place = 32 * answered;
-    if answers.len() - place < 32 {
+    let place = ANSWER_WIDTH * answered;
+    if answers.len() - place < ANSWER_WIDTH {
         finish(result, answered, read);
         return ANSWERS_FULL;
     }
@@ -116,11 +120,11 @@ fn answer_reverted(
     if crate::commands::byte_at(rest, 0) != crate::commands::UNDO {
         return false;
     }
-    if answers.len() - place < 64 {
+    if answers.len() - place < TWO_ANSWERS {
         return false;
     }
     put_answer(answers, place, answer);
-    put_answer(answers, place + 32, no_event(0));
+    put_answer(answers, place + ANSWER_WIDTH, no_event(0));
     true
 }
 
@@ -158,7 +162,7 @@ fn run_commands(
         if number != 0 {
             return number;
         }
-        let place = 32 * answered;
+        let place = ANSWER_WIDTH * answered;
         let start = at;
         let code = commands[start];
         at = start + crate::commands::width(code);

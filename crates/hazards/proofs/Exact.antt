@@ -12,7 +12,7 @@ use lib.Ieee.{Float, nan, inf, fin, binary64, up, down, round, add, le, fits}
 use lib.Ieee.Fits.{and-l, and-r, down-pos}
 use lib.Ieee.Exact.{HasValue, round-exact}
 use lib.Ieee.Order.{round-mono, transfer}
-use Rattle.hazards.specs.Bounds.{Upto}
+use Rattle.hazards.proofs.Bounds.{Upto}
 use Rattle.hazards.proofs.Signs.{Signed}
 use Rattle.hazards.proofs.Upto.{for-fins, own-upto}
 use Rattle.hazards.proofs.UptoOrder.{le→cross, cross→le}

@@ -13,7 +13,7 @@ use Rattle.hazards.specs.Checks.{ownRate}
 use Rattle.hazards.specs.declared.rates.HazardRate.{HazardRate}
 use Rattle.hazards.specs.declared.rates.HazardRate.the-variants.{Zero, Constant, Gompertz, Piecewise}
 use Rattle.hazards.specs.declared.rates.Intervals.{Intervals}
-use Rattle.hazards.specs.Bounds.{Upto, largest}
+use Rattle.hazards.proofs.Bounds.{Upto, largest}
 use Rattle.hazards.proofs.Upto.{wider, zero-upto, either-upto}
 use Rattle.hazards.proofs.UptoOrder.{lt-le, not-le, zero-le-upto}
 use Rattle.hazards.proofs.UptoOperations.{add-upto, mul-upto, sub-upto}

@@ -11,7 +11,7 @@ use lib.Pow.{pow-add, pow-pos, pow-mono, le-ones}
 use lib.Ieee.{Float, nan, inf, fin, binary64, up, down, add, sub, lt, le, fits}
 use lib.Ieee.Fits.{and-l, and-r}
 use Rattle.hazards.specs.Floats.{z, isFiniteWait}
-use Rattle.hazards.specs.Bounds.{Upto, largest}
+use Rattle.hazards.proofs.Bounds.{Upto, largest}
 use Rattle.hazards.proofs.Upto.{lands}
 use Rattle.hazards.proofs.UptoOrder.{nothing-le}
 use Rattle.hazards.proofs.UptoOperations.{add-upto, sub-upto}

@@ -2,6 +2,7 @@
 pub mod AcceptedFlags
 pub mod AcceptedHazards
 pub mod AnswerBytes
+pub mod Bounds
 pub mod Bytes
 pub mod CheckLaws
 pub mod DrawLaws

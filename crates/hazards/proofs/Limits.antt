@@ -8,7 +8,7 @@ use lib.Dec.{T, ltb, ltb→lt}
 use lib.Ieee.{Float, nan, inf, fin, binary64, up, down, size, round, toBits, le}
 use lib.Ieee.Fits.{and-l, and-r}
 use Rattle.hazards.specs.Floats.{z, limit, minusLimit, mostThreshold, notBelowZero, inRange, isTime}
-use Rattle.hazards.specs.Bounds.{Upto, largest}
+use Rattle.hazards.proofs.Bounds.{Upto, largest}
 use Rattle.hazards.proofs.Upto.{lands}
 use Rattle.hazards.proofs.UptoOrder.{upto-le}
 use Rattle.hazards.proofs.UptoClamped.{clamped-below, positive-upto}

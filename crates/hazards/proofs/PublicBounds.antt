@@ -21,7 +21,7 @@ use Rattle.hazards.specs.Draws.{thresholdAt}
 use Rattle.hazards.specs.Ties.{candidateAfter, tieBreakerOf, precedes, earlier, earliest}
 use Rattle.hazards.specs.Sampler.{faultsOfAll, settingsFaults, sampleRefusal, inCauseOrder, candidates, censoredAt, sampledEvent}
 use Rattle.hazards.specs.Sampler.{sampleNext}
-use Rattle.hazards.specs.Bounds.{Upto}
+use Rattle.hazards.proofs.Bounds.{Upto}
 use Rattle.hazards.proofs.Signs.{NotBelow, Signed}
 use Rattle.hazards.specs.declared.checks.HazardFields.{HazardFields}
 use Rattle.hazards.specs.declared.evaluations.Evaluation.{Evaluation}

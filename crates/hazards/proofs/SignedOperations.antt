@@ -8,7 +8,7 @@ use lib.IntN.{ℤ}
 use lib.Dec.{T, eqb, ltb→lt, eqb→eq}
 use lib.Ieee.{Float, nan, inf, fin, binary64, up, down, round, add, sub, div, lt, le}
 use Rattle.hazards.specs.Floats.{z}
-use Rattle.hazards.specs.Bounds.{Upto}
+use Rattle.hazards.proofs.Bounds.{Upto}
 use Rattle.hazards.proofs.Signs.{Signed}
 use Rattle.hazards.proofs.Upto.{for-fin, for-fins, own-upto}
 use Rattle.hazards.proofs.UptoOperations.{round-signed, sub-up-is}

@@ -13,7 +13,7 @@ use Rattle.hazards.specs.Checks.{ownRate, ascending}
 use Rattle.hazards.specs.declared.rates.HazardRate.{HazardRate}
 use Rattle.hazards.specs.declared.rates.HazardRate.the-variants.{Piecewise}
 use Rattle.hazards.specs.declared.rates.Intervals.{Intervals}
-use Rattle.hazards.specs.Bounds.{Upto}
+use Rattle.hazards.proofs.Bounds.{Upto}
 use Rattle.hazards.proofs.UptoOrder.{not-le-lt, above-upto}
 use Rattle.hazards.proofs.Limits.{limit-upto}
 

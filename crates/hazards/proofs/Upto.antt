@@ -9,7 +9,7 @@ use lib.Ieee.{Float, nan, inf, fin, binary64, up, down, round}
 use lib.Ieee.Fits.{down-pos}
 use lib.Ieee.Positive.{num, den}
 use Rattle.hazards.specs.Floats.{z}
-use Rattle.hazards.specs.Bounds.{upto, Upto}
+use Rattle.hazards.proofs.Bounds.{upto, Upto}
 
 -- what holds of every finite value with a clear sign holds of x
 pub for-fin : (P : Float → Type 0) → ((m : ℕ) (e : ℤ) → P (fin false m e)) → {b : ℕ} {x : Float} → Upto b x → P x

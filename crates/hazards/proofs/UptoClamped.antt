@@ -10,7 +10,7 @@ use lib.Dec.{T, T-not, ltb, eqb, lt→ltb}
 use lib.Ieee.{Float, nan, inf, fin, binary64, up, down, sub, lt, le}
 use lib.Ieee.Positive.{num, den}
 use Rattle.hazards.specs.Floats.{z, notBelowZero}
-use Rattle.hazards.specs.Bounds.{Upto}
+use Rattle.hazards.proofs.Bounds.{Upto}
 use Rattle.hazards.proofs.Signs.{Signed}
 use Rattle.hazards.proofs.Upto.{for-fin, zero-upto, either-upto, lands}
 use Rattle.hazards.proofs.UptoOrder.{or-l, upto-le}

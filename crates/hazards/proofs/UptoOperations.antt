@@ -12,7 +12,7 @@ use lib.Ieee.Fits.{round-is}
 use lib.Ieee.Order.{round-mono}
 use lib.Ieee.Bits.{cond-no}
 use lib.Ieee.Positive.{num, den, den-pos}
-use Rattle.hazards.specs.Bounds.{Upto}
+use Rattle.hazards.proofs.Bounds.{Upto}
 use Rattle.hazards.proofs.Signs.{Signed}
 use Rattle.hazards.proofs.Upto.{for-fins, num-upto, lands}
 use Rattle.hazards.proofs.UptoOrder.{le→cross, upto-le}

@@ -12,7 +12,7 @@ use lib.Ieee.{Float, nan, inf, fin, up, down, lt, le}
 use lib.Ieee.Fits.{down-pos, and-i, and-l, eq→eqb}
 use lib.Ieee.Positive.{num, den, den-pos, through}
 use Rattle.hazards.specs.Floats.{z}
-use Rattle.hazards.specs.Bounds.{Upto}
+use Rattle.hazards.proofs.Bounds.{Upto}
 use Rattle.hazards.proofs.Signs.{Signed}
 use Rattle.hazards.proofs.Upto.{for-fin, for-fins, num-upto, zero-upto}
 

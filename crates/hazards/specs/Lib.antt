@@ -11,4 +11,3 @@ pub mod Draws
 pub mod Ties
 pub mod Sampler
 pub mod SamplerCode
-pub mod Bounds

@@ -12,8 +12,7 @@ use Rattle.engine.specs.Commands.{widthOf}
 use Rattle.engine.specs.Journal.{Engine, code, reject, classify, execute}
 use Rattle.engine.specs.Validation.{validState}
 use Rattle.engine.specs.Instance.{engineOf}
-use Rattle.engine.specs.ExecuteCode.{left}
-use Rattle.engine.specs.Answers.{after}
+use Rattle.engine.specs.Answers.{after, left}
 use Rattle.engine.specs.declared.execute.Executed.{Executed}
 use Rattle.engine.proofs.Asking.{asks-invalid, asks-nothing, asks-no-command, asks-part, asks-undo, asks-command}
 use Rattle.engine.proofs.Asking.{execute-rejects, execute-undo}

@@ -1,9 +1,8 @@
 -- `replay::revert` meets its contract.
-use mathlib.Core.Path.{_≡_, sym, ap, _∙_}
+use mathlib.Core.Path.{sym}
 use Prim.Native.Nat.{_≤_}
 use native.Mathlib.Omega.{arith}
 use borrow.Author.Needs.{needs}
-use lib.ListN.{length, take}
 use lib.Seq.{length-take-le}
 use Rattle.engine.proofs.ExecuteLaws.{cleared-journal}
 use Rattle.engine.proofs.replay.revert.Statement.{statement}

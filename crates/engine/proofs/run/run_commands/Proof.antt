@@ -2,11 +2,10 @@
 use mathlib.Core.Logic.{⊎-elim}
 use mathlib.Core.List.{List}
 use mathlib.Core.Path.{_≡_, refl, sym, ap, _∙_, subst}
-use mathlib.Core.Bool.{Bool, cond}
+use mathlib.Core.Bool.{cond}
 use Prim.Native.Nat.{ℕ, _+_, _-_, _*_, _<_, _≤_, _^_}
 use native.Mathlib.Omega.{arith}
 use borrow.Author.Needs.{needs}
-use borrow.Author.Tests.{eq-eqb, ne-eqb}
 use lib.Dec.{eqb}
 use lib.ListN.{length, getD, drop}
 use lib.Seq.{length-take-le}
@@ -16,7 +15,8 @@ use Rattle.engine.specs.Commands as commands
 use Rattle.engine.specs.Commands.{widthOf}
 use Rattle.engine.specs.State.{emptySlot, slotAt}
 use Rattle.engine.specs.Journal.{code}
-use Rattle.engine.specs.RunCode.{ran, answeredBy, answerAt, openedRun}
+use Rattle.engine.specs.Run.{ran}
+use Rattle.engine.specs.RunCode.{answeredBy, answerAt, openedRun}
 use Rattle.engine.specs.declared.state.ClockSlot.{ClockSlot}
 use Rattle.engine.specs.declared.state.EngineState.{EngineState}
 use Rattle.engine.proofs.Good.{Good}
