@@ -56,6 +56,10 @@ fn main() -> ExitCode {
             return ExitCode::FAILURE;
         }
     }
+    if [tally.by_1, tally.by_13, tally.inexpressible].contains(&0) {
+        println!("seed {seed}: {tally}: a kind of refusal did not occur");
+        return ExitCode::FAILURE;
+    }
     println!("seed {seed}: the fixed sessions and {count} random ones, {tally}, no difference");
     ExitCode::SUCCESS
 }
