@@ -201,7 +201,7 @@ pub(crate) fn revert(journal: &mut [u8], applied: usize) -> usize
     place
 }
 
-// The state after applied commands that none refuses.
+// The state after applied commands, none of which is refused.
 pub(crate) fn replayed(stream: &[u8], journal_length: usize, bytes: &[u8]) -> EngineState
     requires { ⌜ «journal_length» < 2 ^ 63 ⌝ }
     ensures { λ r. ⌜ ((s before : EngineState) (last : ℕ)

@@ -25,16 +25,18 @@ pub struct Coverage {
 impl Coverage {
     pub fn add(&mut self, session: &Session) {
         let outcome = session.expected();
-        let steps = session.steps();
-        let steps = &steps[..answered(&outcome).min(steps.len())];
+        let all = session.steps();
+        let (steps, unanswered) = all.split_at(answered(&outcome).min(all.len()));
         for step in steps {
             count(&mut self.numbers, step.answer.number);
         }
         if outcome.number >= Refusal::AnswersFull.number() {
             count(&mut self.numbers, outcome.number);
         }
-        let shown = of_buffers(session, &outcome);
-        for (name, is_shown) in shown.into_iter().chain(of_steps(steps)) {
+        let mut shown = of_buffers(session, &outcome);
+        shown.extend(of_steps(steps));
+        shown.extend(of_undos(steps, unanswered));
+        for (name, is_shown) in shown {
             if is_shown {
                 count(&mut self.sessions, name);
             }
@@ -88,6 +90,29 @@ fn of_steps(steps: &[Step]) -> Shown {
         ("queue full", some(&|step| queued(step) == CLOCKS)),
         ("damaged field", some(&damaged)),
         ("extreme float", some(&|s| accepted(s, has_extreme_float))),
+    ]
+}
+
+/// UNDOs by what stands before and after them: an engine may take an UNDO together with the command before it, and put a replay off.
+fn of_undos(steps: &[Step], unanswered: &[Step]) -> Shown {
+    let is_command = |step: &Step| accepted(step, |command| !is_undo(command));
+    let is_reverted = |step: &Step| accepted(step, is_undo);
+    let goes_on = |step: &Step| step.command.as_ref().is_some_and(|c| !is_undo(c));
+    let some = |length, test: &dyn Fn(&[Step]) -> bool| steps.windows(length).any(test);
+    let at_once = |s: &[Step]| is_command(&s[0]) && is_reverted(&s[1]);
+    let in_a_row = |s: &[Step]| s.iter().all(is_reverted);
+    let replayed = |s: &[Step]| !is_command(&s[0]) && is_reverted(&s[1]) && goes_on(&s[2]);
+    let next_is_undo = unanswered
+        .first()
+        .is_some_and(|s| s.command == Some(Command::Undo));
+    vec![
+        ("undo at once", some(2, &at_once)),
+        ("undos in a row", some(3, &in_a_row)),
+        ("undo to replay", some(3, &replayed)),
+        (
+            "no room for an undo",
+            steps.last().is_some_and(is_command) && next_is_undo,
+        ),
     ]
 }
 

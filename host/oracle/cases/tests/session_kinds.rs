@@ -10,10 +10,14 @@ const SEED: u64 = 20_261_115;
 const SESSIONS: usize = 4000;
 
 /// Each with the least number of sessions among the random ones that show it.
-const KINDS: [(&str, usize); 19] = [
+const KINDS: [(&str, usize); 23] = [
     ("many undos", 100),
     ("undone draw", 100),
     ("undone request", 100),
+    ("undo at once", 100),
+    ("undos in a row", 100),
+    ("undo to replay", 100),
+    ("no room for an undo", 10),
     ("tie", 100),
     ("by priority", 50),
     ("by index", 50),
