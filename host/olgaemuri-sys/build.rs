@@ -1,5 +1,5 @@
-//! Links libengine.a. Makes it by `rt staticlib engine` where target/staticlib/libengine.a is missing or older than what it is
-//! made from. OLGAEMURI_LIB_DIR is the full path of a folder that holds a finished libengine.a instead.
+//! Links libolgaemuri.a. Makes it by `rt staticlib olgaemuri` where target/staticlib/libolgaemuri.a is missing or older than what it is
+//! made from. OLGAEMURI_LIB_DIR is the full path of a folder that holds a finished libolgaemuri.a instead.
 
 use std::env;
 use std::fs::{self, File};
@@ -9,24 +9,29 @@ use std::process::{self, Command};
 use std::time::SystemTime;
 
 /// What the library is made from, below the repository's root.
-const CRATES: [&str; 3] = ["crates/engine", "crates/clocks", "crates/hazards"];
+const CRATES: [&str; 4] = [
+    "crates/olgaemuri",
+    "crates/engine",
+    "crates/clocks",
+    "crates/hazards",
+];
 const PARTS: [&str; 3] = ["src", "specs", "proofs"];
 
-const TO_INSTALL: &str = "libengine.a is made by the Rattle kit: install the kit, so that its command `rt` is on the PATH, and build \
-    again, or set OLGAEMURI_LIB_DIR to a folder that has a libengine.a";
+const TO_INSTALL: &str = "libolgaemuri.a is made by the Rattle kit: install the kit, so that its command `rt` is on the PATH, and build \
+    again, or set OLGAEMURI_LIB_DIR to a folder that has a libolgaemuri.a";
 
 fn main() {
     println!("cargo::rerun-if-env-changed=OLGAEMURI_LIB_DIR");
     let manifest = PathBuf::from(env::var_os("CARGO_MANIFEST_DIR").expect("set by cargo"));
     let folder =
         env::var_os("OLGAEMURI_LIB_DIR").map_or_else(|| made_folder(&manifest), PathBuf::from);
-    let library = folder.join("libengine.a");
+    let library = folder.join("libolgaemuri.a");
     if !library.is_file() {
         fail(&format!("there is no {}; {TO_INSTALL}", library.display()));
     }
     println!("cargo::rerun-if-changed={}", library.display());
     println!("cargo::rustc-link-search=native={}", folder.display());
-    println!("cargo::rustc-link-lib=static=engine");
+    println!("cargo::rustc-link-lib=static=olgaemuri");
     println!("cargo::rustc-env=OLGAEMURI_LIB_DIR={}", folder.display());
     println!(
         "cargo::metadata=include={}",
@@ -49,7 +54,7 @@ fn made_folder(manifest: &Path) -> PathBuf {
     let folder = root.join("target/staticlib");
     // two builds at the same time make it once; held to the end of this function
     let _lock = locked(&root.join("target"));
-    let made = modified(&folder.join("libengine.a"));
+    let made = modified(&folder.join("libolgaemuri.a"));
     let newest = sources.iter().filter_map(|source| newest(source)).max();
     if made.is_none() || made < newest {
         make(&root, made.is_some());
@@ -60,7 +65,7 @@ fn made_folder(manifest: &Path) -> PathBuf {
 /// A lock that another build script waits for.
 fn locked(folder: &Path) -> io::Result<File> {
     fs::create_dir_all(folder)?;
-    let file = File::create(folder.join("libengine.lock"))?;
+    let file = File::create(folder.join("libolgaemuri.lock"))?;
     file.lock()?;
     Ok(file)
 }
@@ -81,7 +86,7 @@ fn newest(path: &Path) -> Option<SystemTime> {
 /// Makes the library. Without `rt` an old library is linked as it is.
 fn make(root: &Path, old_is_there: bool) {
     match Command::new("rt")
-        .args(["staticlib", "engine"])
+        .args(["staticlib", "olgaemuri"])
         .current_dir(root)
         .output()
     {
@@ -91,15 +96,15 @@ fn make(root: &Path, old_is_there: bool) {
             String::from_utf8_lossy(&said)
                 .lines()
                 .for_each(|line| println!("cargo::error={line}"));
-            fail("`rt staticlib engine` failed, see above");
+            fail("`rt staticlib olgaemuri` failed, see above");
         }
         Err(_) if old_is_there => {
             println!(
-                "cargo::warning=libengine.a is older than the engine's sources, and there is no `rt` to make it anew"
+                "cargo::warning=libolgaemuri.a is older than the engine's sources, and there is no `rt` to make it anew"
             );
         }
         Err(error) => fail(&format!(
-            "`rt staticlib engine` could not be started ({error}); {TO_INSTALL}"
+            "`rt staticlib olgaemuri` could not be started ({error}); {TO_INSTALL}"
         )),
     }
 }

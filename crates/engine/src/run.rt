@@ -204,8 +204,7 @@ fn run_commands(
 }
 
 // The batch run (document 01: run call): returns 18, the 2, 3 or 17 that ended it, or 0.
-#[no_mangle]
-pub extern "C" fn run(
+pub fn run(
     commands: &[u8],
     stream: &[u8],
     journal: &mut [u8],

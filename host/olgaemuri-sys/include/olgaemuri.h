@@ -5,21 +5,21 @@
  * commands one after another and writes an answer of 32 bytes to each. To go on with a session, add to the list and
  * run it again: the same list gives the same answers, byte for byte.
  *
- *     uint8_t list[512], stream[16], journal[512], answers[16 * OLGAEMURI_ANSWER_BYTES];
+ *     uint8_t list[512], stream[16], journal[512], answers[16 * OLGAEMURI_ANSWER_BYTES], result[OLGAEMURI_RESULT_BYTES];
  *     size_t length = 0;
- *     struct olgaemuri_result result;
  *
  *     olgaemuri_put_f64(olgaemuri_put_f64(stream, 2.0), 1.0);
  *     length += olgaemuri_put_create(list + length, 0, 7, OLGAEMURI_RETAIN_RESIDUAL, OLGAEMURI_LOWEST_CAUSE, 10.0, NULL);
  *     length += olgaemuri_put_set(list + length, 0, 1, 0, olgaemuri_constant(0.5), 0.0);
  *     length += olgaemuri_put_reschedule(list + length, 0, 0.0, NULL, 0);
- *     olgaemuri_run(list, length, stream, sizeof stream, journal, sizeof journal, answers, sizeof answers, &result);
+ *     olgaemuri_run(list, length, stream, sizeof stream, journal, sizeof journal, answers, sizeof answers, result, sizeof result);
  *
  *     the third answer: the threshold 2.0 is used up at 0.5 an hour, after 4 hours, at ten ticks an hour
  *     olgaemuri_get_answer(answers + 2 * OLGAEMURI_ANSWER_BYTES).ticks_low == 40
  *
- * Link libengine.a, which `rt staticlib engine` writes to target/staticlib. It is for x86-64, calls nothing but memcpy and
- * memset, and has no state of its own, so that runs may go on at the same time in several threads, each with its own buffers.
+ * Link libolgaemuri.a, which `rt staticlib olgaemuri` writes to target/staticlib. It is for x86-64, has one symbol that others
+ * see, `olgaemuri_run`, calls nothing but memcpy and memset, and has no state of its own, so that runs may go on at the same time
+ * in several threads, each with its own buffers.
  *
  * All fields of commands, answers and results are little-endian; f64 is the 8 bytes of a double.
  */
@@ -107,7 +107,7 @@ enum olgaemuri_refusal {
 };
 
 /*
- * The function as libengine.a exports it. Prefer `olgaemuri_run`, which says the same under a name of its own.
+ * The batch run: the one function of libolgaemuri.a.
  *
  * commands  the list, read only
  * stream    the recorded thresholds, read only: whole f64s, drawn from the front, each from 0 to 1024
@@ -124,8 +124,8 @@ enum olgaemuri_refusal {
  * Lengths are in bytes. No pointer may be NULL, also where its length is 0. A written buffer (journal, answers, result)
  * overlaps no other.
  */
-uint8_t run(const uint8_t *commands, size_t commands_len, const uint8_t *stream, size_t stream_len, uint8_t *journal,
-            size_t journal_len, uint8_t *answers, size_t answers_len, uint8_t *result, size_t result_len);
+uint8_t olgaemuri_run(const uint8_t *commands, size_t commands_len, const uint8_t *stream, size_t stream_len, uint8_t *journal,
+                      size_t journal_len, uint8_t *answers, size_t answers_len, uint8_t *result, size_t result_len);
 
 /* What a run says of itself. */
 struct olgaemuri_result {
@@ -363,15 +363,15 @@ static inline struct olgaemuri_answer olgaemuri_get_answer(const uint8_t *bytes)
     return answer;
 }
 
-/* `run`, with the result as a struct. Buffers of length 0 may be NULL. On 18 the result is zero. */
-static inline uint8_t olgaemuri_run(const uint8_t *commands, size_t commands_len, const uint8_t *stream, size_t stream_len,
-                                    uint8_t *journal, size_t journal_len, uint8_t *answers, size_t answers_len,
-                                    struct olgaemuri_result *result)
+/* `olgaemuri_run`, with the result as a struct. Buffers of length 0 may be NULL. On 18 the result is zero. */
+static inline uint8_t olgaemuri_run_session(const uint8_t *commands, size_t commands_len, const uint8_t *stream, size_t stream_len,
+                                            uint8_t *journal, size_t journal_len, uint8_t *answers, size_t answers_len,
+                                            struct olgaemuri_result *result)
 {
     uint8_t none = 0, bytes[OLGAEMURI_RESULT_BYTES] = {0}, number;
-    number = run(commands != NULL ? commands : &none, commands_len, stream != NULL ? stream : &none, stream_len,
-                 journal != NULL ? journal : &none, journal_len, answers != NULL ? answers : &none, answers_len, bytes,
-                 sizeof bytes);
+    number = olgaemuri_run(commands != NULL ? commands : &none, commands_len, stream != NULL ? stream : &none, stream_len,
+                           journal != NULL ? journal : &none, journal_len, answers != NULL ? answers : &none, answers_len, bytes,
+                           sizeof bytes);
     result->answered = olgaemuri_get_number(bytes, 8);
     result->bytes_read = olgaemuri_get_number(bytes + 8, 8);
     return number;

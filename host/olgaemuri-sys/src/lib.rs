@@ -1,4 +1,4 @@
-//! The batch run of libengine.a (`rt staticlib engine`), declared once, and a safe call over it. The only file with `unsafe`.
+//! The batch run of libolgaemuri.a (`rt staticlib olgaemuri`), declared once, and a safe call over it. The only file with `unsafe`.
 //!
 //! Most callers want the crate `olgaemuri`, which has typed commands and answers. `include/olgaemuri.h` is for C and C++.
 
@@ -13,7 +13,7 @@ pub const RESULT_BYTES: usize = 16;
 /// Bytes of one recorded threshold, a little-endian f64.
 pub const THRESHOLD_BYTES: usize = 8;
 
-/// The functions as the library exports them.
+/// The function as the library exports it.
 pub mod raw {
     unsafe extern "C" {
         /// The batch run. Each slice is a pointer and a length in bytes.
@@ -23,7 +23,7 @@ pub mod raw {
         /// Each pointer is not null and stands at the front of as many bytes as its length says. Nobody else reads or writes
         /// `journal`, `answers` and `result` during the call, nobody writes `commands` and `stream`, and no two of the
         /// three written buffers overlap each other or one that is read.
-        pub fn run(
+        pub fn olgaemuri_run(
             commands: *const u8,
             commands_len: usize,
             stream: *const u8,
@@ -51,7 +51,7 @@ pub fn run(
 ) -> u8 {
     // SAFETY: every pointer comes from a slice and stands with its length; the three written buffers are ours alone.
     unsafe {
-        raw::run(
+        raw::olgaemuri_run(
             commands.as_ptr(),
             commands.len(),
             stream.as_ptr(),

@@ -27,8 +27,8 @@ static void run_and_print(struct session *s, const char *title)
 {
     struct olgaemuri_result result;
     memset(s->answers, 0xa5, sizeof s->answers);
-    uint8_t number = olgaemuri_run(s->list, s->length, s->stream, sizeof s->stream, s->journal, sizeof s->journal, s->answers,
-                                   sizeof s->answers, &result);
+    uint8_t number = olgaemuri_run_session(s->list, s->length, s->stream, sizeof s->stream, s->journal, sizeof s->journal, s->answers,
+                                           sizeof s->answers, &result);
     printf("%s: returned %u, answered %" PRIu64 ", read %" PRIu64 " of %zu\n", title, number, result.answered, result.bytes_read,
            s->length);
     for (uint64_t i = 0; i < result.answered; i++)
@@ -81,11 +81,11 @@ static void short_buffers(struct session *s)
 {
     struct olgaemuri_result result;
     begin(s);
-    uint8_t number = olgaemuri_run(s->list, s->length, s->stream, 16, s->journal, ROOM, s->answers, 95, &result);
+    uint8_t number = olgaemuri_run_session(s->list, s->length, s->stream, 16, s->journal, ROOM, s->answers, 95, &result);
     printf("95 answer bytes: returned %u, answered %" PRIu64 "\n", number, result.answered);
-    number = olgaemuri_run(s->list, s->length, s->stream, 15, s->journal, ROOM, s->answers, 96, &result);
+    number = olgaemuri_run_session(s->list, s->length, s->stream, 15, s->journal, ROOM, s->answers, 96, &result);
     printf("15 stream bytes: returned %u, answered %" PRIu64 "\n", number, result.answered);
-    number = olgaemuri_run(NULL, 0, NULL, 0, NULL, 0, NULL, 0, &result);
+    number = olgaemuri_run_session(NULL, 0, NULL, 0, NULL, 0, NULL, 0, &result);
     printf("no bytes: returned %u, answered %" PRIu64 "\n", number, result.answered);
     static const uint8_t no_journal[] = {OLGAEMURI_DELIVER, 9, OLGAEMURI_DELIVER};
     printf("no journal of a run: %zu bytes\n", olgaemuri_applied_length(no_journal, sizeof no_journal));

@@ -1,4 +1,5 @@
-/* How many bytes of stack one run needs: it runs on a thread whose stack was filled with one value, and the deepest byte that changed tells. */
+/* How many bytes of stack one run needs: it runs on a thread whose stack was filled with one value, and the deepest byte that
+ * changed tells. */
 #define _POSIX_C_SOURCE 200112L
 #include "olgaemuri.h"
 
@@ -37,7 +38,8 @@ static void *nothing(void *unused)
 
 static void *whole_run(void *number)
 {
-    *(uint8_t *)number = run(list, length, stream, sizeof stream, journal, sizeof journal, answers, sizeof answers, result, sizeof result);
+    *(uint8_t *)number = olgaemuri_run(list, length, stream, sizeof stream, journal, sizeof journal, answers, sizeof answers, result,
+                                       sizeof result);
     return NULL;
 }
 

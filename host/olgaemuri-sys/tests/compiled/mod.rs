@@ -8,6 +8,11 @@ pub fn below(part: &str) -> PathBuf {
     Path::new(env!("CARGO_MANIFEST_DIR")).join(part)
 }
 
+/// The library as it is linked.
+pub fn library() -> PathBuf {
+    Path::new(env!("OLGAEMURI_LIB_DIR")).join("libolgaemuri.a")
+}
+
 /// What the program writes. `options` are the compiler's, `name` is the compiled file's.
 pub fn output(compiler: &str, options: &[&str], source: &Path, name: &str) -> String {
     let program = Path::new(env!("CARGO_TARGET_TMPDIR")).join(name);
@@ -18,7 +23,7 @@ pub fn output(compiler: &str, options: &[&str], source: &Path, name: &str) -> St
         .args(["-x", "none"])
         .arg("-I")
         .arg(below("include"))
-        .arg(Path::new(env!("OLGAEMURI_LIB_DIR")).join("libengine.a"))
+        .arg(library())
         .arg("-o")
         .arg(&program)
         .output()

@@ -1,0 +1,38 @@
+/* A program that has functions of its own under names that stand in the engine's sources: both are called, each by its own side. */
+#include "olgaemuri.h"
+
+#include <stdio.h>
+
+static unsigned calls;
+
+unsigned run(void)
+{
+    return ++calls;
+}
+
+unsigned execute(void)
+{
+    return ++calls;
+}
+
+unsigned undo(void)
+{
+    return ++calls;
+}
+
+unsigned clear(void)
+{
+    return ++calls;
+}
+
+int main(void)
+{
+    const uint8_t list[] = {OLGAEMURI_DELIVER, OLGAEMURI_UNDO};
+    uint8_t stream[OLGAEMURI_THRESHOLD_BYTES] = {0}, journal[8], answers[2 * OLGAEMURI_ANSWER_BYTES], result[OLGAEMURI_RESULT_BYTES];
+    uint8_t number = olgaemuri_run(list, sizeof list, stream, sizeof stream, journal, sizeof journal, answers, sizeof answers, result,
+                                   sizeof result);
+    printf("the engine: returned %u, answered %u and %u; calls of the program's own: %u\n", number, answers[0],
+           answers[OLGAEMURI_ANSWER_BYTES], calls);
+    printf("the program's own: %u\n", run() + execute() + undo() + clear());
+    return 0;
+}
