@@ -13,9 +13,9 @@ import tempfile
 from functools import lru_cache
 from pathlib import Path
 
-# The static library as the kit writes it, the crate that it is made of, and the function that it exports.
-ARCHIVE = "libengine.a"
+# The crate that the static library is made of, which names the archive, and the function that it exports.
 CRATE = "engine"
+ARCHIVE = f"lib{CRATE}.a"
 SYMBOL = "run"
 
 SHARED = "libolgaemuri.so"
@@ -40,18 +40,20 @@ def _make(archive: Path, shared: Path) -> None:
         )
         if said.returncode != 0:
             raise LibraryMissing(f"{shared.name} could not be made: {said.stderr.strip()}")
+        times = archive.stat()
+        os.utime(made, ns=(times.st_atime_ns, times.st_mtime_ns))
         os.replace(made, shared)
 
 
 def path() -> Path:
-    """The shared library, made anew where it is missing or older than the static one."""
+    """The shared library, made anew where it is missing or was made from another static one, which the time of change tells."""
     if "OLGAEMURI_SHARED" in os.environ:
         return Path(os.environ["OLGAEMURI_SHARED"])
     folder = Path(os.environ.get("OLGAEMURI_LIB_DIR", ROOT / "target/staticlib"))
     archive, shared = folder / ARCHIVE, ROOT / "target/python" / SHARED
     if not archive.is_file():
         raise LibraryMissing(f"there is no {archive}; `rt staticlib {CRATE}` makes it, or set OLGAEMURI_LIB_DIR to its folder")
-    if not shared.is_file() or shared.stat().st_mtime < archive.stat().st_mtime:
+    if not shared.is_file() or shared.stat().st_mtime_ns != archive.stat().st_mtime_ns:
         _make(archive, shared)
     return shared
 

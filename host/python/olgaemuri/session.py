@@ -32,8 +32,9 @@ class NothingToRedo(Exception):
 class Session:
     """Recorded thresholds and the commands given so far.
 
-    The engine is opened anew for each call and given the whole list; ``extend`` gives many commands in one call. Undo is the engine's own, so what is undone is what the engine says. A step is what one undo takes back: one ``execute``, or all
-    that is executed in a ``group``. Sessions share nothing, so different ones may be used in different threads.
+    The engine is opened anew for each call and given the whole list; ``extend`` gives many commands in one call. Undo is the
+    engine's own, so what is undone is what the engine says. A step is what one undo takes back: one ``execute``, or all that is
+    executed in a ``group``. Sessions share nothing, so different ones may be used in different threads.
     """
 
     def __init__(self, thresholds: Sequence[float], commands: Iterable[Command] = (), journal_length: Optional[int] = None):
