@@ -1,0 +1,13 @@
+//! docs/SPECIFICATION.md says what the code does: its tables are held to this crate, to the engine's sources and to the engine, run.
+
+mod changes;
+mod commands;
+#[path = "../common/mod.rs"]
+mod common;
+mod document;
+mod headings;
+mod limits;
+mod order;
+mod records;
+mod refusals;
+mod rows;
