@@ -5,6 +5,7 @@ use crate::command::{CLOCKS, Command};
 
 /// An event that is scheduled and not yet delivered or withdrawn.
 #[derive(Clone, Copy, Debug, PartialEq)]
+#[non_exhaustive]
 pub struct Pending {
     /// The clock that it belongs to.
     pub clock: u8,
@@ -26,6 +27,7 @@ pub struct Pending {
 
 impl Pending {
     /// What decides which event is delivered first: the least of these.
+    #[must_use]
     pub fn delivery_order(&self) -> (u128, i32, u64) {
         (self.ticks, self.priority, self.index)
     }
@@ -33,6 +35,7 @@ impl Pending {
 
 /// The events of one clock: made = withdrawn + delivered + pending.
 #[derive(Clone, Copy, Debug, Default, PartialEq)]
+#[non_exhaustive]
 pub struct Account {
     /// How many were scheduled.
     pub made: u64,
@@ -56,11 +59,13 @@ pub(crate) struct Ledger {
 }
 
 impl Ledger {
+    #[must_use]
     pub fn account(&self, clock: u8) -> Account {
         self.accounts[usize::from(clock)]
     }
 
     /// Enters an accepted command other than UNDO with its answer. Returns the account that it changes, as it was.
+    #[must_use]
     pub fn enter(&mut self, command: &Command, answer: &Answer) -> Before {
         let clock = command.clock().unwrap_or_else(|| self.next_delivered());
         let before = self.account(clock);

@@ -102,6 +102,11 @@ impl Session {
         Input::split(&self.commands)
     }
 
+    /// The journal's length that was chosen, if any.
+    pub(crate) fn chosen_journal_length(&self) -> Option<usize> {
+        self.journal_length
+    }
+
     /// The journal's length: the one chosen, or as many bytes as the list has.
     pub fn journal_length(&self) -> usize {
         self.journal_length.unwrap_or(self.commands.len())

@@ -17,13 +17,9 @@ fn refuses_raw(session: &Session, bytes: &[u8], refusal: Refusal) {
     session.push_raw(bytes);
     let after = session.run();
     let last = after.steps.last().expect("it was answered");
-    assert_eq!(
-        last.answer,
-        Answer {
-            refusal: Some(refusal),
-            ..Answer::default()
-        }
-    );
+    let mut refused = Answer::default();
+    refused.refusal = Some(refusal);
+    assert_eq!(last.answer, refused);
     assert!(!last.applied);
     assert_eq!(after.steps[..before.steps.len()], before.steps);
     assert_eq!(after.applied, before.applied);

@@ -79,7 +79,7 @@ fn columns() -> Vec<Column> {
 
 fn cells(event: Option<&Event>, report: &Report) -> [String; 5] {
     event.map_or_else(Default::default, |event| {
-        event_cells(event, &report.text.names)
+        event_cells(event, report.text.names())
     })
 }
 

@@ -2,11 +2,9 @@
 //! stand in the text format. All floats of answers are finite.
 
 use super::events::{Event, breakdowns};
-use super::number::float_text;
 use super::report::{Report, Row};
-use super::text::names::Names;
-use super::text::write::item_text;
 use super::wording::{input_word, meaning};
+use olgaemuri::text::{Names, float_text};
 
 /// A string with its quotes.
 pub fn string(text: &str) -> String {
@@ -52,7 +50,7 @@ fn array(elements: &[String]) -> String {
 }
 
 pub fn report_json(report: &Report) -> String {
-    let names = &report.text.names;
+    let names = report.text.names();
     let rows: Vec<String> = report
         .rows
         .iter()
@@ -89,7 +87,7 @@ pub fn report_json(report: &Report) -> String {
 
 fn row_object(row: &Row, names: &Names) -> String {
     let (step, answer) = (&row.step, &row.step.answer);
-    let text = item_text(&step.input.clone().into()).replace('\n', " ");
+    let text = step.input.to_string().replace('\n', " ");
     let now = step.input.command().and_then(|command| command.now());
     let event = |text: String| {
         if answer.event {
@@ -101,7 +99,7 @@ fn row_object(row: &Row, names: &Names) -> String {
     object(&[
         ("no", row.number.to_string()),
         ("line", row.line.to_string()),
-        ("command", string(&input_word(&step.input))),
+        ("command", string(input_word(&step.input))),
         ("text", string(&text)),
         ("machine", maybe(step.clock, |machine| machine.to_string())),
         (

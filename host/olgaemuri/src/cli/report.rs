@@ -1,8 +1,7 @@
 //! A session that was run: each command with its line, its answer and whether it was undone.
 
 use super::events::{Event, events};
-use super::text::session::SessionText;
-use olgaemuri::{Command, Outcome, Step};
+use olgaemuri::{Command, Outcome, SessionText, Step};
 
 /// One input with its answer. Rows are numbered from 1.
 #[derive(Clone, Debug)]
@@ -27,7 +26,10 @@ impl Report {
     /// Runs a session.
     pub fn new(text: SessionText) -> Self {
         let outcome = text.session().run();
-        let rows = rows(&outcome, &text.input_lines());
+        let rows = rows(
+            &outcome,
+            &text.lines_of(outcome.steps.iter().map(|step| &step.input)),
+        );
         let events = events(&outcome);
         Self {
             text,

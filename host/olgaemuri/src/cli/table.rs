@@ -2,8 +2,8 @@
 
 use super::events::{Event, breakdowns};
 use super::report::{Report, Row};
-use super::text::names::Names;
 use super::wording;
+use olgaemuri::text::Names;
 
 /// A column's head; numbers stand to the right.
 #[derive(Clone, Copy)]
@@ -61,7 +61,7 @@ pub fn report_text(report: &Report) -> String {
     let rows: Vec<Vec<String>> = report
         .rows
         .iter()
-        .map(|row| row_cells(row, &report.text.names))
+        .map(|row| row_cells(row, report.text.names()))
         .collect();
     let mut text = aligned(&COLUMNS, &rows);
     text.push('\n');
@@ -69,7 +69,7 @@ pub fn report_text(report: &Report) -> String {
     text.push_str("\nBreakdowns, delivered and scheduled:\n\n");
     text.push_str(&breakdown_table(
         &breakdowns(&report.events),
-        &report.text.names,
+        report.text.names(),
     ));
     text
 }
@@ -98,7 +98,7 @@ fn row_cells(row: &Row, names: &Names) -> Vec<String> {
         now.map_or(String::new(), wording::rounded),
         step.clock
             .map_or(String::new(), |machine| names.machine(machine)),
-        wording::input_word(&step.input),
+        wording::input_word(&step.input).to_string(),
         wording::operands(&step.input, names),
         wording::answer(row),
         event(names.cause(answer.cause)),

@@ -2,8 +2,8 @@
 
 use crate::cli::Failure;
 use crate::cli::files::write;
-use crate::cli::suggest::hint_or;
 use crate::cli::wording::meaning;
+use olgaemuri::text::hint_or;
 
 pub const GENERAL: &str = include_str!("general.txt");
 

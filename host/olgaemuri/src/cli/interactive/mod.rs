@@ -6,16 +6,13 @@ mod shown;
 use super::arguments::Arguments;
 use super::files::{load, write};
 use super::report::Report;
-use super::suggest::hint_or;
 use super::svg::picture;
-use super::text::commands::COMMANDS;
-use super::text::line::{Item, Line};
-use super::text::parse::{OTHERS, Reader};
-use super::text::session::SessionText;
 use super::wording::told;
 use super::{Failure, help};
+use olgaemuri::SessionText;
+use olgaemuri::text::{Line, Reader, Source, hint_or, line_words};
 use std::io::{BufRead, IsTerminal, Write, stdin, stdout};
-use std::path::{Path, PathBuf};
+use std::path::Path;
 
 /// The words that are no lines of a session.
 const WORDS: [&str; 5] = ["help", "list", "save", "picture", "quit"];
@@ -69,29 +66,14 @@ pub fn interactive(arguments: &Arguments) -> Result<u8, Failure> {
 fn accepted_part(text: SessionText) -> (SessionText, usize) {
     let report = Report::new(text);
     let refused = report.rows.len() - report.accepted();
-    if refused == 0 {
-        return (report.text, 0);
-    }
-    let accepted = report
-        .rows
-        .iter()
-        .filter(|row| row.step.answer.is_accepted());
-    let accepted = accepted.map(|row| Line::from(Item::from(row.step.input.clone())));
-    let is_command = |line: &Line| matches!(line.item, Some(Item::Command(_) | Item::Raw(_)));
-    let others = report
-        .text
-        .lines
-        .iter()
-        .filter(|line| !is_command(line))
-        .cloned();
-    let lines = others.chain(accepted).collect();
-    let names = report.text.names;
-    (SessionText { lines, names }, refused)
+    let steps = &report.outcome.steps;
+    let is_accepted = |place: usize| steps[place].answer.is_accepted();
+    (report.text.retain_inputs(is_accepted), refused)
 }
 
 impl<'a> Typed<'a> {
     fn new(text: SessionText, out: &'a mut dyn Write) -> Self {
-        let reader = Reader::after(&text, "typed", PathBuf::new());
+        let reader = Reader::after(&text, Source::named("typed").in_folder(""));
         Self {
             report: Report::new(text),
             reader,
@@ -206,8 +188,7 @@ impl<'a> Typed<'a> {
             return Ok(());
         };
         let mut text = self.report.text.clone();
-        text.lines.push(line);
-        text.names = self.reader.names.clone();
+        text.push(line, &self.reader);
         let report = Report::new(text);
         let known = self.report.rows.len();
         if let Some(refused) = report
@@ -215,7 +196,7 @@ impl<'a> Typed<'a> {
             .iter()
             .find(|row| !row.step.answer.is_accepted())
         {
-            let told = told(refused, &report.rows, &report.text.names);
+            let told = told(refused, &report.rows, report.text.names());
             self.reader = before;
             return writeln!(self.out, "{told}; nothing has changed");
         }
@@ -230,7 +211,7 @@ impl<'a> Typed<'a> {
     }
 
     fn save(&mut self, file: &str, overwrite: bool) -> std::io::Result<()> {
-        let text = self.report.text.self_contained().to_text();
+        let text = self.report.text.self_contained().to_string();
         if self.put("save", file, overwrite, text.as_bytes())? {
             self.changed = false;
             writeln!(self.out, "saved; `olgaemuri run {file}` runs it again")?;
@@ -272,8 +253,7 @@ impl<'a> Typed<'a> {
 }
 
 fn known_words() -> impl Iterator<Item = &'static str> {
-    let commands = COMMANDS.iter().map(|command| command.0);
-    commands.chain(OTHERS).chain(WORDS)
+    line_words().chain(WORDS)
 }
 
 fn is_known(word: &str) -> bool {

@@ -2,16 +2,15 @@
 
 use crate::cli::report::Report;
 use crate::cli::table::{Column, aligned, breakdown_table};
-use crate::cli::text::line::Item;
-use crate::cli::text::write::command_text;
 use crate::cli::wording::told;
+use olgaemuri::text::Item;
 
 /// What a line did: the answers from this row on, or that it was noted where it is no command.
 pub fn answers(report: &Report, item: &Item, from: usize) -> String {
     let rows = &report.rows;
     let told = rows[from..]
         .iter()
-        .map(|row| told(row, rows, &report.text.names));
+        .map(|row| told(row, rows, report.text.names()));
     match item {
         Item::Command(_) | Item::Raw(_) => told.collect::<Vec<String>>().join("\n"),
         _ => "noted".to_string(),
@@ -20,7 +19,7 @@ pub fn answers(report: &Report, item: &Item, from: usize) -> String {
 
 /// How many commands are in force, what is scheduled, how many thresholds are drawn.
 pub fn status(report: &Report) -> String {
-    let names = &report.text.names;
+    let names = report.text.names();
     let pending = report.outcome.pending().into_iter().map(|event| {
         let (machine, cause) = (names.machine(event.clock), names.cause(event.cause));
         format!("{machine} by {cause} at tick {}", event.ticks)
@@ -41,9 +40,7 @@ pub fn status(report: &Report) -> String {
 pub fn list(report: &Report) -> String {
     let applied = (1..).zip(&report.outcome.applied);
     let rows: Vec<Vec<String>> = applied
-        .map(|(number, applied): (usize, _)| {
-            vec![number.to_string(), command_text(&applied.command)]
-        })
+        .map(|(number, applied): (usize, _)| vec![number.to_string(), applied.command.to_string()])
         .collect();
     let commands = aligned(
         &[Column::Right("no"), Column::Left("command in force")],
@@ -55,7 +52,7 @@ pub fn list(report: &Report) -> String {
         .into_iter()
         .map(Into::into)
         .collect();
-    let events = breakdown_table(&events, &report.text.names);
+    let events = breakdown_table(&events, report.text.names());
     format!(
         "{commands}\nScheduled, in the order of delivery:\n\n{events}\n{}",
         draws(report)

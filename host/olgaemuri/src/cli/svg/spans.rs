@@ -109,16 +109,13 @@ impl Place {
 #[cfg(test)]
 mod tests {
     use super::*;
-    use crate::cli::text::session::SessionText;
-    use std::path::PathBuf;
+    use olgaemuri::Session;
 
     /// The spans of machine 0, as condition, from, to.
     fn found(commands: &str) -> Vec<(&'static str, f64, f64)> {
         let head = "thresholds 2 1\ncreate machine=0 policy=retain\nset machine=0 cause=1 now=0 hazard=constant rate=0.5\n";
         let text = format!("{head}{commands}");
-        let session = SessionText::parse("shop", PathBuf::new(), text.as_bytes())
-            .unwrap()
-            .session();
+        let session: Session = text.parse().unwrap();
         let spans = spans(&session.run(), 10.0);
         spans
             .iter()

@@ -7,8 +7,8 @@ use super::spans::{Span, spans};
 use super::xml::{escaped, line, rectangle, text};
 use crate::cli::events::{Event, Fate};
 use crate::cli::report::Report;
-use crate::cli::text::names::Names;
 use crate::cli::wording::rounded;
+use olgaemuri::text::Names;
 use std::collections::BTreeMap;
 
 pub const WIDTH: f64 = 1200.0;
@@ -44,7 +44,7 @@ impl<'a> Timeline<'a> {
         let centres = (0..16).map(|lane| TOP + LANE * (f64::from(lane) + 0.5));
         Self {
             report,
-            names: &report.text.names,
+            names: report.text.names(),
             axis: Axis {
                 end,
                 left: LEFT,
