@@ -47,10 +47,10 @@ pub struct Account {
     pub pending: Option<Pending>,
 }
 
-/// A clock's account before a command was entered.
+/// The clock of a command that was entered, and its account before where the command changes it.
 pub(crate) struct Before {
     pub clock: u8,
-    account: Account,
+    account: Option<Box<Account>>,
 }
 
 #[derive(Default)]
@@ -59,16 +59,14 @@ pub(crate) struct Ledger {
 }
 
 impl Ledger {
-    #[must_use]
     pub fn account(&self, clock: u8) -> Account {
         self.accounts[usize::from(clock)]
     }
 
     /// Enters an accepted command other than UNDO with its answer. Returns the account that it changes, as it was.
-    #[must_use]
     pub fn enter(&mut self, command: &Command, answer: &Answer) -> Before {
         let clock = command.clock().unwrap_or_else(|| self.next_delivered());
-        let before = self.account(clock);
+        let before = Box::new(self.account(clock));
         match command {
             Command::Deliver => self.deliver(clock),
             Command::Reschedule { now, priority, .. } | Command::Resume { now, priority, .. } => {
@@ -79,17 +77,24 @@ impl Ledger {
             Command::Create { .. }
             | Command::Set { .. }
             | Command::Remove { .. }
-            | Command::Undo => {}
+            | Command::Undo => {
+                return Before {
+                    clock,
+                    account: None,
+                };
+            }
         }
         Before {
             clock,
-            account: before,
+            account: Some(before),
         }
     }
 
     /// Restores the account that a command changed.
-    pub fn revert(&mut self, before: &Before) {
-        self.accounts[usize::from(before.clock)] = before.account;
+    pub fn revert(&mut self, before: Before) {
+        if let Some(account) = before.account {
+            self.accounts[usize::from(before.clock)] = *account;
+        }
     }
 
     fn withdraw(&mut self, clock: u8, answer: &Answer) {

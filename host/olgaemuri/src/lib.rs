@@ -17,6 +17,7 @@ mod container;
 mod draws;
 mod fields;
 mod hazard;
+mod history;
 mod input;
 mod ledger;
 mod outcome;

@@ -26,8 +26,7 @@ fn every_answer_comes_back_from_its_bytes() {
 
 #[test]
 fn layout_of_row_9() {
-    let run = common::row_9().run();
-    let answer = run.steps[2].answer;
+    let answer = common::row_9().run().steps[2].answer;
     let mut expected = [0; 32];
     expected[1] = 1;
     expected[4] = 1;

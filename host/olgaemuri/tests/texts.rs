@@ -75,6 +75,6 @@ fn lines_can_be_looked_at() {
 fn sessions_go_from_thread_to_thread() {
     fn goes<T: Send + Sync + Clone>(_: &T) {}
     goes(&row_9());
-    goes(&row_9().run());
+    goes(row_9().run());
     goes(&SessionText::default());
 }

@@ -10,16 +10,16 @@ const HEAD: &str =
 ";
 
 pub fn report_csv(report: &Report) -> String {
-    let names = report.text.names();
-    let rows = report.rows.iter().map(|row| {
-        let cells = cells(row, names).map(|cell| quoted(&cell));
+    let names = report.names();
+    let rows = report.rows().map(|row| {
+        let cells = cells(&row, names).map(|cell| quoted(&cell));
         cells.join(",") + "\n"
     });
     std::iter::once(HEAD.to_string()).chain(rows).collect()
 }
 
 fn cells(row: &Row, names: &Names) -> [String; 18] {
-    let (step, answer) = (&row.step, &row.step.answer);
+    let (step, answer) = (row.step, &row.step.answer);
     let flag = |flag: bool| u8::from(flag).to_string();
     let event = |text: String| if answer.event { text } else { String::new() };
     let now = step.input.command().and_then(|command| command.now());

@@ -50,12 +50,8 @@ fn array(elements: &[String]) -> String {
 }
 
 pub fn report_json(report: &Report) -> String {
-    let names = report.text.names();
-    let rows: Vec<String> = report
-        .rows
-        .iter()
-        .map(|row| row_object(row, names))
-        .collect();
+    let names = report.names();
+    let rows: Vec<String> = report.rows().map(|row| row_object(&row, names)).collect();
     let events: Vec<String> = report
         .events
         .iter()
@@ -66,17 +62,14 @@ pub fn report_json(report: &Report) -> String {
         .iter()
         .map(|event| event_object(event, names))
         .collect();
-    let outcome = &report.outcome;
+    let outcome = report.outcome();
     let fields = [
         ("end", outcome.end_number().to_string()),
         ("accepted", report.accepted().to_string()),
-        (
-            "refused",
-            (report.rows.len() - report.accepted()).to_string(),
-        ),
-        ("applied", outcome.applied.len().to_string()),
-        ("draws", outcome.draws.to_string()),
-        ("thresholds", report.text.thresholds().len().to_string()),
+        ("refused", report.refused().to_string()),
+        ("applied", outcome.applied().len().to_string()),
+        ("draws", report.session.draws().to_string()),
+        ("thresholds", report.session.thresholds().len().to_string()),
         ("answers", array(&rows)),
         ("events", array(&events)),
         ("breakdowns", array(&breakdowns)),
@@ -86,7 +79,7 @@ pub fn report_json(report: &Report) -> String {
 }
 
 fn row_object(row: &Row, names: &Names) -> String {
-    let (step, answer) = (&row.step, &row.step.answer);
+    let (step, answer) = (row.step, &row.step.answer);
     let text = step.input.to_string().replace('\n', " ");
     let now = step.input.command().and_then(|command| command.now());
     let event = |text: String| {

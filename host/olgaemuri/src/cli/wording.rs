@@ -1,6 +1,6 @@
 //! Commands and answers in a planner's words.
 
-use super::report::Row;
+use super::report::{Report, Row};
 use olgaemuri::text::{Names, float_text};
 use olgaemuri::{Command, Hazard, Input, Pair, Refusal};
 
@@ -112,22 +112,21 @@ pub fn ends_run(refusal: Refusal) -> bool {
     matches!(refusal, Refusal::UnknownCode | Refusal::CutShort)
 }
 
-/// A row's answer as a sentence; the rows are all that there are.
-pub fn told(row: &Row, rows: &[Row], names: &Names) -> String {
+/// A row's answer as a sentence.
+pub fn told(report: &Report, row: &Row) -> String {
     let answer = &row.step.answer;
     if let Some(refusal) = answer.refusal {
         return format!("refused by {}: {}", refusal.number(), meaning(refusal));
     }
     if let Some(undone) = row.undoes {
-        let undone = &rows[undone - 1].step.input;
-        return format!("took back: {}", undone);
+        return format!("took back: {}", report.row(undone).step.input);
     }
     let withdrawn = if answer.withdrawn {
         "the breakdown scheduled before is withdrawn"
     } else {
         ""
     };
-    let event = event_words(row, names);
+    let event = event_words(row, report.names());
     let parts: Vec<&str> = [withdrawn, &event]
         .into_iter()
         .filter(|part| !part.is_empty())

@@ -50,9 +50,9 @@ struct Place {
 pub fn spans(outcome: &Outcome, end: f64) -> Vec<Span> {
     let mut places = [Place::default(); CLOCKS];
     let mut spans = Vec::new();
-    for applied in &outcome.applied {
+    for applied in outcome.applied() {
         let place = &mut places[usize::from(applied.clock)];
-        spans.extend(place.enter(applied));
+        spans.extend(place.enter(&applied));
     }
     let last = (0..).zip(&mut places).filter_map(|(machine, place)| {
         let due = place.due.filter(|_| place.is(Condition::Running));
@@ -74,7 +74,7 @@ impl Place {
         if answer.withdrawn {
             self.due = None;
         }
-        match applied.command {
+        match *applied.command {
             Command::Reschedule { now, .. } | Command::Resume { now, .. } if answer.event => {
                 self.due = Some((now + answer.delta, answer.censored));
                 if self.is(Condition::Running) {
@@ -116,7 +116,7 @@ mod tests {
         let head = "thresholds 2 1\ncreate machine=0 policy=retain\nset machine=0 cause=1 now=0 hazard=constant rate=0.5\n";
         let text = format!("{head}{commands}");
         let session: Session = text.parse().unwrap();
-        let spans = spans(&session.run(), 10.0);
+        let spans = spans(session.run(), 10.0);
         spans
             .iter()
             .map(|span| (span.condition.class(), span.from, span.to))
