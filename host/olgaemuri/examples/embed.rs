@@ -26,11 +26,11 @@ fn main() {
         censor: None,
         priority: 0,
     });
-    let before = session.run();
-    println!("breakdown at tick {}", before.pending()[0].ticks); // 40
+    let before = session.run().pending();
+    println!("breakdown at tick {}", before[0].ticks); // 40
 
     session.push(Command::Pause { clock, now: 1.0 });
     assert!(session.run().pending().is_empty());
     session.undo();
-    assert_eq!(session.run().pending(), before.pending());
+    assert_eq!(session.run().pending(), before);
 }

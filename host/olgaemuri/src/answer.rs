@@ -8,6 +8,7 @@ pub const ANSWER_BYTES: usize = olgaemuri_sys::ANSWER_BYTES;
 
 /// What the engine says to one command. What does not apply is false or zero; a refusal has nothing else.
 #[derive(Clone, Copy, Debug, Default, PartialEq)]
+#[non_exhaustive]
 pub struct Answer {
     /// Why the command was refused, if it was. Then nothing has changed.
     pub refusal: Option<Refusal>,
@@ -27,16 +28,19 @@ pub struct Answer {
 
 impl Answer {
     /// Whether the command was accepted.
+    #[must_use]
     pub fn is_accepted(&self) -> bool {
         self.refusal.is_none()
     }
 
     /// The refusal's number, or 0.
+    #[must_use]
     pub fn number(&self) -> u8 {
         self.refusal.map_or(0, Refusal::number)
     }
 
     /// The answer's bytes.
+    #[must_use]
     pub fn to_bytes(&self) -> [u8; ANSWER_BYTES] {
         let mut out = Writer::default();
         out.u8(self.number())
@@ -50,6 +54,7 @@ impl Answer {
     }
 
     /// The answer with these bytes; none where the number is above 18 or a flag is neither 0 nor 1.
+    #[must_use]
     pub fn from_bytes(bytes: &[u8; ANSWER_BYTES]) -> Option<Self> {
         let mut fields = Reader(bytes);
         let refusal = match fields.u8() {

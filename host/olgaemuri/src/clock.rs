@@ -8,6 +8,7 @@ use crate::ledger::Account;
 
 /// A cause of a clock, as it was last set.
 #[derive(Clone, Debug, PartialEq)]
+#[non_exhaustive]
 pub struct Cause {
     /// Its number.
     pub number: u32,
@@ -21,6 +22,7 @@ pub struct Cause {
 
 /// A clock that is present. Thresholds, and how much of them is used up, stay in the engine.
 #[derive(Clone, Debug, PartialEq)]
+#[non_exhaustive]
 pub struct Clock {
     /// Its number.
     pub number: u8,

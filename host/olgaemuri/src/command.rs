@@ -19,7 +19,10 @@ pub struct Entity {
 }
 
 /// A command. Values that the engine refuses can be expressed too, and are refused by it.
+///
+/// [`Display`](std::fmt::Display) writes it as it stands in a session in text.
 #[derive(Clone, Debug, PartialEq)]
+#[non_exhaustive]
 pub enum Command {
     /// Makes a clock.
     Create {
@@ -94,6 +97,7 @@ pub enum Command {
 
 impl Command {
     /// The command's name in document 01.
+    #[must_use]
     pub fn name(&self) -> &'static str {
         match self {
             Self::Create { .. } => "CREATE",
@@ -107,7 +111,32 @@ impl Command {
         }
     }
 
+    /// The word that begins its line in a session in text.
+    #[must_use]
+    pub fn word(&self) -> &'static str {
+        match self {
+            Self::Create { .. } => "create",
+            Self::Set { .. } => "set",
+            Self::Remove { .. } => "remove",
+            Self::Reschedule { .. } => "reschedule",
+            Self::Pause { .. } => "pause",
+            Self::Resume { .. } => "resume",
+            Self::Deliver => "deliver",
+            Self::Undo => "undo",
+        }
+    }
+
+    /// The cause that the command names. SET and REMOVE name one.
+    #[must_use]
+    pub fn cause(&self) -> Option<u32> {
+        match self {
+            Self::Set { cause, .. } | Self::Remove { cause, .. } => Some(*cause),
+            _ => None,
+        }
+    }
+
     /// The clock that the command names. DELIVER and UNDO name none.
+    #[must_use]
     pub fn clock(&self) -> Option<u8> {
         match self {
             Self::Create { clock, .. }
@@ -121,6 +150,7 @@ impl Command {
     }
 
     /// The time that the command is given at. CREATE, REMOVE, DELIVER and UNDO have none.
+    #[must_use]
     pub fn now(&self) -> Option<f64> {
         match self {
             Self::Set { now, .. }

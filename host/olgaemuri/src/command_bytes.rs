@@ -16,6 +16,7 @@ const DELIVER: u8 = 7;
 const UNDO: u8 = 8;
 
 /// The width in bytes of the command with this code, the code byte among them.
+#[must_use]
 pub fn width(code: u8) -> Option<usize> {
     match code {
         CREATE => Some(33),
@@ -30,6 +31,7 @@ pub fn width(code: u8) -> Option<usize> {
 
 impl Command {
     /// The code byte, 1 to 8.
+    #[must_use]
     pub fn code(&self) -> u8 {
         match self {
             Self::Create { .. } => CREATE,
@@ -44,11 +46,13 @@ impl Command {
     }
 
     /// The width in bytes.
+    #[must_use]
     pub fn width(&self) -> usize {
         width(self.code()).expect("a code of the table")
     }
 
     /// The command's bytes, as many as its width.
+    #[must_use]
     pub fn to_bytes(&self) -> Vec<u8> {
         let mut out = Writer::default();
         out.u8(self.code());

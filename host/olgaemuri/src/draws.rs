@@ -1,46 +1,84 @@
-//! How many thresholds the applied commands have drawn. The engine does not say it, so it is found by drawing the others.
+//! How many thresholds the applied commands have drawn. The engine does not say it. SET of a cause that is absent draws, and so does
+//! SET under the policy restart; whether one under the policy retain has drawn is found by drawing what is left.
 
 use crate::batch;
-use crate::clock::Clock;
-use crate::command::Command;
+use crate::choices::Policy;
+use crate::command::{CLOCKS, Command};
 use crate::hazard::Hazard;
-use crate::outcome::Applied;
-use crate::thresholds::{thresholds_from_bytes, thresholds_to_bytes};
+use crate::outcome::{Applied, Outcome};
+use crate::thresholds::thresholds_to_bytes;
+use std::collections::BTreeSet;
 
-/// Behind the applied commands, whose bytes these are, a cause is removed and set again, over and over. Each time one threshold is drawn,
-/// until none are left: those are the ones that the applied commands have not drawn. `clocks` are the clocks after the applied commands.
-pub(crate) fn draws(bytes: &[u8], applied: &[Applied], clocks: &[Clock], stream: &[u8]) -> usize {
-    let Some(clock) = clocks.first() else {
-        return 0;
-    };
-    // only SET draws, and at most one
-    let is_set = |applied: &&Applied| matches!(applied.command, Command::Set { .. });
-    let stream = drawable(stream, applied.iter().filter(is_set).count());
-    let most = stream.len() / 8;
-    let list = [bytes, &removed_and_set(clock).repeat(most)].concat();
-    let ran = batch::run(&list, applied.len() + 2 * most, &stream, list.len());
-    let again = ran.answers.iter().skip(applied.len());
-    // every REMOVE is accepted, and as many SETs as there are thresholds left
-    let left = again.filter(|answer| answer.is_accepted()).count() - most;
-    most - left
+/// SETs that have drawn, and SETs that may have drawn.
+#[derive(Default)]
+struct Sets {
+    sure: usize,
+    open: usize,
+    /// The policy and the causes of each clock.
+    clocks: [Option<(Policy, BTreeSet<u32>)>; CLOCKS],
 }
 
-/// The first thresholds, at most that many. Those that a draw would refuse have not been drawn; others take their place.
-fn drawable(stream: &[u8], most: usize) -> Vec<u8> {
-    let mut thresholds = thresholds_from_bytes(stream).expect("the stream is whole thresholds");
-    thresholds.truncate(most);
-    for threshold in &mut thresholds {
-        if !(0.0..=1024.0).contains(threshold) {
-            *threshold = 1.0;
+/// How many thresholds the outcome's applied commands have drawn. They are run again only where that is not sure.
+pub(crate) fn draws(outcome: &Outcome, thresholds: &[f64]) -> usize {
+    let mut sets = Sets::default();
+    for applied in outcome.applied() {
+        sets.enter(&applied);
+    }
+    let thresholds = &thresholds[..thresholds.len().min(sets.sure + sets.open)];
+    let open = thresholds.len() - sets.sure;
+    if sets.open == 0 || open == 0 {
+        return sets.sure;
+    }
+    thresholds.len() - left(outcome, thresholds, open)
+}
+
+impl Sets {
+    fn enter(&mut self, applied: &Applied) {
+        let clock = &mut self.clocks[usize::from(applied.clock)];
+        match (applied.command, clock) {
+            (Command::Create { policy, .. }, clock) => *clock = Some((*policy, BTreeSet::new())),
+            (Command::Set { cause, .. }, Some((policy, causes))) => {
+                let sure = causes.insert(*cause) || *policy == Policy::Restart;
+                self.sure += usize::from(sure);
+                self.open += usize::from(!sure);
+            }
+            (Command::Remove { cause, .. }, Some((_, causes))) => {
+                causes.remove(cause);
+            }
+            _ => {}
         }
     }
-    thresholds_to_bytes(&thresholds)
 }
 
-/// REMOVE and SET of a cause that the clock has, or of any one where it has none. A cause that is absent draws when it is set.
-fn removed_and_set(clock: &Clock) -> Vec<u8> {
-    let cause = clock.causes.first().map_or(0, |cause| cause.number);
-    let clock = clock.number;
+/// How many of these thresholds the applied commands leave, of which there are at most so many. Behind the applied commands a
+/// cause is removed and set again, over and over: each time one threshold is drawn, until none are left.
+fn left(outcome: &Outcome, thresholds: &[f64], most: usize) -> usize {
+    // those that a draw would refuse have not been drawn; others take their place
+    let is_drawable = |threshold: &&f64| (0.0..=1024.0).contains(*threshold);
+    let drawable = |threshold| Some(threshold).filter(is_drawable).unwrap_or(&1.0);
+    let stream: Vec<f64> = thresholds.iter().map(drawable).copied().collect();
+    let mut list = Vec::new();
+    for applied in outcome.applied() {
+        list.extend(applied.command.to_bytes());
+    }
+    list.extend(removed_and_set(outcome).repeat(most));
+    let applied = outcome.applied().len();
+    let stream = thresholds_to_bytes(&stream);
+    let ran = batch::run(&list, applied + 2 * most, &stream, list.len());
+    // every REMOVE is accepted, and as many SETs as there are thresholds left
+    let again = ran.answers().skip(applied);
+    again.filter(|answer| answer.is_accepted()).count() - most
+}
+
+/// REMOVE and SET of a cause that the first clock has, or of any one where it has none. A cause that is absent draws when it is
+/// set.
+fn removed_and_set(outcome: &Outcome) -> Vec<u8> {
+    let clock = outcome.clocks.first();
+    let cause = clock.and_then(|clock| clock.causes.first());
+    let (clock, cause) = (
+        clock.map_or(0, |clock| clock.number),
+        cause.map_or(0, |cause| cause.number),
+    );
     let remove = Command::Remove { clock, cause };
     let set = Command::Set {
         clock,

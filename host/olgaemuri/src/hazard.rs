@@ -16,6 +16,7 @@ pub struct Pair {
 
 /// The hazard of one cause. A rate that is negative counts as 0.
 #[derive(Clone, Debug, PartialEq)]
+#[non_exhaustive]
 pub enum Hazard {
     /// No event ever comes from this cause.
     Zero,
@@ -35,6 +36,7 @@ pub enum Hazard {
 
 impl Hazard {
     /// The byte that names the kind.
+    #[must_use]
     pub fn kind(&self) -> u8 {
         match self {
             Self::Zero => 0,
@@ -45,6 +47,7 @@ impl Hazard {
     }
 
     /// The field `first`: the rate, eta or the trailing rate; +0.0 for Zero.
+    #[must_use]
     pub fn first(&self) -> f64 {
         match self {
             Self::Zero => 0.0,
@@ -57,6 +60,7 @@ impl Hazard {
     }
 
     /// The pieces; none but for PiecewiseConstant.
+    #[must_use]
     pub fn pairs(&self) -> &[Pair] {
         match self {
             Self::PiecewiseConstant { pairs, .. } => pairs,

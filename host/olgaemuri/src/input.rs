@@ -14,6 +14,7 @@ pub enum Input {
 
 impl Input {
     /// The input's bytes.
+    #[must_use]
     pub fn to_bytes(&self) -> Vec<u8> {
         match self {
             Self::Command(command) => command.to_bytes(),
@@ -21,7 +22,17 @@ impl Input {
         }
     }
 
+    /// How many bytes it has.
+    #[must_use]
+    pub fn width(&self) -> usize {
+        match self {
+            Self::Command(command) => command.width(),
+            Self::Raw(bytes) => bytes.len(),
+        }
+    }
+
     /// The command, where it is one.
+    #[must_use]
     pub fn command(&self) -> Option<&Command> {
         match self {
             Self::Command(command) => Some(command),
@@ -31,6 +42,7 @@ impl Input {
 
     /// Cuts a list of commands into inputs as the engine does. Where no whole command begins, all that is left is one
     /// [`Input::Raw`], since a run ends there. The inputs' bytes one after another are the bytes given.
+    #[must_use]
     pub fn split(bytes: &[u8]) -> Vec<Self> {
         let mut rest = bytes;
         let mut inputs = Vec::new();

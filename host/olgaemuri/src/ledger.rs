@@ -5,6 +5,7 @@ use crate::command::{CLOCKS, Command};
 
 /// An event that is scheduled and not yet delivered or withdrawn.
 #[derive(Clone, Copy, Debug, PartialEq)]
+#[non_exhaustive]
 pub struct Pending {
     /// The clock that it belongs to.
     pub clock: u8,
@@ -26,6 +27,7 @@ pub struct Pending {
 
 impl Pending {
     /// What decides which event is delivered first: the least of these.
+    #[must_use]
     pub fn delivery_order(&self) -> (u128, i32, u64) {
         (self.ticks, self.priority, self.index)
     }
@@ -33,6 +35,7 @@ impl Pending {
 
 /// The events of one clock: made = withdrawn + delivered + pending.
 #[derive(Clone, Copy, Debug, Default, PartialEq)]
+#[non_exhaustive]
 pub struct Account {
     /// How many were scheduled.
     pub made: u64,
@@ -44,10 +47,10 @@ pub struct Account {
     pub pending: Option<Pending>,
 }
 
-/// A clock's account before a command was entered.
+/// The clock of a command that was entered, and its account before where the command changes it.
 pub(crate) struct Before {
     pub clock: u8,
-    account: Account,
+    account: Option<Box<Account>>,
 }
 
 #[derive(Default)]
@@ -63,7 +66,7 @@ impl Ledger {
     /// Enters an accepted command other than UNDO with its answer. Returns the account that it changes, as it was.
     pub fn enter(&mut self, command: &Command, answer: &Answer) -> Before {
         let clock = command.clock().unwrap_or_else(|| self.next_delivered());
-        let before = self.account(clock);
+        let before = Box::new(self.account(clock));
         match command {
             Command::Deliver => self.deliver(clock),
             Command::Reschedule { now, priority, .. } | Command::Resume { now, priority, .. } => {
@@ -74,17 +77,24 @@ impl Ledger {
             Command::Create { .. }
             | Command::Set { .. }
             | Command::Remove { .. }
-            | Command::Undo => {}
+            | Command::Undo => {
+                return Before {
+                    clock,
+                    account: None,
+                };
+            }
         }
         Before {
             clock,
-            account: before,
+            account: Some(before),
         }
     }
 
     /// Restores the account that a command changed.
-    pub fn revert(&mut self, before: &Before) {
-        self.accounts[usize::from(before.clock)] = before.account;
+    pub fn revert(&mut self, before: Before) {
+        if let Some(account) = before.account {
+            self.accounts[usize::from(before.clock)] = *account;
+        }
     }
 
     fn withdraw(&mut self, clock: u8, answer: &Answer) {

@@ -1,19 +1,21 @@
 //! What a run of a session gives: every answer, the applied commands, and what follows from these.
 
 use crate::answer::Answer;
-use crate::batch::{self, Ran};
+use crate::batch;
 use crate::clock::Clock;
 use crate::command::{CLOCKS, Command};
-use crate::draws::draws;
 use crate::input::Input;
-use crate::ledger::{Ledger, Pending};
+use crate::ledger::{Before, Ledger, Pending};
 use crate::refusal::Refusal;
 
 /// An input with its answer.
 #[derive(Clone, Debug, PartialEq)]
+#[non_exhaustive]
 pub struct Step {
     /// What was given.
     pub input: Input,
+    /// Where its bytes begin in the list.
+    pub begins: usize,
     /// What the engine said.
     pub answer: Answer,
     /// The clock that it names or, for an accepted DELIVER, the clock whose event is delivered.
@@ -22,11 +24,12 @@ pub struct Step {
     pub applied: bool,
 }
 
-/// An applied command, with the answer that it gets in a run of the applied commands alone.
-#[derive(Clone, Debug, PartialEq)]
-pub struct Applied {
+/// An applied command. A run of the applied commands alone gives it the same answer.
+#[derive(Clone, Copy, Debug, PartialEq)]
+#[non_exhaustive]
+pub struct Applied<'a> {
     /// The command.
-    pub command: Command,
+    pub command: &'a Command,
     /// Its answer.
     pub answer: Answer,
     /// The clock that it names or, for DELIVER, the clock whose event is delivered.
@@ -34,7 +37,8 @@ pub struct Applied {
 }
 
 /// What a run gave.
-#[derive(Clone, Debug, PartialEq)]
+#[derive(Clone, Debug, Default, PartialEq)]
+#[non_exhaustive]
 pub struct Outcome {
     /// Why the run ended before the list's end: 2 or 3, which the last step's answer has too.
     pub end: Option<Refusal>,
@@ -42,16 +46,17 @@ pub struct Outcome {
     pub bytes_read: u64,
     /// Each input that was answered, in order.
     pub steps: Vec<Step>,
-    /// The commands that are in force, read from the journal: those accepted and not undone.
-    pub applied: Vec<Applied>,
-    /// How many thresholds the applied commands have drawn. The next draw takes the one at this place.
-    pub draws: usize,
     /// The clocks that are present, by ascending number.
     pub clocks: Vec<Clock>,
+    /// The places of the applied commands among the steps.
+    applied: Vec<usize>,
+    /// Those of the undone commands that can be given again, the next one last.
+    undone: Vec<usize>,
 }
 
 impl Outcome {
     /// The number that ended the run; 0 at the list's end.
+    #[must_use]
     pub fn end_number(&self) -> u8 {
         self.end.map_or(0, Refusal::number)
     }
@@ -61,7 +66,20 @@ impl Outcome {
         self.steps.iter().map(|step| &step.answer)
     }
 
+    /// The commands that are in force: those accepted and not undone.
+    pub fn applied(&self) -> impl DoubleEndedIterator<Item = Applied<'_>> + ExactSizeIterator {
+        self.applied.iter().map(|place| {
+            let step = &self.steps[*place];
+            Applied {
+                command: step.input.command().expect("an applied step is a command"),
+                answer: step.answer,
+                clock: step.clock.expect("an applied command has a clock"),
+            }
+        })
+    }
+
     /// The pending events in the order in which DELIVER would take them.
+    #[must_use]
     pub fn pending(&self) -> Vec<Pending> {
         let mut pending: Vec<Pending> = self
             .clocks
@@ -73,88 +91,118 @@ impl Outcome {
     }
 
     /// The clock with this number, where it is present.
+    #[must_use]
     pub fn clock(&self, number: u8) -> Option<&Clock> {
         self.clocks.iter().find(|clock| clock.number == number)
     }
 
-    /// Runs the list from opening, then the applied commands alone.
+    /// The applied steps, the last one first.
+    pub(crate) fn applied_last_first(&self) -> impl Iterator<Item = &Step> {
+        self.applied.iter().rev().map(|place| &self.steps[*place])
+    }
+
+    /// The undone steps that can be given again, the next one first.
+    pub(crate) fn undone_next_first(&self) -> impl Iterator<Item = &Step> {
+        self.undone.iter().rev().map(|place| &self.steps[*place])
+    }
+
+    /// Runs the list from opening.
     pub(crate) fn of(commands: &[u8], stream: &[u8], journal_length: usize) -> Self {
         let inputs = Input::split(commands);
         let ran = batch::run(commands, inputs.len(), stream, journal_length);
-        let applied: Vec<Command> = applied_commands(&ran.journal);
-        let length = applied.iter().map(Command::width).sum();
-        let bytes = &ran.journal[..length];
-        let alone = batch::run(bytes, applied.len(), stream, journal_length);
-        let (applied, clocks) = follow_applied(applied, &alone);
-        let draws = draws(bytes, &applied, &clocks, stream);
-        Self {
-            end: ran.end,
-            bytes_read: ran.bytes_read,
-            steps: steps(inputs, &ran),
-            applied,
-            draws,
-            clocks,
+        let mut walk = Walk::default();
+        for (input, answer) in inputs.into_iter().zip(ran.answers()) {
+            walk.enter(input, answer);
         }
+        let mut outcome = walk.outcome;
+        (outcome.end, outcome.bytes_read) = (ran.end, ran.bytes_read);
+        outcome.applied = walk.changes.iter().map(|change| change.0).collect();
+        for (place, _) in walk.changes {
+            outcome.steps[place].applied = true;
+        }
+        debug_assert!(outcome.is_of_journal(&ran.journal));
+        outcome.clocks = clocks(&outcome);
+        outcome
+    }
+
+    /// Whether the engine's journal holds the applied commands, and zeros behind them.
+    fn is_of_journal(&self, journal: &[u8]) -> bool {
+        let applied = self.applied().map(|applied| applied.command.to_bytes());
+        let applied: Vec<u8> = applied.flatten().collect();
+        let rest = journal.strip_prefix(applied.as_slice());
+        rest.is_some_and(|rest| rest.iter().all(|byte| *byte == 0))
     }
 }
 
-/// The commands at the front of the journal. Behind them it is zero, and no command begins with a zero.
-fn applied_commands(journal: &[u8]) -> Vec<Command> {
-    let inputs = Input::split(journal).into_iter();
-    inputs.map_while(|input| input.command().cloned()).collect()
+/// The steps so far. Undone commands leave the ledger as the engine's UNDO leaves the queue.
+#[derive(Default)]
+struct Walk {
+    outcome: Outcome,
+    ledger: Ledger,
+    /// The places of the commands that are applied, and what each has changed.
+    changes: Vec<(usize, Before)>,
+    /// Where the next input begins.
+    begins: usize,
 }
 
-/// The inputs with their answers. Undone commands leave the ledger as the engine's UNDO leaves the queue.
-fn steps(inputs: Vec<Input>, ran: &Ran) -> Vec<Step> {
-    let mut ledger = Ledger::default();
-    let mut changes = Vec::new();
-    let mut steps: Vec<Step> = Vec::with_capacity(inputs.len());
-    for (input, answer) in inputs.into_iter().zip(&ran.answers) {
+impl Walk {
+    fn enter(&mut self, input: Input, answer: Answer) {
         let mut clock = input.command().and_then(Command::clock);
-        match input.command() {
-            Some(Command::Undo) if answer.is_accepted() => {
-                let (index, before): (usize, _) = changes
-                    .pop()
-                    .expect("UNDO is accepted only after a command");
-                ledger.revert(&before);
-                steps[index].applied = false;
-            }
-            Some(command) if answer.is_accepted() => {
-                let before = ledger.enter(command, answer);
+        match input.command().filter(|_| answer.is_accepted()) {
+            Some(Command::Undo) => self.undo(),
+            Some(command) => {
+                let before = self.ledger.enter(command, &answer);
                 clock = Some(before.clock);
-                changes.push((steps.len(), before));
+                self.changes.push((self.outcome.steps.len(), before));
+                self.give_again(&input);
             }
-            _ => {}
+            None => {}
         }
-        let applied = changes.last().is_some_and(|change| change.0 == steps.len());
-        steps.push(Step {
+        let begins = self.begins;
+        self.begins += input.width();
+        self.outcome.steps.push(Step {
             input,
-            answer: *answer,
+            begins,
+            answer,
             clock,
-            applied,
+            applied: false,
         });
     }
-    steps
+
+    fn undo(&mut self) {
+        let change = self.changes.pop();
+        let (place, before) = change.expect("UNDO is accepted only after a command");
+        self.ledger.revert(before);
+        self.outcome.undone.push(place);
+    }
+
+    /// The undone command that comes next is done again by an equal one; by another all that were undone are gone.
+    fn give_again(&mut self, input: &Input) {
+        let next = self.outcome.undone.pop();
+        let same = |place: usize| self.outcome.steps[place].input.to_bytes() == input.to_bytes();
+        if next.is_some_and(|place| !same(place)) {
+            self.outcome.undone.clear();
+        }
+    }
 }
 
-/// The applied commands with their answers, and the clocks after them.
-fn follow_applied(commands: Vec<Command>, ran: &Ran) -> (Vec<Applied>, Vec<Clock>) {
+/// The clocks after the applied commands.
+fn clocks(outcome: &Outcome) -> Vec<Clock> {
     let mut ledger = Ledger::default();
     let mut clocks: [Option<Clock>; CLOCKS] = Default::default();
-    let mut applied = Vec::with_capacity(commands.len());
-    for (command, answer) in commands.into_iter().zip(&ran.answers) {
-        let number = ledger.enter(&command, answer).clock;
-        let slot = &mut clocks[usize::from(number)];
-        *slot = Clock::created(&command).or(slot.take());
-        if let Some(clock) = slot {
-            clock.follow(&command, answer);
-            clock.events = ledger.account(number);
+    for Applied {
+        command,
+        answer,
+        clock,
+    } in outcome.applied()
+    {
+        ledger.enter(command, &answer);
+        let slot = &mut clocks[usize::from(clock)];
+        *slot = Clock::created(command).or(slot.take());
+        if let Some(present) = slot {
+            present.follow(command, &answer);
+            present.events = ledger.account(clock);
         }
-        applied.push(Applied {
-            command,
-            answer: *answer,
-            clock: number,
-        });
     }
-    (applied, clocks.into_iter().flatten().collect())
+    clocks.into_iter().flatten().collect()
 }

@@ -6,6 +6,7 @@ use std::fmt;
 /// Why a command, or a run, was refused. The discriminant is document 01's number.
 #[derive(Clone, Copy, Debug, PartialEq, Eq, PartialOrd, Ord, Hash)]
 #[repr(u8)]
+#[non_exhaustive]
 pub enum Refusal {
     /// 1: the state is not valid. It never comes in a run, which begins with an opened engine.
     InvalidState = 1,
@@ -69,6 +70,7 @@ impl Refusal {
     ];
 
     /// The refusal with this number, 1 to 18. 0 means that nothing was refused.
+    #[must_use]
     pub fn from_number(number: u8) -> Option<Self> {
         Self::ALL
             .into_iter()
@@ -76,11 +78,13 @@ impl Refusal {
     }
 
     /// Document 01's number.
+    #[must_use]
     pub fn number(self) -> u8 {
         self as u8
     }
 
     /// What was wrong, in words for the person who gave the command.
+    #[must_use]
     pub fn meaning(self) -> &'static str {
         match self {
             Self::InvalidState => "the state is not valid",

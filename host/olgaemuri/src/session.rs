@@ -1,14 +1,18 @@
 //! A session: recorded thresholds and a list of commands, run by the proved engine.
 
 use crate::command::Command;
+use crate::draws::draws;
+use crate::history::Groups;
 use crate::input::Input;
 use crate::outcome::Outcome;
 use crate::thresholds::thresholds_to_bytes;
+use std::sync::OnceLock;
 
-/// Recorded thresholds and a list of commands.
+/// Recorded thresholds and a list of commands, with an undo button.
 ///
-/// The engine is opened anew in each [`Session::run`] and given the whole list; the session only keeps the list. Running it
-/// again gives the same outcome.
+/// A session keeps the list and gives it to the engine when something is asked that only the engine knows; until the list is
+/// changed the outcome is kept. Running it again gives the same outcome. Two sessions are equal where thresholds, list and journal
+/// length are.
 ///
 /// ```
 /// use olgaemuri::{Command, Hazard, Policy, Session, Tie};
@@ -28,25 +32,43 @@ use crate::thresholds::thresholds_to_bytes;
 /// session.push(Command::Reschedule { clock, now: 0.0, censor: None, priority: 0 });
 ///
 /// // 2.0 is used up at 0.5 an hour, so the breakdown comes after 4 hours, at ten ticks an hour
-/// let before = session.run();
-/// assert_eq!(before.pending()[0].ticks, 40);
-/// assert_eq!(before.draws, 1);
+/// let before = session.run().pending();
+/// assert_eq!(before[0].ticks, 40);
+/// assert_eq!(session.draws(), 1);
 ///
-/// // an edit: stopped from hour 1 to hour 3
+/// // two edits that are one step: stopped from hour 1 to hour 3
+/// session.begin_group();
 /// session.push(Command::Pause { clock, now: 1.0 });
 /// session.push(Command::Resume { clock, now: 3.0, censor: None, priority: 0 });
+/// session.end_group();
 /// assert_eq!(session.run().pending()[0].ticks, 60);
 ///
-/// // both edits taken back: the breakdown is where it was
-/// session.undo();
-/// session.undo();
-/// assert_eq!(session.run().pending(), before.pending());
+/// // taken back: the breakdown is where it was; and done again
+/// assert!(session.undo());
+/// assert_eq!(session.run().pending(), before);
+/// assert_eq!(session.next_redo()[0].to_string(), "pause machine=0 now=1");
+/// assert!(session.redo());
+/// assert_eq!(session.run().pending()[0].ticks, 60);
 /// ```
-#[derive(Clone, Debug, Default, PartialEq)]
+///
+/// # Threads and stack
+///
+/// Sessions are `Send` and `Sync`, and runs in several threads do not disturb each other. A run needs less than 256 KiB of stack,
+/// whatever the session holds; that is measured, not proved. All other memory is allocated, some 32 bytes for each command beside
+/// what the outcome holds.
+///
+/// # Panics
+///
+/// No method panics.
+#[derive(Clone, Debug, Default)]
 pub struct Session {
     thresholds: Vec<f64>,
     commands: Vec<u8>,
     journal_length: Option<usize>,
+    groups: Groups,
+    /// What is known of the list as it is.
+    outcome: OnceLock<Outcome>,
+    draws: OnceLock<usize>,
 }
 
 impl Session {
@@ -54,8 +76,7 @@ impl Session {
     pub fn new(thresholds: impl Into<Vec<f64>>) -> Self {
         Self {
             thresholds: thresholds.into(),
-            commands: Vec::new(),
-            journal_length: None,
+            ..Self::default()
         }
     }
 
@@ -63,8 +84,15 @@ impl Session {
     /// there is room for all.
     #[must_use]
     pub fn with_journal_length(mut self, length: usize) -> Self {
+        self.changed();
         self.journal_length = Some(length);
         self
+    }
+
+    /// Adds thresholds behind those that are there. A command that was refused by 15 may be accepted then.
+    pub fn push_thresholds(&mut self, thresholds: &[f64]) {
+        self.changed();
+        self.thresholds.extend_from_slice(thresholds);
     }
 
     /// Adds a command at the end of the list.
@@ -72,50 +100,134 @@ impl Session {
         self.push_raw(&command.to_bytes());
     }
 
-    /// Adds UNDO at the end of the list: the engine reverts the last applied command.
-    pub fn undo(&mut self) {
-        self.push(Command::Undo);
-    }
-
     /// Adds any bytes at the end of the list. They may be commands, or none: a run ends where no whole command begins.
     pub fn push_raw(&mut self, bytes: &[u8]) {
+        self.changed();
         self.commands.extend_from_slice(bytes);
     }
 
     /// Takes the end of the list away, leaving that many bytes. Unlike [`Session::undo`] it takes refused commands and UNDOs away too.
     pub fn truncate(&mut self, bytes: usize) {
+        self.changed();
         self.commands.truncate(bytes);
+        self.groups.truncate(bytes);
     }
 
     /// The thresholds.
+    #[must_use]
     pub fn thresholds(&self) -> &[f64] {
         &self.thresholds
     }
 
     /// The list as bytes.
+    #[must_use]
     pub fn commands(&self) -> &[u8] {
         &self.commands
     }
 
     /// The list, cut into inputs as the engine does.
+    #[must_use]
     pub fn inputs(&self) -> Vec<Input> {
         Input::split(&self.commands)
     }
 
+    /// The journal's length that was chosen, if any.
+    pub(crate) fn chosen_journal_length(&self) -> Option<usize> {
+        self.journal_length
+    }
+
     /// The journal's length: the one chosen, or as many bytes as the list has.
+    #[must_use]
     pub fn journal_length(&self) -> usize {
         self.journal_length.unwrap_or(self.commands.len())
     }
 
-    /// Opens an engine and runs the list.
-    pub fn run(&self) -> Outcome {
-        let stream = thresholds_to_bytes(&self.thresholds);
-        Outcome::of(&self.commands, &stream, self.journal_length())
+    /// Opens an engine and runs the list. Where nothing was changed since the last run, that one's outcome is there already.
+    #[must_use]
+    pub fn run(&self) -> &Outcome {
+        self.outcome.get_or_init(|| {
+            let stream = thresholds_to_bytes(&self.thresholds);
+            Outcome::of(&self.commands, &stream, self.journal_length())
+        })
+    }
+
+    /// How many thresholds the applied commands have drawn; the next draw takes the one at this place. Under the policy retain it
+    /// may take a second run to know it.
+    #[must_use]
+    pub fn draws(&self) -> usize {
+        let found = || draws(self.run(), &self.thresholds);
+        *self.draws.get_or_init(found)
+    }
+
+    /// Forgets the outcome of the list as it was.
+    fn changed(&mut self) {
+        (self.outcome, self.draws) = (OnceLock::new(), OnceLock::new());
+    }
+
+    pub(crate) fn groups(&mut self) -> &mut Groups {
+        &mut self.groups
+    }
+
+    pub(crate) fn group_list(&self) -> &Groups {
+        &self.groups
+    }
+}
+
+impl PartialEq for Session {
+    fn eq(&self, other: &Self) -> bool {
+        self.thresholds == other.thresholds
+            && self.commands == other.commands
+            && self.journal_length == other.journal_length
     }
 }
 
 impl Extend<Command> for Session {
     fn extend<T: IntoIterator<Item = Command>>(&mut self, commands: T) {
         commands.into_iter().for_each(|command| self.push(command));
+    }
+}
+
+#[cfg(test)]
+mod tests {
+    use super::*;
+    use crate::batch::counted::runs;
+
+    /// A press that is due at tick 40, under this policy.
+    fn press(policy: &str) -> Session {
+        let text = format!(
+            "thresholds 2 1\ncreate machine=0 policy={policy} scale=10\n\
+             set machine=0 cause=1 now=0 hazard=constant rate=0.5\nreschedule machine=0 now=0\n"
+        );
+        text.parse().unwrap()
+    }
+
+    #[test]
+    fn each_run_is_one_run_of_the_engine() {
+        let mut session = press("retain");
+        assert_eq!(runs(|| session.run().pending()), 1);
+        let looked_at = || {
+            let (undo, redo) = (session.can_undo(), session.can_redo());
+            (undo, redo, session.run().clocks.len(), session.draws())
+        };
+        assert_eq!(runs(looked_at), 0);
+        assert_eq!(looked_at(), (true, false, 1, 1));
+        session.push(Command::Pause { clock: 0, now: 1.0 });
+        assert_eq!(runs(|| session.undo()), 1);
+        assert_eq!(runs(|| session.run().pending()), 1);
+        assert_eq!(runs(|| session.redo()), 0);
+        assert_eq!(runs(|| session.run().pending()), 1);
+        assert_eq!(runs(|| session.clone().run().pending()), 0);
+    }
+
+    /// SET of a cause that is there draws under the policy retain only where its threshold is used up.
+    #[test]
+    fn only_draws_that_are_not_sure_take_a_second_run() {
+        for (policy, more) in [("restart", 0), ("retain", 1)] {
+            let mut session = press(policy);
+            session.push("set machine=0 cause=1 now=1 hazard=zero".parse().unwrap());
+            assert_eq!(runs(|| session.run().pending()), 1);
+            assert_eq!(runs(|| session.draws()), more);
+            assert_eq!(runs(|| session.draws()), 0);
+        }
     }
 }

@@ -1,6 +1,7 @@
 //! Recorded thresholds as bytes: a little-endian f64 each.
 
 /// The thresholds' bytes.
+#[must_use]
 pub fn thresholds_to_bytes(thresholds: &[f64]) -> Vec<u8> {
     thresholds
         .iter()
@@ -9,6 +10,7 @@ pub fn thresholds_to_bytes(thresholds: &[f64]) -> Vec<u8> {
 }
 
 /// The thresholds with these bytes; none where their number is no multiple of 8.
+#[must_use]
 pub fn thresholds_from_bytes(bytes: &[u8]) -> Option<Vec<f64>> {
     let (whole, rest) = bytes.as_chunks();
     rest.is_empty().then(|| {

@@ -9,15 +9,14 @@ use olgaemuri::{Answer, Refusal};
 fn every_answer_comes_back_from_its_bytes() {
     let mut random = Random(3);
     for _ in 0..20_000 {
-        let answer = Answer {
-            refusal: Refusal::from_number(random.below(19) as u8),
-            event: random.flip(),
-            censored: random.flip(),
-            withdrawn: random.flip(),
-            cause: random.word() as u32,
-            delta: random.any_float(),
-            ticks: u128::from(random.word()) << 64 | u128::from(random.word()),
-        };
+        let mut answer = Answer::default();
+        answer.refusal = Refusal::from_number(random.below(19) as u8);
+        answer.event = random.flip();
+        answer.censored = random.flip();
+        answer.withdrawn = random.flip();
+        answer.cause = random.word() as u32;
+        answer.delta = random.any_float();
+        answer.ticks = u128::from(random.word()) << 64 | u128::from(random.word());
         let bytes = answer.to_bytes();
         let back = Answer::from_bytes(&bytes).expect("an answer's own bytes");
         assert_eq!(back.to_bytes(), bytes);
@@ -27,20 +26,15 @@ fn every_answer_comes_back_from_its_bytes() {
 
 #[test]
 fn layout_of_row_9() {
-    let run = common::row_9().run();
-    let answer = run.steps[2].answer;
+    let answer = common::row_9().run().steps[2].answer;
     let mut expected = [0; 32];
     expected[1] = 1;
     expected[4] = 1;
     expected[14..17].copy_from_slice(&[0x10, 0x40, 0x28]);
     assert_eq!(answer.to_bytes(), expected);
-    let scheduled = Answer {
-        event: true,
-        cause: 1,
-        delta: 4.0,
-        ticks: 40,
-        ..Answer::default()
-    };
+    let mut scheduled = Answer::default();
+    (scheduled.event, scheduled.cause) = (true, 1);
+    (scheduled.delta, scheduled.ticks) = (4.0, 40);
     assert_eq!(Answer::from_bytes(&expected), Some(scheduled));
     assert_eq!(answer, scheduled);
     assert!(answer.is_accepted());

@@ -35,7 +35,7 @@ fn outcomes(seed: u64) -> Vec<(Session, Outcome)> {
     let mut random = Random(seed);
     let sessions = (0..400).map(|_| any_session(&mut random));
     sessions
-        .map(|session| (session.clone(), session.run()))
+        .map(|session| (session.clone(), session.run().clone()))
         .collect()
 }
 

@@ -10,20 +10,36 @@ fn random_runs(seed: u64, count: usize) -> impl Iterator<Item = (Session, Outcom
     let mut random = Random(seed);
     std::iter::repeat_with(move || likely_session(&mut random, 40))
         .take(count)
-        .map(|session| (session.clone(), session.run()))
+        .map(|session| (session.clone(), session.run().clone()))
 }
 
 #[test]
-fn applied_steps_are_the_journal_s_commands() {
+fn applied_steps_are_the_applied_commands() {
     for (_, run) in random_runs(5, 500) {
         let from_steps: Vec<_> = run.steps.iter().filter(|step| step.applied).collect();
-        assert_eq!(from_steps.len(), run.applied.len());
-        for (step, applied) in from_steps.iter().zip(&run.applied) {
-            assert_eq!(step.input.command(), Some(&applied.command));
+        assert_eq!(from_steps.len(), run.applied().len());
+        for (step, applied) in from_steps.iter().zip(run.applied()) {
+            assert_eq!(step.input.command(), Some(applied.command));
             assert_eq!(step.answer, applied.answer);
             assert_eq!(step.clock, Some(applied.clock));
         }
     }
+}
+
+/// The engine's promise of undo, seen from here: each applied command is answered as in a run without the others.
+#[test]
+fn applied_commands_alone_get_the_same_answers() {
+    let mut fewer = 0;
+    for (session, run) in random_runs(7, 500) {
+        let mut alone = Session::new(session.thresholds());
+        alone.extend(run.applied().map(|applied| applied.command.clone()));
+        let again = alone.run();
+        assert!(again.applied().eq(run.applied()));
+        assert_eq!(again.clocks, run.clocks);
+        assert_eq!(alone.draws(), session.draws());
+        fewer += usize::from(again.steps.len() < run.steps.len());
+    }
+    assert!(fewer > 300, "{fewer}");
 }
 
 #[test]
@@ -73,18 +89,19 @@ fn draws_are_the_shortest_stream_that_suffices() {
         let with = |count: usize| {
             let mut shorter = Session::new(&session.thresholds()[..count])
                 .with_journal_length(session.journal_length());
-            shorter.extend(run.applied.iter().map(|applied| applied.command.clone()));
-            shorter.run()
+            shorter.extend(run.applied().map(|applied| applied.command.clone()));
+            shorter
         };
-        let exact = with(run.draws);
-        assert_eq!(exact.applied, run.applied);
-        assert_eq!(exact.draws, run.draws);
-        assert!(exact.answers().all(olgaemuri::Answer::is_accepted));
-        for count in 0..run.draws {
+        let draws = session.draws();
+        let exact = with(draws);
+        assert!(exact.run().applied().eq(run.applied()));
+        assert_eq!(exact.draws(), draws);
+        assert!(exact.run().answers().all(olgaemuri::Answer::is_accepted));
+        for count in 0..draws {
             let exhausted = |step: &Step| step.answer.refusal == Some(Refusal::StreamExhausted);
-            assert!(with(count).steps.iter().any(exhausted));
+            assert!(with(count).run().steps.iter().any(exhausted));
         }
-        most = most.max(run.draws);
+        most = most.max(draws);
     }
     assert!(most > 4, "{most}");
 }
@@ -100,7 +117,7 @@ fn draws_by_policy() {
             set(1, 0.5, 1.0),
             set(1, 0.5, 4.0),
         ]);
-        assert_eq!(session.run().draws, draws);
+        assert_eq!(session.draws(), draws);
     }
 }
 
@@ -108,12 +125,12 @@ fn draws_by_policy() {
 fn draws_before_a_bad_threshold() {
     let mut session = Session::new([2.0, f64::NAN, 1.0]);
     session.extend([create(Policy::Restart), set(1, 0.5, 0.0), set(2, 0.5, 0.0)]);
-    let run = session.run();
-    assert_eq!(run.steps[2].answer.refusal, Some(Refusal::InvalidThreshold));
-    assert_eq!(run.draws, 1);
+    let third = session.run().steps[2].answer;
+    assert_eq!(third.refusal, Some(Refusal::InvalidThreshold));
+    assert_eq!(session.draws(), 1);
     // the cause is gone, its threshold stays drawn
     session.push(Command::Remove { clock: 0, cause: 1 });
-    assert_eq!(session.run().draws, 1);
+    assert_eq!(session.draws(), 1);
 }
 
 #[test]
@@ -140,7 +157,7 @@ fn draws_of_sixteen_full_clocks() {
     }
     let run = session.run();
     assert_eq!(
-        (run.applied.len(), run.draws, run.clocks.len()),
+        (run.applied().len(), session.draws(), run.clocks.len()),
         (16 * 9, 16 * 8, 16)
     );
 }
@@ -231,7 +248,11 @@ fn censored_events_and_other_clocks() {
 
 #[test]
 fn an_empty_session() {
-    let run = Session::default().run();
-    assert_eq!((run.end_number(), run.bytes_read, run.draws), (0, 0, 0));
-    assert!(run.steps.is_empty() && run.applied.is_empty() && run.clocks.is_empty());
+    let session = Session::default();
+    let run = session.run();
+    assert_eq!(
+        (run.end_number(), run.bytes_read, session.draws()),
+        (0, 0, 0)
+    );
+    assert!(run.steps.is_empty() && run.applied().len() == 0 && run.clocks.is_empty());
 }

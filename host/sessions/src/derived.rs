@@ -16,34 +16,31 @@ pub fn difference(session: &Session) -> Option<String> {
     session.stream.truncate(session.stream.len() / 8 * 8);
     let steps = session.steps();
     let state = &steps.last().expect("the list is not empty").before;
-    let run = through_wrapper(&session);
-    let applied: usize = run
-        .applied
-        .iter()
-        .map(|applied| applied.command.width())
-        .sum();
+    let wrapped = through_wrapper(&session);
+    let run = wrapped.run();
+    let applied: usize = run.applied().map(|applied| applied.command.width()).sum();
     let same = [
-        ("the draws", run.draws as u64 == state.position),
+        ("the draws", wrapped.draws() as u64 == state.position),
         (
             "the applied commands",
             applied as u64 == state.applied_length,
         ),
-        ("the pending events", same_pending(&run, state)),
-        ("the clocks", same_clocks(&run, state)),
+        ("the pending events", same_pending(run, state)),
+        ("the clocks", same_clocks(run, state)),
         (
             "the clocks of delivered events",
-            same_delivered(&run, &steps),
+            same_delivered(run, &steps),
         ),
     ];
     let (what, _) = same.iter().find(|(_, same)| !same)?;
     Some(format!("{what} of the wrapper are not the oracle's"))
 }
 
-fn through_wrapper(session: &Session) -> Outcome {
+fn through_wrapper(session: &Session) -> olgaemuri::Session {
     let thresholds = thresholds_from_bytes(&session.stream).expect("whole thresholds");
     let mut wrapped = olgaemuri::Session::new(thresholds).with_journal_length(session.journal);
     wrapped.push_raw(&session.commands);
-    wrapped.run()
+    wrapped
 }
 
 /// Clock, order of delivery and cause of each.

@@ -1,6 +1,6 @@
 //! Words of the command line, parted into options and files.
 
-use super::suggest::hint;
+use olgaemuri::text::hint;
 
 /// An option of a subcommand, and whether a value follows.
 #[derive(Clone, Copy)]

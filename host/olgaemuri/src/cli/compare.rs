@@ -78,15 +78,14 @@ fn columns() -> Vec<Column> {
 }
 
 fn cells(event: Option<&Event>, report: &Report) -> [String; 5] {
-    event.map_or_else(Default::default, |event| {
-        event_cells(event, &report.text.names)
-    })
+    event.map_or_else(Default::default, |event| event_cells(event, report.names()))
 }
 
 fn verdict(left: &Report, right: &Report, longest: usize, differences: usize) -> String {
     let draws = format!(
         "Thresholds drawn: {} left, {} right.\n",
-        left.outcome.draws, right.outcome.draws
+        left.session.draws(),
+        right.session.draws()
     );
     let lists = if differences == 0 {
         format!("The lists of breakdowns are the same: {longest} events, to the last bit.\n")

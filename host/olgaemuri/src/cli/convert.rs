@@ -1,9 +1,9 @@
 //! `olgaemuri convert`: sessions from text to bytes and back.
 
 use super::arguments::{Arguments, Known};
-use super::files::{called, load_text, read, same_file, write};
-use super::text::session::SessionText;
-use super::{Failure, container, help};
+use super::files::{called, load, read, same_file, source, write};
+use super::{Failure, help};
+use olgaemuri::{Session, SessionText};
 
 pub const OPTIONS: [Known; 3] = [
     Known {
@@ -67,8 +67,8 @@ pub fn convert(arguments: &Arguments) -> Result<u8, Failure> {
     let from = arguments.value("--from").map(form).transpose()?;
     let session = session(input, from)?;
     let bytes = match to {
-        Form::Text => session.to_text().into_bytes(),
-        Form::Bytes => container::to_bytes(&session),
+        Form::Text => session.to_string().into_bytes(),
+        Form::Bytes => session.session().to_bytes(),
         Form::Bare => session.commands(),
     };
     write(output, &bytes)?;
@@ -76,19 +76,20 @@ pub fn convert(arguments: &Arguments) -> Result<u8, Failure> {
 }
 
 /// Reads the input in the form given, or else in the one that it begins like.
-fn session(input: &str, from: Option<Form>) -> Result<SessionText, Failure> {
+fn session(input: &str, from: Option<Form>) -> Result<SessionText, String> {
+    let Some(from) = from else {
+        return load(input);
+    };
     let bytes = read(input)?;
-    let begins = if bytes.starts_with(container::MAGIC) {
-        Form::Bytes
-    } else {
-        Form::Text
-    };
-    let session = match from.unwrap_or(begins) {
-        Form::Text => load_text(input, &bytes),
-        Form::Bytes => {
-            container::from_bytes(&bytes).map_err(|message| format!("{}: {message}", called(input)))
+    match from {
+        Form::Text => SessionText::parse(&bytes, &source(input)).map_err(|error| error.to_string()),
+        Form::Bytes => Session::from_bytes(&bytes)
+            .map(|session| SessionText::from(&session))
+            .map_err(|error| format!("{}: {error}", called(input))),
+        Form::Bare => {
+            let mut session = Session::default();
+            session.push_raw(&bytes);
+            Ok(SessionText::from(&session))
         }
-        Form::Bare => Ok(SessionText::from_parts(&bytes, Vec::new(), None)),
-    };
-    Ok(session?)
+    }
 }

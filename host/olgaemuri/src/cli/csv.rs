@@ -1,10 +1,8 @@
 //! The answers as comma-separated values (RFC 4180, lines ended by a line feed), floats with all their digits.
 
-use super::number::float_text;
 use super::report::{Report, Row};
-use super::text::names::Names;
-use super::text::write::item_text;
 use super::wording::{input_word, meaning};
+use olgaemuri::text::{Names, float_text};
 
 const HEAD: &str =
     "no,line,command,machine,machine_name,now,number,refusal,event,censored,withdrawn,\
@@ -12,23 +10,23 @@ const HEAD: &str =
 ";
 
 pub fn report_csv(report: &Report) -> String {
-    let names = &report.text.names;
-    let rows = report.rows.iter().map(|row| {
-        let cells = cells(row, names).map(|cell| quoted(&cell));
+    let names = report.names();
+    let rows = report.rows().map(|row| {
+        let cells = cells(&row, names).map(|cell| quoted(&cell));
         cells.join(",") + "\n"
     });
     std::iter::once(HEAD.to_string()).chain(rows).collect()
 }
 
 fn cells(row: &Row, names: &Names) -> [String; 18] {
-    let (step, answer) = (&row.step, &row.step.answer);
+    let (step, answer) = (row.step, &row.step.answer);
     let flag = |flag: bool| u8::from(flag).to_string();
     let event = |text: String| if answer.event { text } else { String::new() };
     let now = step.input.command().and_then(|command| command.now());
     [
         row.number.to_string(),
         row.line.to_string(),
-        input_word(&step.input),
+        input_word(&step.input).to_string(),
         step.clock
             .map_or(String::new(), |machine| machine.to_string()),
         step.clock
@@ -45,7 +43,7 @@ fn cells(row: &Row, names: &Names) -> [String; 18] {
         event(answer.ticks.to_string()),
         flag(step.applied),
         row.undone_by.map_or(String::new(), |undo| undo.to_string()),
-        item_text(&step.input.clone().into()).replace('\n', " "),
+        step.input.to_string().replace('\n', " "),
     ]
 }
 

@@ -39,8 +39,8 @@ pub struct Event {
 /// The events in the order in which they were scheduled. Undone commands have left no trace in it.
 pub fn events(outcome: &Outcome) -> Vec<Event> {
     let mut walk = Walk::default();
-    for applied in &outcome.applied {
-        walk.enter(applied);
+    for applied in outcome.applied() {
+        walk.enter(&applied);
     }
     walk.events
 }
@@ -75,7 +75,7 @@ impl Walk {
         if applied.answer.withdrawn {
             self.end(machine, Fate::Withdrawn);
         }
-        match &applied.command {
+        match applied.command {
             Command::Deliver => self.deliver(machine),
             Command::Reschedule { now, priority, .. } | Command::Resume { now, priority, .. }
                 if applied.answer.event =>

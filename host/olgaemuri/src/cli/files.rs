@@ -1,14 +1,9 @@
 //! Reading and writing, with `-` for standard input and output.
 
-use super::container;
-use super::text::fault::Fault;
-use super::text::session::SessionText;
+use olgaemuri::SessionText;
+use olgaemuri::text::Source;
 use std::fs;
 use std::io::{self, Read, Write};
-use std::path::{Path, PathBuf};
-
-/// How many bad lines are reported at most.
-const MOST_FAULTS: usize = 20;
 
 pub fn read(file: &str) -> Result<Vec<u8>, String> {
     let bytes = if file == "-" {
@@ -37,16 +32,16 @@ pub fn write(file: &str, bytes: &[u8]) -> Result<(), String> {
 /// The session in a file, in text or in bytes.
 pub fn load(file: &str) -> Result<SessionText, String> {
     let bytes = read(file)?;
-    if bytes.starts_with(container::MAGIC) {
-        return container::from_bytes(&bytes)
-            .map_err(|message| format!("{}: {message}", called(file)));
-    }
-    load_text(file, &bytes)
+    SessionText::load(&bytes, &source(file)).map_err(|error| error.to_string())
 }
 
-pub fn load_text(file: &str, bytes: &[u8]) -> Result<SessionText, String> {
-    let session = SessionText::parse(called(file), folder(file), bytes);
-    session.map_err(|faults| fault_list(&faults))
+/// Where a session comes from; standard input stands in the present folder.
+pub fn source(file: &str) -> Source {
+    if file == "-" {
+        Source::named(called(file)).in_folder("")
+    } else {
+        Source::file(file)
+    }
 }
 
 /// Whether the two names lead to one file.
@@ -58,22 +53,4 @@ pub fn same_file(one: &str, other: &str) -> bool {
 /// How a file is called in messages.
 pub fn called(file: &str) -> &str {
     if file == "-" { "standard input" } else { file }
-}
-
-/// Where the file stands; the present folder for standard input.
-fn folder(file: &str) -> PathBuf {
-    let parent = Path::new(file).parent().filter(|_| file != "-");
-    parent.map(Path::to_path_buf).unwrap_or_default()
-}
-
-fn fault_list(faults: &[Fault]) -> String {
-    let mut shown: Vec<String> = faults
-        .iter()
-        .take(MOST_FAULTS)
-        .map(Fault::to_string)
-        .collect();
-    if faults.len() > MOST_FAULTS {
-        shown.push(format!("and {} more bad lines", faults.len() - MOST_FAULTS));
-    }
-    shown.join("\n")
 }

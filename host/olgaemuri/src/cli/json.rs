@@ -2,11 +2,9 @@
 //! stand in the text format. All floats of answers are finite.
 
 use super::events::{Event, breakdowns};
-use super::number::float_text;
 use super::report::{Report, Row};
-use super::text::names::Names;
-use super::text::write::item_text;
 use super::wording::{input_word, meaning};
+use olgaemuri::text::{Names, float_text};
 
 /// A string with its quotes.
 pub fn string(text: &str) -> String {
@@ -52,12 +50,8 @@ fn array(elements: &[String]) -> String {
 }
 
 pub fn report_json(report: &Report) -> String {
-    let names = &report.text.names;
-    let rows: Vec<String> = report
-        .rows
-        .iter()
-        .map(|row| row_object(row, names))
-        .collect();
+    let names = report.names();
+    let rows: Vec<String> = report.rows().map(|row| row_object(&row, names)).collect();
     let events: Vec<String> = report
         .events
         .iter()
@@ -68,17 +62,14 @@ pub fn report_json(report: &Report) -> String {
         .iter()
         .map(|event| event_object(event, names))
         .collect();
-    let outcome = &report.outcome;
+    let outcome = report.outcome();
     let fields = [
         ("end", outcome.end_number().to_string()),
         ("accepted", report.accepted().to_string()),
-        (
-            "refused",
-            (report.rows.len() - report.accepted()).to_string(),
-        ),
-        ("applied", outcome.applied.len().to_string()),
-        ("draws", outcome.draws.to_string()),
-        ("thresholds", report.text.thresholds().len().to_string()),
+        ("refused", report.refused().to_string()),
+        ("applied", outcome.applied().len().to_string()),
+        ("draws", report.session.draws().to_string()),
+        ("thresholds", report.session.thresholds().len().to_string()),
         ("answers", array(&rows)),
         ("events", array(&events)),
         ("breakdowns", array(&breakdowns)),
@@ -88,8 +79,8 @@ pub fn report_json(report: &Report) -> String {
 }
 
 fn row_object(row: &Row, names: &Names) -> String {
-    let (step, answer) = (&row.step, &row.step.answer);
-    let text = item_text(&step.input.clone().into()).replace('\n', " ");
+    let (step, answer) = (row.step, &row.step.answer);
+    let text = step.input.to_string().replace('\n', " ");
     let now = step.input.command().and_then(|command| command.now());
     let event = |text: String| {
         if answer.event {
@@ -101,7 +92,7 @@ fn row_object(row: &Row, names: &Names) -> String {
     object(&[
         ("no", row.number.to_string()),
         ("line", row.line.to_string()),
-        ("command", string(&input_word(&step.input))),
+        ("command", string(input_word(&step.input))),
         ("text", string(&text)),
         ("machine", maybe(step.clock, |machine| machine.to_string())),
         (

@@ -3,7 +3,6 @@
 
 mod arguments;
 mod compare;
-mod container;
 mod convert;
 mod csv;
 mod events;
@@ -11,14 +10,11 @@ mod files;
 mod help;
 mod interactive;
 mod json;
-mod number;
 mod progress;
 mod report;
 mod run;
-mod suggest;
 mod svg;
 mod table;
-mod text;
 mod wording;
 
 use arguments::{Arguments, Known};
@@ -98,7 +94,7 @@ fn unknown(word: &str) -> Failure {
     } else {
         String::new()
     };
-    let hint = suggest::hint_or(word, &SUBCOMMANDS, &otherwise);
+    let hint = olgaemuri::text::hint_or(word, &SUBCOMMANDS, &otherwise);
     Failure::usage(&format!("unknown subcommand `{word}`{hint}"), help::GENERAL)
 }
 

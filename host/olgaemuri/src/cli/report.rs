@@ -1,65 +1,107 @@
 //! A session that was run: each command with its line, its answer and whether it was undone.
 
 use super::events::{Event, events};
-use super::text::session::SessionText;
-use olgaemuri::{Command, Outcome, Step};
+use olgaemuri::text::Names;
+use olgaemuri::{Command, Outcome, Session, SessionText, Step};
 
 /// One input with its answer. Rows are numbered from 1.
-#[derive(Clone, Debug)]
-pub struct Row {
+#[derive(Clone, Copy, Debug)]
+pub struct Row<'a> {
     pub number: usize,
     pub line: usize,
-    pub step: Step,
+    pub step: &'a Step,
     /// The row of the UNDO that reverted it.
     pub undone_by: Option<usize>,
     /// The row that it reverted, where it is an accepted UNDO.
     pub undoes: Option<usize>,
 }
 
+/// What a row has beside its step.
+#[derive(Clone, Copy, Debug)]
+struct Mark {
+    line: usize,
+    undone_by: Option<usize>,
+    undoes: Option<usize>,
+}
+
 pub struct Report {
     pub text: SessionText,
-    pub outcome: Outcome,
-    pub rows: Vec<Row>,
+    pub session: Session,
     pub events: Vec<Event>,
+    marks: Vec<Mark>,
 }
 
 impl Report {
     /// Runs a session.
     pub fn new(text: SessionText) -> Self {
-        let outcome = text.session().run();
-        let rows = rows(&outcome, &text.input_lines());
-        let events = events(&outcome);
+        let session = text.session();
+        let outcome = session.run();
+        let lines = text.lines_of(outcome.steps.iter().map(|step| &step.input));
+        let (marks, events) = (marks(&outcome.steps, &lines), events(outcome));
         Self {
             text,
-            outcome,
-            rows,
+            session,
             events,
+            marks,
+        }
+    }
+
+    pub fn outcome(&self) -> &Outcome {
+        self.session.run()
+    }
+
+    pub fn names(&self) -> &Names {
+        self.text.names()
+    }
+
+    /// How many commands were answered.
+    pub fn given(&self) -> usize {
+        self.marks.len()
+    }
+
+    pub fn rows(&self) -> impl Iterator<Item = Row<'_>> {
+        (1..=self.given()).map(|number| self.row(number))
+    }
+
+    /// The row with this number, which is one of them.
+    pub fn row(&self, number: usize) -> Row<'_> {
+        let mark = self.marks[number - 1];
+        Row {
+            number,
+            line: mark.line,
+            step: &self.outcome().steps[number - 1],
+            undone_by: mark.undone_by,
+            undoes: mark.undoes,
         }
     }
 
     pub fn accepted(&self) -> usize {
-        self.outcome
+        self.outcome()
             .answers()
             .filter(|answer| answer.is_accepted())
             .count()
     }
 
+    pub fn refused(&self) -> usize {
+        self.given() - self.accepted()
+    }
+
     /// How many commands were taken back.
     pub fn undone(&self) -> usize {
-        let undone = self.rows.iter().filter(|row| row.undone_by.is_some());
+        let undone = self.marks.iter().filter(|mark| mark.undone_by.is_some());
         undone.count()
     }
 
     /// Bytes of the list that the run did not read, having ended before.
     pub fn unread(&self) -> u64 {
-        self.text.commands().len() as u64 - self.outcome.bytes_read
+        self.session.commands().len() as u64 - self.outcome().bytes_read
     }
 }
 
-fn rows(outcome: &Outcome, lines: &[usize]) -> Vec<Row> {
-    let mut rows: Vec<Row> = Vec::with_capacity(outcome.steps.len());
+fn marks(steps: &[Step], lines: &[usize]) -> Vec<Mark> {
+    let mut marks: Vec<Mark> = Vec::with_capacity(steps.len());
     let mut applied = Vec::new();
-    for ((step, line), number) in outcome.steps.iter().zip(lines).zip(1..) {
+    for ((step, line), number) in steps.iter().zip(lines).zip(1..) {
         let mut undoes = None;
         match step.input.command().filter(|_| step.answer.is_accepted()) {
             Some(Command::Undo) => undoes = applied.pop(),
@@ -67,15 +109,13 @@ fn rows(outcome: &Outcome, lines: &[usize]) -> Vec<Row> {
             None => {}
         }
         if let Some(undone) = undoes {
-            rows[undone - 1].undone_by = Some(number);
+            marks[undone - 1].undone_by = Some(number);
         }
-        rows.push(Row {
-            number,
+        marks.push(Mark {
             line: *line,
-            step: step.clone(),
             undone_by: None,
             undoes,
         });
     }
-    rows
+    marks
 }

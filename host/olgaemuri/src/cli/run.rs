@@ -76,9 +76,7 @@ fn session_file(arguments: &Arguments) -> Result<&str, &'static str> {
 /// Loads and runs a session.
 pub fn reported(file: &str) -> Result<Report, Failure> {
     let text = watched("reading the session", || load(file))?;
-    let count = text.input_lines().len();
-    let what = format!("running {count} commands");
-    Ok(watched(&what, || Report::new(text)))
+    Ok(watched("running the commands", || Report::new(text)))
 }
 
 /// The file's name without its folder.

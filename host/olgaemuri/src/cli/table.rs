@@ -2,8 +2,8 @@
 
 use super::events::{Event, breakdowns};
 use super::report::{Report, Row};
-use super::text::names::Names;
 use super::wording;
+use olgaemuri::text::Names;
 
 /// A column's head; numbers stand to the right.
 #[derive(Clone, Copy)]
@@ -59,9 +59,8 @@ pub fn aligned(columns: &[Column], rows: &[Vec<String>]) -> String {
 /// Everything that `run` prints.
 pub fn report_text(report: &Report) -> String {
     let rows: Vec<Vec<String>> = report
-        .rows
-        .iter()
-        .map(|row| row_cells(row, &report.text.names))
+        .rows()
+        .map(|row| row_cells(&row, report.names()))
         .collect();
     let mut text = aligned(&COLUMNS, &rows);
     text.push('\n');
@@ -69,7 +68,7 @@ pub fn report_text(report: &Report) -> String {
     text.push_str("\nBreakdowns, delivered and scheduled:\n\n");
     text.push_str(&breakdown_table(
         &breakdowns(&report.events),
-        &report.text.names,
+        report.names(),
     ));
     text
 }
@@ -89,7 +88,7 @@ const COLUMNS: [Column; 11] = [
 ];
 
 fn row_cells(row: &Row, names: &Names) -> Vec<String> {
-    let (step, answer) = (&row.step, &row.step.answer);
+    let (step, answer) = (row.step, &row.step.answer);
     let now = step.input.command().and_then(|command| command.now());
     let event = |text: String| if answer.event { text } else { String::new() };
     vec![
@@ -98,7 +97,7 @@ fn row_cells(row: &Row, names: &Names) -> Vec<String> {
         now.map_or(String::new(), wording::rounded),
         step.clock
             .map_or(String::new(), |machine| names.machine(machine)),
-        wording::input_word(&step.input),
+        wording::input_word(&step.input).to_string(),
         wording::operands(&step.input, names),
         wording::answer(row),
         event(names.cause(answer.cause)),
@@ -110,16 +109,15 @@ fn row_cells(row: &Row, names: &Names) -> Vec<String> {
 
 /// One line on how many commands were what, and the draws.
 fn summary(report: &Report) -> String {
-    let (given, accepted) = (report.rows.len(), report.accepted());
-    let refused = given - accepted;
+    let (given, accepted, refused) = (report.given(), report.accepted(), report.refused());
     let undone = report.undone();
-    let (applied, draws) = (report.outcome.applied.len(), report.outcome.draws);
-    let thresholds = report.text.thresholds().len();
+    let (applied, draws) = (report.outcome().applied().len(), report.session.draws());
+    let thresholds = report.session.thresholds().len();
     let mut text = format!(
         "{given} commands: {accepted} accepted, {refused} refused; {undone} taken back, {applied} in force. \
          Thresholds drawn: {draws} of {thresholds}.\n"
     );
-    if report.outcome.end.is_some_and(wording::ends_run) {
+    if report.outcome().end.is_some_and(wording::ends_run) {
         let unread = report.unread();
         text += &format!(
             "The run ended at the last command shown: {unread} bytes from there on are no whole command.\n"

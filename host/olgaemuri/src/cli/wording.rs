@@ -1,10 +1,7 @@
 //! Commands and answers in a planner's words.
 
-use super::number::float_text;
-use super::report::Row;
-use super::text::commands::{POLICIES, TIES};
-use super::text::names::Names;
-use super::text::write::{command_word, item_text, raw_text};
+use super::report::{Report, Row};
+use olgaemuri::text::{Names, float_text};
 use olgaemuri::{Command, Hazard, Input, Pair, Refusal};
 
 /// A float for tables: short, and rounded where its digits are many. CSV and JSON have all of them.
@@ -22,10 +19,8 @@ pub fn rounded(value: f64) -> String {
 }
 
 /// The first word of an input.
-pub fn input_word(input: &Input) -> String {
-    input
-        .command()
-        .map_or_else(|| "raw".to_string(), command_word)
+pub fn input_word(input: &Input) -> &'static str {
+    input.command().map_or("raw", Command::word)
 }
 
 /// The operands but for machine and time, which have columns of their own; cut where they are long.
@@ -33,7 +28,7 @@ pub fn operands(input: &Input, names: &Names) -> String {
     const MOST: usize = 42;
     let words = match input {
         Input::Command(command) => command_operands(command, names),
-        Input::Raw(bytes) => raw_text(bytes).replace("raw ", "").replace('\n', " "),
+        Input::Raw(_) => input.to_string().replace("raw ", "").replace('\n', " "),
     };
     if words.chars().count() <= MOST {
         return words;
@@ -47,8 +42,6 @@ fn command_operands(command: &Command, names: &Names) -> String {
         Command::Create {
             policy, tie, scale, ..
         } => {
-            let policy = POLICIES[usize::from(policy.number())];
-            let tie = TIES[usize::from(tie.number())];
             format!("{policy}, {tie}, scale {}", rounded(*scale))
         }
         Command::Set { cause, hazard, .. } => {
@@ -58,13 +51,12 @@ fn command_operands(command: &Command, names: &Names) -> String {
         Command::Reschedule { censor, .. } | Command::Resume { censor, .. } => {
             censor.map_or(String::new(), |time| format!("censor {}", rounded(time)))
         }
-        Command::Pause { .. } | Command::Deliver | Command::Undo => String::new(),
+        _ => String::new(),
     }
 }
 
 fn hazard_words(hazard: &Hazard) -> String {
     match hazard {
-        Hazard::Zero => "zero".to_string(),
         Hazard::Constant(rate) => format!("rate {}", rounded(*rate)),
         Hazard::Gompertz(eta) => format!("eta {}", rounded(*eta)),
         Hazard::PiecewiseConstant { pairs, trailing } => {
@@ -72,6 +64,7 @@ fn hazard_words(hazard: &Hazard) -> String {
             let pieces: String = pairs.iter().map(piece).collect();
             format!("{pieces}then {}", rounded(*trailing))
         }
+        _ => "zero".to_string(),
     }
 }
 
@@ -119,22 +112,21 @@ pub fn ends_run(refusal: Refusal) -> bool {
     matches!(refusal, Refusal::UnknownCode | Refusal::CutShort)
 }
 
-/// A row's answer as a sentence; the rows are all that there are.
-pub fn told(row: &Row, rows: &[Row], names: &Names) -> String {
+/// A row's answer as a sentence.
+pub fn told(report: &Report, row: &Row) -> String {
     let answer = &row.step.answer;
     if let Some(refusal) = answer.refusal {
         return format!("refused by {}: {}", refusal.number(), meaning(refusal));
     }
     if let Some(undone) = row.undoes {
-        let undone = &rows[undone - 1].step.input;
-        return format!("took back: {}", item_text(&undone.clone().into()));
+        return format!("took back: {}", report.row(undone).step.input);
     }
     let withdrawn = if answer.withdrawn {
         "the breakdown scheduled before is withdrawn"
     } else {
         ""
     };
-    let event = event_words(row, names);
+    let event = event_words(row, report.names());
     let parts: Vec<&str> = [withdrawn, &event]
         .into_iter()
         .filter(|part| !part.is_empty())

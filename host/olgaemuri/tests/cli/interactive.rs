@@ -6,9 +6,13 @@ use std::fs;
 fn typed(words: &[&str], input: &str) -> String {
     let words: Vec<&str> = ["interactive"].iter().chain(words).copied().collect();
     let ran = olgaemuri(&words, input.as_bytes());
-    assert_eq!((ran.status, ran.err.as_str()), (0, ""));
+    assert_eq!(ran.status, 0);
+    assert!(["", NOT_SAVED].contains(&ran.err.as_str()), "{}", ran.err);
     ran.text().to_string()
 }
+
+/// What is said on standard error where the input ends before what was typed is saved.
+const NOT_SAVED: &str = "not saved: the input has ended\n";
 
 const PRESS: &str = "thresholds 2 1
 machine 0 \"press 1\"
@@ -27,8 +31,7 @@ fn an_edit_is_made_and_taken_back() {
     assert_eq!(out, TAKEN_BACK);
 }
 
-const TAKEN_BACK: &str =
-    "Type commands, `help` for help, `undo` to take the last one back, `quit` to end.
+const TAKEN_BACK: &str = "Type commands; `undo` and `redo`, `help` for help, `quit` to end.
   in force: 0; scheduled: nothing; thresholds drawn: 0 of 0
 noted
   in force: 0; scheduled: nothing; thresholds drawn: 0 of 2
@@ -200,7 +203,7 @@ fn wrong_words_and_help() {
         "unknown word `undoo`; did you mean `undo`?",
         "unknown word `banana`; `help` tells what can be typed",
         "typed:5:15: unknown operand `casue`; did you mean `cause`?",
-        "  undo            takes the last command back",
+        "  undo [N]        takes the last command back, or the last N\n",
         "  reschedule machine=3 now=T [censor=T] [priority=0]",
         "\n  pause machine=3 now=T      withdraws it; what was used up of the thresholds\n",
         "unknown word `me`",
@@ -208,4 +211,159 @@ fn wrong_words_and_help() {
     ] {
         assert!(out.contains(expected), "{expected}\n{out}");
     }
+}
+
+/// The last lines of what is printed.
+fn last(out: &str, count: usize) -> Vec<&str> {
+    let lines: Vec<&str> = out.lines().collect();
+    lines[lines.len() - count..].to_vec()
+}
+
+const EDITS: &str = "pause machine=0 now=1\nresume machine=0 now=3\n";
+
+#[test]
+fn several_commands_are_taken_back_and_done_again() {
+    let out = typed(&[], &format!("{PRESS}{EDITS}undo 2\n"));
+    let expected = [
+        "took back: resume machine=0 now=3 priority=0",
+        "took back: pause machine=0 now=1",
+        "  in force: 3; scheduled: press 1 by ram seal at tick 40; thresholds drawn: 1 of 2",
+    ];
+    assert_eq!(last(&out, 3), expected);
+    let out = typed(
+        &[],
+        &format!("{PRESS}{EDITS}undo 2\nredo\nredo 1\nundo\nundo\nredo 2\n"),
+    );
+    let expected = [
+        "done again: pause machine=0 now=1; the breakdown scheduled before is withdrawn",
+        "done again: resume machine=0 now=3 priority=0; scheduled: a breakdown of press 1 by ram seal, in 3, at tick 60",
+        "  in force: 5; scheduled: press 1 by ram seal at tick 60; thresholds drawn: 1 of 2",
+    ];
+    assert_eq!(last(&out, 3), expected);
+}
+
+#[test]
+fn too_many_and_none() {
+    let out = typed(
+        &[],
+        &format!("{PRESS}undo 4\nredo\nundo 0\nundo x\nundo 2\nredo 3\nundo 1 2\nredo 1 2\n"),
+    );
+    for expected in [
+        "in force: 3; nothing has changed\n",
+        "nothing to do again; nothing has changed\n",
+        "expected a whole number from 1 to 1000000, not `0`\n",
+        "expected a whole number from 1 to 1000000, not `x`\n",
+        "taken back: 2; nothing has changed\n",
+        "typed:13:6: expected an operand name=value, not `1`\n",
+        "nothing more may follow `redo`\n",
+    ] {
+        assert!(out.contains(expected), "{expected}\n{out}");
+    }
+}
+
+#[test]
+fn another_command_ends_redo() {
+    let out = typed(&[], &format!("{PRESS}undo\npause machine=0 now=1\nredo\n"));
+    assert!(
+        out.ends_with("nothing to do again; nothing has changed\n"),
+        "{out}"
+    );
+    // a refused one changes nothing, and neither do names and comments
+    let out = typed(
+        &[],
+        &format!("{PRESS}undo\npause machine=9 now=1\ncause 9 \"x\"\n# y\nredo\n"),
+    );
+    assert!(
+        out.contains("done again: reschedule machine=0 now=0"),
+        "{out}"
+    );
+}
+
+#[test]
+fn a_file_s_undos_can_be_done_again() {
+    let file = scratch("undone.session");
+    fs::write(&file, format!("{PRESS}{EDITS}undo\n")).unwrap();
+    let out = typed(&[file.to_str().unwrap()], "redo\n");
+    fs::remove_file(&file).unwrap();
+    assert!(out.contains("done again: resume machine=0 now=3"), "{out}");
+}
+
+#[test]
+fn help_on_every_word() {
+    let words = "create set remove reschedule pause resume deliver undo thresholds journal machine cause raw \
+        redo help list save picture quit now censor priority policy tie scale process entity hazard rate eta pieces then";
+    for word in words.split_whitespace() {
+        let out = typed(&[], &format!("help {word}\nquit\n"));
+        let lines: Vec<&str> = out.lines().skip(2).collect();
+        assert!(
+            lines
+                .first()
+                .is_some_and(|line| line.starts_with(&format!("  {word} "))),
+            "{out}"
+        );
+        assert!(
+            lines
+                .iter()
+                .all(|line| line.starts_with("   ") || line.starts_with(&format!("  {word}"))),
+            "{out}"
+        );
+    }
+    assert!(typed(&[], "help\n").contains("rlwrap olgaemuri interactive"));
+}
+
+#[test]
+fn names_with_spaces_can_be_saved_to() {
+    let file = scratch("my shop.session");
+    let path = file.to_str().unwrap();
+    let out = typed(&[], &format!("{PRESS}save {path}\nsave \"{path}\"\nquit\n"));
+    let saved = format!("saved; `olgaemuri run '{path}'` runs it again\n");
+    assert_eq!(out.matches(&saved).count(), 2, "{out}");
+    assert!(
+        fs::read_to_string(&file)
+            .unwrap()
+            .starts_with("thresholds 2 1\n")
+    );
+    let out = typed(&[], &format!("save {path}\nsave {path} overwrite\n"));
+    assert!(out.contains("exists; `save "), "{out}");
+    assert_eq!(fs::read_to_string(&file).unwrap(), "");
+    fs::remove_file(&file).unwrap();
+}
+
+#[test]
+fn the_end_of_the_input_warns_of_what_is_not_saved() {
+    let file = scratch("saved.session");
+    let save = format!("thresholds 1\nsave {}\n", file.display());
+    for (input, err) in [
+        ("thresholds 1\n", NOT_SAVED),
+        ("# noted\n", NOT_SAVED),
+        ("list\n\nbanana\n", ""),
+        (&save, ""),
+        ("thresholds 1\nquit\n", ""),
+    ] {
+        let ran = olgaemuri(&["interactive"], input.as_bytes());
+        assert_eq!((ran.status, ran.err.as_str()), (0, err), "{input}");
+    }
+    fs::remove_file(&file).unwrap();
+}
+
+#[test]
+fn saved_comments_stay_where_they_were() {
+    let (file, copy) = (scratch("first.session"), scratch("copy.session"));
+    let text = "# two machines\nthresholds 2 1  # recorded\nmachine 0 \"press 1\"\n\n# the first\n\
+        create machine=\"press 1\" process=0 policy=retain tie=lowest scale=10  # made\n\
+        pause machine=7 now=1  # refused\n# the end\n";
+    fs::write(&file, text).unwrap();
+    let input = format!(
+        "# typed\npause machine=\"press 1\" now=1 # stop\nsave {}\n",
+        copy.display()
+    );
+    typed(&[file.to_str().unwrap()], &input);
+    let saved = fs::read_to_string(&copy).unwrap();
+    let kept = text.replace("pause machine=7 now=1  # refused", "# refused");
+    assert_eq!(
+        saved,
+        kept + "# typed\npause machine=\"press 1\" now=1  # stop\n"
+    );
+    fs::remove_file(&file).unwrap();
+    fs::remove_file(&copy).unwrap();
 }

@@ -2,8 +2,8 @@
 
 use crate::cli::Failure;
 use crate::cli::files::write;
-use crate::cli::suggest::hint_or;
 use crate::cli::wording::meaning;
+use olgaemuri::text::hint_or;
 
 pub const GENERAL: &str = include_str!("general.txt");
 
@@ -34,7 +34,7 @@ pub fn show(topic: Option<&str>) -> Result<u8, Failure> {
     let text = match topic {
         None => GENERAL.to_string(),
         Some("refusals") => refusals(),
-        Some(topic) => match lines_on(topic) {
+        Some(topic) => match lines_on(topic, &[FORMAT]) {
             lines if lines.is_empty() => found(topic)?.to_string(),
             lines => lines,
         },
@@ -65,11 +65,17 @@ fn refusals() -> String {
     std::iter::once(head).chain(lines).collect()
 }
 
-/// The lines of the format's help that tell of one word, with those that go on from them.
-pub fn lines_on(word: &str) -> String {
+/// What `help` says to one who types a session.
+pub fn typed() -> String {
+    let (_, typed) = INTERACTIVE.split_once('\n').unwrap_or_default();
+    format!("{typed}\n{}", FORMAT.trim_end())
+}
+
+/// The lines of these texts that tell of one word, with those that go on from them.
+pub fn lines_on(word: &str, texts: &[&str]) -> String {
     let mut out = String::new();
     let mut wanted = false;
-    for line in FORMAT.lines() {
+    for line in texts.iter().flat_map(|text| text.lines()) {
         let goes_on = line.starts_with("   ");
         let first = line
             .strip_prefix("  ")

@@ -2,26 +2,29 @@
 
 use crate::cli::report::Report;
 use crate::cli::table::{Column, aligned, breakdown_table};
-use crate::cli::text::line::Item;
-use crate::cli::text::write::command_text;
 use crate::cli::wording::told;
 
-/// What a line did: the answers from this row on, or that it was noted where it is no command.
-pub fn answers(report: &Report, item: &Item, from: usize) -> String {
-    let rows = &report.rows;
-    let told = rows[from..]
-        .iter()
-        .map(|row| told(row, rows, &report.text.names));
-    match item {
-        Item::Command(_) | Item::Raw(_) => told.collect::<Vec<String>>().join("\n"),
-        _ => "noted".to_string(),
+/// What lines did: the answers behind this many rows, with the commands where these are done again; or that they were noted, where
+/// they are no commands.
+pub fn answers(report: &Report, known: usize, again: bool) -> String {
+    let answers = report.rows().skip(known).map(|row| {
+        let told = told(report, &row);
+        match (again, told.as_str()) {
+            (false, _) => told,
+            (true, "done") => format!("done again: {}", row.step.input),
+            (true, told) => format!("done again: {}; {told}", row.step.input),
+        }
+    });
+    match answers.collect::<Vec<String>>().join("\n") {
+        none if none.is_empty() => "noted".to_string(),
+        answers => answers,
     }
 }
 
 /// How many commands are in force, what is scheduled, how many thresholds are drawn.
 pub fn status(report: &Report) -> String {
-    let names = &report.text.names;
-    let pending = report.outcome.pending().into_iter().map(|event| {
+    let names = report.names();
+    let pending = report.outcome().pending().into_iter().map(|event| {
         let (machine, cause) = (names.machine(event.clock), names.cause(event.cause));
         format!("{machine} by {cause} at tick {}", event.ticks)
     });
@@ -30,7 +33,7 @@ pub fn status(report: &Report) -> String {
         [] => "nothing".to_string(),
         events => events.join(", "),
     };
-    let applied = report.outcome.applied.len();
+    let applied = report.outcome().applied().len();
     format!(
         "  in force: {applied}; scheduled: {scheduled}; {}",
         draws(report).to_lowercase()
@@ -39,23 +42,21 @@ pub fn status(report: &Report) -> String {
 
 /// The commands in force, the scheduled events and the draws.
 pub fn list(report: &Report) -> String {
-    let applied = (1..).zip(&report.outcome.applied);
+    let applied = (1..).zip(report.outcome().applied());
     let rows: Vec<Vec<String>> = applied
-        .map(|(number, applied): (usize, _)| {
-            vec![number.to_string(), command_text(&applied.command)]
-        })
+        .map(|(number, applied): (usize, _)| vec![number.to_string(), applied.command.to_string()])
         .collect();
     let commands = aligned(
         &[Column::Right("no"), Column::Left("command in force")],
         &rows,
     );
     let events: Vec<_> = report
-        .outcome
+        .outcome()
         .pending()
         .into_iter()
         .map(Into::into)
         .collect();
-    let events = breakdown_table(&events, &report.text.names);
+    let events = breakdown_table(&events, report.names());
     format!(
         "{commands}\nScheduled, in the order of delivery:\n\n{events}\n{}",
         draws(report)
@@ -63,6 +64,6 @@ pub fn list(report: &Report) -> String {
 }
 
 fn draws(report: &Report) -> String {
-    let thresholds = report.text.thresholds().len();
-    format!("Thresholds drawn: {} of {thresholds}", report.outcome.draws)
+    let (draws, thresholds) = (report.session.draws(), report.session.thresholds().len());
+    format!("Thresholds drawn: {draws} of {thresholds}")
 }

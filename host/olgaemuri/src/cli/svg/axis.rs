@@ -14,8 +14,7 @@ pub struct Axis {
 /// The last time that an applied command names.
 pub fn last_command_time(outcome: &Outcome) -> f64 {
     let times = outcome
-        .applied
-        .iter()
+        .applied()
         .filter_map(|applied| applied.command.now());
     times.fold(0.0, f64::max)
 }

@@ -4,8 +4,8 @@ use super::marks::Palette;
 use super::spans::Condition;
 use super::xml::{rectangle, text};
 use crate::cli::events::{Event, Fate};
-use crate::cli::text::names::Names;
 use olgaemuri::NO_CAUSE;
+use olgaemuri::text::Names;
 
 /// What an item shows.
 #[derive(Clone, Copy)]

@@ -3,10 +3,9 @@
 
 use super::xml::{escaped, place};
 use crate::cli::events::{Event, Fate};
-use crate::cli::number::float_text;
-use crate::cli::text::names::Names;
 use crate::cli::wording::rounded;
 use olgaemuri::NO_CAUSE;
+use olgaemuri::text::{Names, float_text};
 
 /// Okabe and Ito's colours, which the colour-blind can tell apart.
 const COLOURS: [&str; 8] = [

@@ -35,7 +35,7 @@ pub fn picture(report: &Report, title: &str) -> String {
 }
 
 fn summary(report: &Report) -> String {
-    let (applied, draws) = (report.outcome.applied.len(), report.outcome.draws);
+    let (applied, draws) = (report.outcome().applied().len(), report.session.draws());
     let undone = report.undone();
     format!(
         "{applied} commands in force, {undone} taken back and not drawn; {draws} thresholds drawn"

@@ -50,9 +50,9 @@ struct Place {
 pub fn spans(outcome: &Outcome, end: f64) -> Vec<Span> {
     let mut places = [Place::default(); CLOCKS];
     let mut spans = Vec::new();
-    for applied in &outcome.applied {
+    for applied in outcome.applied() {
         let place = &mut places[usize::from(applied.clock)];
-        spans.extend(place.enter(applied));
+        spans.extend(place.enter(&applied));
     }
     let last = (0..).zip(&mut places).filter_map(|(machine, place)| {
         let due = place.due.filter(|_| place.is(Condition::Running));
@@ -74,7 +74,7 @@ impl Place {
         if answer.withdrawn {
             self.due = None;
         }
-        match applied.command {
+        match *applied.command {
             Command::Reschedule { now, .. } | Command::Resume { now, .. } if answer.event => {
                 self.due = Some((now + answer.delta, answer.censored));
                 if self.is(Condition::Running) {
@@ -109,17 +109,14 @@ impl Place {
 #[cfg(test)]
 mod tests {
     use super::*;
-    use crate::cli::text::session::SessionText;
-    use std::path::PathBuf;
+    use olgaemuri::Session;
 
     /// The spans of machine 0, as condition, from, to.
     fn found(commands: &str) -> Vec<(&'static str, f64, f64)> {
         let head = "thresholds 2 1\ncreate machine=0 policy=retain\nset machine=0 cause=1 now=0 hazard=constant rate=0.5\n";
         let text = format!("{head}{commands}");
-        let session = SessionText::parse("shop", PathBuf::new(), text.as_bytes())
-            .unwrap()
-            .session();
-        let spans = spans(&session.run(), 10.0);
+        let session: Session = text.parse().unwrap();
+        let spans = spans(session.run(), 10.0);
         spans
             .iter()
             .map(|span| (span.condition.class(), span.from, span.to))

@@ -7,8 +7,8 @@ use super::spans::{Span, spans};
 use super::xml::{escaped, line, rectangle, text};
 use crate::cli::events::{Event, Fate};
 use crate::cli::report::Report;
-use crate::cli::text::names::Names;
 use crate::cli::wording::rounded;
+use olgaemuri::text::Names;
 use std::collections::BTreeMap;
 
 pub const WIDTH: f64 = 1200.0;
@@ -38,13 +38,13 @@ pub struct Timeline<'a> {
 
 impl<'a> Timeline<'a> {
     pub fn new(report: &'a Report) -> Self {
-        let clocks = &report.outcome.clocks;
-        let last = last_command_time(&report.outcome);
+        let clocks = &report.outcome().clocks;
+        let last = last_command_time(report.outcome());
         let end = end_time(&report.events, last);
         let centres = (0..16).map(|lane| TOP + LANE * (f64::from(lane) + 0.5));
         Self {
             report,
-            names: &report.text.names,
+            names: report.names(),
             axis: Axis {
                 end,
                 left: LEFT,
@@ -74,7 +74,7 @@ impl<'a> Timeline<'a> {
             .marks()
             .into_iter()
             .map(|time| self.axis_mark(time));
-        let spans = spans(&self.report.outcome, self.axis.end);
+        let spans = spans(self.report.outcome(), self.axis.end);
         let bars = spans.iter().map(|span| self.bar(span));
         let marks = drawing_order(&self.report.events).map(|event| self.mark(event));
         let labels = lanes().map(|(machine, centre)| self.labels(machine, centre));
@@ -97,7 +97,7 @@ impl<'a> Timeline<'a> {
 
     /// The background of a lane, its machine and what that machine's events came to.
     fn lane(&self, machine: u8, centre: f64) -> String {
-        let clock = self.report.outcome.clock(machine);
+        let clock = self.report.outcome().clock(machine);
         let events = clock.map(|clock| clock.events).unwrap_or_default();
         let counts = format!(
             "{} delivered, {} withdrawn",

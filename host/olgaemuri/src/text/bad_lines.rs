@@ -1,13 +1,20 @@
 //! Bad lines: each gets its column and what was expected.
 
-use super::session::SessionText;
-use crate::cli::number::FLOAT_FORMS;
-use std::path::PathBuf;
+use super::number::FLOAT_FORMS;
+use super::{Fault, SessionText, Source};
+
+/// The bad lines of a session in the present folder.
+fn faults(text: &[u8]) -> Vec<Fault> {
+    let source = Source::named("shop").in_folder("");
+    let error = SessionText::parse(text, &source).unwrap_err();
+    error.faults().to_vec()
+}
 
 /// The reports of a session, as FILE:LINE:COLUMN: MESSAGE.
 fn reports(text: &str) -> Vec<String> {
-    let faults = SessionText::parse("shop", PathBuf::new(), text.as_bytes()).unwrap_err();
-    let shown = faults.iter().map(|fault| fault.to_string());
+    let shown = faults(text.as_bytes())
+        .into_iter()
+        .map(|fault| fault.to_string());
     shown
         .map(|text| text.lines().next().unwrap().to_string())
         .collect()
@@ -35,6 +42,13 @@ fn a_file_of_thresholds_that_is_not_there() {
 }
 
 #[test]
+fn a_text_of_no_folder_names_no_files() {
+    let error = "thresholds from \"x\"".parse::<SessionText>().unwrap_err();
+    let expected = "text:1:17: expected the thresholds themselves: this text stands in no folder\n";
+    assert!(error.to_string().starts_with(expected), "{error}");
+}
+
+#[test]
 fn what_stands_against_an_earlier_line() {
     let text = "machine 1 \"a\"\nmachine 1 \"b\"\nmachine 2 \"a\"\n\
         journal 5\njournal 6\npause machine=\"aa\" now=0";
@@ -51,8 +65,7 @@ fn what_stands_against_an_earlier_line() {
 
 #[test]
 fn the_line_is_shown_with_a_caret() {
-    let text = b"undo\n\tpause machine=0";
-    let faults = SessionText::parse("shop", PathBuf::new(), text).unwrap_err();
+    let faults = faults(b"undo\n\tpause machine=0");
     let expected = "shop:2:17: `pause` needs an operand `now=`\n     \
         pause machine=0\n                    ^";
     assert_eq!(faults[0].to_string(), expected);
@@ -60,7 +73,6 @@ fn the_line_is_shown_with_a_caret() {
 
 #[test]
 fn bytes_that_are_no_text() {
-    let faults = SessionText::parse("shop", PathBuf::new(), b"undo\nma\xff\n").unwrap_err();
-    let report = faults[0].to_string();
+    let report = faults(b"undo\nma\xff\n")[0].to_string();
     assert!(report.starts_with("shop:2:3: expected text in UTF-8"));
 }

@@ -1,7 +1,7 @@
 //! Names of machines and causes. The engine knows numbers only.
 
 use super::words::quoted;
-use olgaemuri::NO_CAUSE;
+use crate::command::NO_CAUSE;
 use std::collections::BTreeMap;
 
 /// Names by number. A number has one name and a name one number.
@@ -14,12 +14,14 @@ pub struct Names {
 /// What a name is given to.
 #[derive(Clone, Copy, Debug, PartialEq, Eq)]
 pub enum Named {
+    /// A machine.
     Machine,
+    /// A cause.
     Cause,
 }
 
 impl Named {
-    pub fn word(self) -> &'static str {
+    pub(crate) fn word(self) -> &'static str {
         match self {
             Self::Machine => "machine",
             Self::Cause => "cause",
@@ -27,7 +29,7 @@ impl Named {
     }
 
     /// The largest number that can be given a name: the last machine, the last cause that can be set.
-    pub fn last(self) -> u32 {
+    pub(crate) fn last(self) -> u32 {
         match self {
             Self::Machine => 15,
             Self::Cause => NO_CAUSE - 1,
@@ -44,7 +46,7 @@ impl Names {
     }
 
     /// Gives a name, or says what stands against it.
-    pub fn add(&mut self, named: Named, number: u32, name: &str) -> Result<(), String> {
+    pub(crate) fn add(&mut self, named: Named, number: u32, name: &str) -> Result<(), String> {
         let word = named.word();
         if let Some(other) = self.table(named).get(&number) {
             return Err(format!(
@@ -66,27 +68,32 @@ impl Names {
         Ok(())
     }
 
+    /// The number that has this name.
+    #[must_use]
     pub fn number(&self, named: Named, name: &str) -> Option<u32> {
         let mut pairs = self.table(named).iter();
         pairs.find(|pair| pair.1 == name).map(|pair| *pair.0)
     }
 
     /// All names of a kind, for suggestions.
-    pub fn all(&self, named: Named) -> Vec<&str> {
+    pub(crate) fn all(&self, named: Named) -> Vec<&str> {
         self.table(named).values().map(String::as_str).collect()
     }
 
     /// The name as given.
+    #[must_use]
     pub fn given(&self, named: Named, number: u32) -> Option<&str> {
         self.table(named).get(&number).map(String::as_str)
     }
 
     /// The name, or `machine 3`.
+    #[must_use]
     pub fn machine(&self, number: u8) -> String {
         self.shown(Named::Machine, u32::from(number))
     }
 
     /// The name, or `cause 7`; `censored` for the number that stands for it.
+    #[must_use]
     pub fn cause(&self, number: u32) -> String {
         if number == NO_CAUSE {
             return "censored".to_string();

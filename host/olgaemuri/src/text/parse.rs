@@ -1,26 +1,30 @@
 //! One line of a session, read.
 
-use super::commands::{known_operands, read_command};
+use super::commands::{COMMANDS, known_operands, read_command};
 use super::fault::{Fault, Misplaced};
-use super::line::{Item, Line};
+use super::line::{ByName, Item, Line};
+use super::load::Source;
 use super::names::{Named, Names};
+use super::number::{parse_float, parse_whole};
 use super::session::SessionText;
 use super::words::{Word, Words, split};
-use crate::cli::number::{parse_float, parse_whole};
+use crate::command::Command;
 use std::fs;
-use std::path::PathBuf;
+use std::str::FromStr;
 
 /// The words that begin a line that is no typed command.
-pub const OTHERS: [&str; 5] = ["thresholds", "journal", "machine", "cause", "raw"];
+const OTHERS: [&str; 5] = ["thresholds", "journal", "machine", "cause", "raw"];
+
+/// The words that begin a line, those of commands first.
+pub fn line_words() -> impl Iterator<Item = &'static str> {
+    COMMANDS.iter().map(|command| command.0).chain(OTHERS)
+}
 
 /// Reads line after line and keeps the names that they give.
 #[derive(Clone, Debug, Default)]
 pub struct Reader {
-    /// How the session is called in reports.
-    pub file: String,
-    /// Where files of thresholds are looked for.
-    pub folder: PathBuf,
-    pub names: Names,
+    source: Source,
+    names: Names,
     journal: bool,
 }
 
@@ -37,63 +41,81 @@ impl From<Misplaced> for Wrong {
 }
 
 impl Reader {
-    pub fn new(file: &str, folder: PathBuf) -> Self {
-        let file = file.to_string();
+    /// A reader for a text that begins.
+    #[must_use]
+    pub fn new(source: Source) -> Self {
         Self {
-            file,
-            folder,
+            source,
             ..Self::default()
         }
     }
 
     /// A reader that goes on where a session ends.
-    pub fn after(session: &SessionText, file: &str, folder: PathBuf) -> Self {
-        let names = session.names.clone();
-        let journal = session.journal().is_some();
+    #[must_use]
+    pub fn after(session: &SessionText, source: Source) -> Self {
         Self {
-            names,
-            journal,
-            ..Self::new(file, folder)
+            source,
+            names: session.names().clone(),
+            journal: session.journal().is_some(),
         }
     }
 
-    /// Reads a line, the number-th of its file.
+    /// The names that were given so far.
+    #[must_use]
+    pub fn names(&self) -> &Names {
+        &self.names
+    }
+
+    pub(crate) fn into_names(self) -> Names {
+        self.names
+    }
+
+    /// Reads a line, the number-th of its text.
+    ///
+    /// # Errors
+    ///
+    /// The line is a bad one. Then the reader is as it was.
     pub fn read(&mut self, source: &str, number: usize) -> Result<Line, Fault> {
-        let line = split(source).map_err(Wrong::Here).and_then(|words| {
-            let item = if words.words.is_empty() {
-                None
-            } else {
-                Some(self.item(&words)?)
-            };
-            Ok(Line {
-                item,
-                comment: words.comment,
-            })
-        });
-        line.map_err(|wrong| match wrong {
-            Wrong::Here(misplaced) => misplaced.within(&self.file, number, source),
+        self.line(source).map_err(|wrong| match wrong {
+            Wrong::Here(misplaced) => misplaced.within(&self.source.name, number, source),
             Wrong::There(fault) => fault,
         })
     }
 
-    fn item(&mut self, words: &Words) -> Result<Item, Wrong> {
-        match words.words[0].text.as_str() {
-            "thresholds" => self.thresholds(words),
-            "journal" => Ok(self.journal(words)?),
+    fn line(&mut self, source: &str) -> Result<Line, Wrong> {
+        let words = split(source)?;
+        let mut line = Line {
+            comment: words.comment.clone(),
+            ..Line::default()
+        };
+        if !words.words.is_empty() {
+            let (item, by_name) = self.item(&words)?;
+            (line.item, line.by_name) = (Some(item), by_name);
+        }
+        Ok(line)
+    }
+
+    fn item(&mut self, words: &Words) -> Result<(Item, ByName), Wrong> {
+        let first = &words.words[0];
+        let item = match first.text.as_str() {
+            "thresholds" => self.thresholds(words)?,
+            "journal" => self.journal(words)?,
             "machine" => {
                 let (number, name) = self.name(words, Named::Machine)?;
-                Ok(Item::Machine(number as u8, name))
+                Item::Machine(number as u8, name)
             }
             "cause" => {
                 let (number, name) = self.name(words, Named::Cause)?;
-                Ok(Item::Cause(number, name))
+                Item::Cause(number, name)
             }
-            "raw" => Ok(Item::Raw(raw(words)?)),
+            "raw" => Item::Raw(raw(words)?),
             _ => {
-                let known = known_operands(&words.words[0], &OTHERS)?;
-                Ok(Item::Command(read_command(words, known, &self.names)?))
+                let known = known_operands(first, &OTHERS)?;
+                let (command, by_name) = read_command(words, known, &self.names)?;
+                return Ok((Item::Command(command), by_name));
             }
-        }
+        };
+        Ok((item, ByName::default()))
     }
 
     fn thresholds(&self, words: &Words) -> Result<Item, Wrong> {
@@ -119,10 +141,16 @@ impl Reader {
 
     /// The thresholds of a file beside the session.
     fn threshold_file(&self, word: &Word, name: &str) -> Result<Vec<f64>, Wrong> {
-        let path = self.folder.join(name);
+        let here = |message: String| Misplaced::new(word.column, message);
+        let folder = self.source.folder.as_ref().ok_or_else(|| {
+            here("expected the thresholds themselves: this text stands in no folder".to_string())
+        })?;
+        let path = folder.join(name);
         let text = fs::read_to_string(&path).map_err(|error| {
-            let message = format!("cannot read the thresholds of {}: {error}", path.display());
-            Misplaced::new(word.column, message)
+            here(format!(
+                "cannot read the thresholds of {}: {error}",
+                path.display()
+            ))
         })?;
         let mut values = Vec::new();
         for (index, line) in text.lines().enumerate() {
@@ -169,8 +197,29 @@ impl Reader {
     }
 }
 
+/// A line of a session that is a command, with numbers for machine and cause; what [`Display`](std::fmt::Display) writes is one.
+impl FromStr for Command {
+    type Err = Fault;
+
+    fn from_str(text: &str) -> Result<Self, Fault> {
+        let mut reader = Reader::new(Source::named("command"));
+        match reader.read(text, 1)?.item {
+            Some(Item::Command(command)) => Ok(command),
+            _ => Err(Misplaced::new(1, "expected a command").within("command", 1, text)),
+        }
+    }
+}
+
+/// Some editors put it at the front of a text.
+const BYTE_ORDER_MARK: char = '\u{feff}';
+
+/// The text behind a byte order mark, if it has one.
+pub(crate) fn without_mark(text: &str) -> &str {
+    text.strip_prefix(BYTE_ORDER_MARK).unwrap_or(text)
+}
+
 /// The longest journal that a session may ask for, 1 GiB.
-pub const MAX_JOURNAL: u64 = 1 << 30;
+pub(crate) const MAX_JOURNAL: u64 = 1 << 30;
 
 /// As many words as are wanted, no fewer and no more.
 fn exactly<'a, const N: usize>(

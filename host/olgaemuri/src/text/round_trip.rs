@@ -1,8 +1,7 @@
 //! Text to bytes to text to bytes, on random sessions with junk among the commands.
 
-use super::session::SessionText;
-use crate::cli::container;
-use std::path::PathBuf;
+use super::{SessionText, Source, TextError};
+use crate::session::Session;
 
 /// SplitMix64.
 struct Random(u64);
@@ -122,8 +121,9 @@ impl Random {
 
 /// The session that a text says, as bytes.
 fn read(text: &str) -> Vec<u8> {
-    let session = SessionText::parse("random", PathBuf::new(), text.as_bytes());
-    container::to_bytes(&session.unwrap_or_else(|faults| panic!("{}\n{text}", faults[0])))
+    let session: Result<Session, TextError> = text.parse();
+    let session = session.unwrap_or_else(|error| panic!("{error}\n{text}"));
+    session.to_bytes()
 }
 
 #[test]
@@ -133,11 +133,15 @@ fn every_byte_comes_back() {
     for _ in 0..2000 {
         let (commands, thresholds) = (random.commands(), random.thresholds());
         let journal = (random.below(2) == 0).then(|| random.below(5000));
-        let session = SessionText::from_parts(&commands, thresholds, journal);
-        let bytes = container::to_bytes(&session);
-        let text = container::from_bytes(&bytes).unwrap().to_text();
+        let mut session = Session::new(thresholds);
+        session.push_raw(&commands);
+        if let Some(length) = journal {
+            session = session.with_journal_length(length as usize);
+        }
+        let bytes = session.to_bytes();
+        let text = Session::from_bytes(&bytes).unwrap().to_string();
         assert_eq!(read(&text), bytes, "{text}");
-        let again = container::from_bytes(&read(&text)).unwrap().to_text();
+        let again = Session::from_bytes(&read(&text)).unwrap().to_string();
         assert_eq!(again, text);
         raw += usize::from(text.contains("raw "));
     }
@@ -154,18 +158,18 @@ fn operands_in_any_order_and_form_mean_the_same() {
         set machine=2 cause=7 priority=0 now=1 hazard=constant rate=0.5\n\
         resume machine=2 now=1 priority=0\ndeliver\nundo\n";
     assert_eq!(read(short), read(long));
-    let back = container::from_bytes(&read(short)).unwrap();
-    assert_eq!(back.to_text(), long);
+    let back = Session::from_bytes(&read(short)).unwrap();
+    assert_eq!(back.to_string(), long);
 }
 
 #[test]
 fn text_to_text_keeps_comments_and_names() {
     let text = "# head\n\nmachine 2 \"press \\\"2\\\"\"  # the old one\nthresholds 1 2.50\npause now=1.0 machine=2#now\n";
     let kept = "# head\n\nmachine 2 \"press \\\"2\\\"\"  # the old one\nthresholds 1 2.5\npause machine=2 now=1  #now\n";
-    let session = SessionText::parse("shop", PathBuf::new(), text.as_bytes()).unwrap();
-    assert_eq!(session.to_text(), kept);
-    let again = SessionText::parse("shop", PathBuf::new(), kept.as_bytes()).unwrap();
-    assert_eq!(again.to_text(), kept);
+    let session: SessionText = text.parse().unwrap();
+    assert_eq!(session.to_string(), kept);
+    let again: SessionText = kept.parse().unwrap();
+    assert_eq!(again.to_string(), kept);
 }
 
 #[test]
@@ -178,7 +182,8 @@ fn thresholds_of_a_file() {
     )
     .unwrap();
     std::fs::write(folder.join("bad"), "1\n2 x\n").unwrap();
-    let parse = |text: &str| SessionText::parse("shop", folder.clone(), text.as_bytes());
+    let source = Source::named("shop").in_folder(&folder);
+    let parse = |text: &str| SessionText::parse(text.as_bytes(), &source);
     let good = parse("thresholds 9\nthresholds from \"good\"\n").unwrap();
     let bits: Vec<u64> = good
         .thresholds()
@@ -192,8 +197,8 @@ fn thresholds_of_a_file() {
         0x7ff8_0000_0000_0001,
     ];
     assert_eq!(bits, expected);
-    assert_eq!(good.to_text(), "thresholds 9\nthresholds from \"good\"\n");
-    let fault = parse("thresholds from \"bad\"").unwrap_err()[0].clone();
+    assert_eq!(good.to_string(), "thresholds 9\nthresholds from \"good\"\n");
+    let fault = parse("thresholds from \"bad\"").unwrap_err().faults()[0].clone();
     assert_eq!((fault.line, fault.column), (2, 3));
     assert!(fault.file.ends_with("bad"));
     std::fs::remove_dir_all(&folder).unwrap();
@@ -202,6 +207,7 @@ fn thresholds_of_a_file() {
 #[test]
 fn inputs_know_their_lines() {
     let text = "# head\nundo\nraw 07\n\nraw 03 00\nraw 01000000\nraw 0708\nraw ff07\nundo\n";
-    let session = SessionText::parse("shop", PathBuf::new(), text.as_bytes()).unwrap();
-    assert_eq!(session.input_lines(), [2, 3, 5, 7, 7, 8]);
+    let session: SessionText = text.parse().unwrap();
+    let inputs = session.session().inputs();
+    assert_eq!(session.lines_of(inputs.iter()), [2, 3, 5, 7, 7, 8]);
 }

@@ -4,14 +4,14 @@ use super::fault::Misplaced;
 
 /// A word as it is written, quotes included.
 #[derive(Clone, Debug, PartialEq)]
-pub struct Word {
+pub(crate) struct Word {
     pub text: String,
     pub column: usize,
 }
 
 /// The words of a line, its comment without the `#`, and the column after the last word.
 #[derive(Clone, Debug, Default, PartialEq)]
-pub struct Words {
+pub(crate) struct Words {
     pub words: Vec<Word>,
     pub comment: Option<String>,
     pub end: usize,
@@ -89,12 +89,12 @@ fn unescape(inner: &str) -> Option<String> {
 }
 
 /// A name in quotes.
-pub fn quoted(name: &str) -> String {
+pub(crate) fn quoted(name: &str) -> String {
     format!("\"{}\"", name.replace('\\', "\\\\").replace('"', "\\\""))
 }
 
 /// Splits a line. Quotes that are not closed are the only thing that can be wrong here.
-pub fn split(line: &str) -> Result<Words, Misplaced> {
+pub(crate) fn split(line: &str) -> Result<Words, Misplaced> {
     let mut split = Words::default();
     let mut place = Place::Between;
     for (before, (index, c)) in line.char_indices().enumerate() {

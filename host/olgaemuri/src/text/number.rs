@@ -4,10 +4,11 @@ use std::fmt::Display;
 use std::str::FromStr;
 
 /// What a reader is told that a float may be.
-pub const FLOAT_FORMS: &str =
+pub(crate) const FLOAT_FORMS: &str =
     "a number such as 4, -0.25 or 1e-6, or 0x and the 16 hexadecimal digits of its bits";
 
 /// The shortest decimal that reads back as the same bits; a NaN by its bits.
+#[must_use]
 pub fn float_text(value: f64) -> String {
     if value.is_nan() {
         return format!("0x{:016x}", value.to_bits());
@@ -19,7 +20,11 @@ pub fn float_text(value: f64) -> String {
     }
 }
 
-/// A float, or what was expected.
+/// The float with this text, or what was expected.
+///
+/// # Errors
+///
+/// In words: what a float may be, and what was found.
 pub fn parse_float(text: &str) -> Result<f64, String> {
     if let Some(digits) = text.strip_prefix("0x") {
         return parse_bits(digits);
@@ -48,7 +53,7 @@ fn parse_bits(digits: &str) -> Result<f64, String> {
 }
 
 /// A whole number between two limits, or what was expected.
-pub fn parse_whole<T>(text: &str, least: T, most: T) -> Result<T, String>
+pub(crate) fn parse_whole<T>(text: &str, least: T, most: T) -> Result<T, String>
 where
     T: FromStr + Display + PartialOrd,
 {

@@ -1,20 +1,23 @@
 //! The operands `name=value` of a command: each known, each at most once, taken one by one.
 
 use super::fault::Misplaced;
+use super::line::ByName;
 use super::names::{Named, Names};
+use super::number::{parse_float, parse_whole};
+use super::suggest::{hint, hint_or};
 use super::words::{Word, Words};
-use crate::cli::number::{parse_float, parse_whole};
-use crate::cli::suggest::{hint, hint_or};
 use std::fmt::Display;
 use std::str::FromStr;
 
 /// The operands that have not been taken yet.
-pub struct Operands<'a> {
+pub(crate) struct Operands<'a> {
     pairs: Vec<(Word, Word)>,
     /// Where an operand that is missing would stand.
     end: usize,
     command: String,
     names: &'a Names,
+    /// Which operands taken so far were names.
+    pub by_name: ByName,
 }
 
 /// Puts a message to the word that it speaks of.
@@ -38,6 +41,7 @@ impl<'a> Operands<'a> {
             end,
             command,
             names,
+            by_name: ByName::default(),
         })
     }
 
@@ -113,6 +117,10 @@ impl<'a> Operands<'a> {
             return at(&word, number.map_err(|message| message + hint));
         }
         let name = word.name()?;
+        match named {
+            Named::Machine => self.by_name.machine = true,
+            Named::Cause => self.by_name.cause = true,
+        }
         self.names.number(named, &name).ok_or_else(|| {
             let hint = hint(&name, &self.names.all(named));
             Misplaced::new(
@@ -123,7 +131,7 @@ impl<'a> Operands<'a> {
     }
 
     /// Nothing may be left that does not go with `what`.
-    pub fn finish(self, what: &str) -> Result<(), Misplaced> {
+    pub fn finish(&self, what: &str) -> Result<(), Misplaced> {
         match self.pairs.first() {
             Some((name, _)) => {
                 let message = format!("`{}=` does not go with {what}", name.text);

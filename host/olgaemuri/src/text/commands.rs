@@ -1,15 +1,18 @@
 //! The commands of a session in text: reading their operands.
 
 use super::fault::Misplaced;
+use super::line::ByName;
 use super::names::Names;
+use super::number::{parse_float, parse_whole};
 use super::operands::Operands;
+use super::suggest::hint_or;
 use super::words::{Word, Words};
-use crate::cli::number::{parse_float, parse_whole};
-use crate::cli::suggest::hint_or;
-use olgaemuri::{Command, Entity, Hazard, MAX_PAIRS, Pair, Policy, Tie};
+use crate::choices::{Policy, Tie};
+use crate::command::{Command, Entity};
+use crate::hazard::{Hazard, MAX_PAIRS, Pair};
 
 /// The words that begin a command, and the operands that may follow.
-pub const COMMANDS: [(&str, &[&str]); 8] = [
+pub(crate) const COMMANDS: [(&str, &[&str]); 8] = [
     (
         "create",
         &["machine", "process", "policy", "tie", "scale", "entity"],
@@ -29,26 +32,29 @@ pub const COMMANDS: [(&str, &[&str]); 8] = [
 ];
 
 /// By document 01's number.
-pub const POLICIES: [&str; 2] = ["restart", "retain"];
+pub(crate) const HAZARDS: [&str; 4] = ["zero", "constant", "gompertz", "piecewise"];
 
-/// By document 01's number.
-pub const TIES: [&str; 3] = ["lowest", "highest", "priority"];
-
-/// By document 01's number.
-pub const HAZARDS: [&str; 4] = ["zero", "constant", "gompertz", "piecewise"];
-
-/// The command of a line whose first word is a known one.
-pub fn read_command(words: &Words, known: &[&str], names: &Names) -> Result<Command, Misplaced> {
+/// The command of a line whose first word is a known one, and which of its operands are names.
+pub(crate) fn read_command(
+    words: &Words,
+    known: &[&str],
+    names: &Names,
+) -> Result<(Command, ByName), Misplaced> {
     let mut operands = Operands::new(words, known, names)?;
-    match words.words[0].text.as_str() {
-        "create" => create(&mut operands),
+    let command = command(&words.words[0].text, &mut operands)?;
+    Ok((command, operands.by_name))
+}
+
+fn command(word: &str, operands: &mut Operands) -> Result<Command, Misplaced> {
+    match word {
+        "create" => create(operands),
         "set" => set(operands),
         "remove" => Ok(Command::Remove {
             clock: operands.machine()?,
             cause: operands.cause()?,
         }),
         "reschedule" => {
-            let (clock, now, censor, priority) = reschedule(&mut operands)?;
+            let (clock, now, censor, priority) = reschedule(operands)?;
             Ok(Command::Reschedule {
                 clock,
                 now,
@@ -61,7 +67,7 @@ pub fn read_command(words: &Words, known: &[&str], names: &Names) -> Result<Comm
             now: operands.float("now")?,
         }),
         "resume" => {
-            let (clock, now, censor, priority) = reschedule(&mut operands)?;
+            let (clock, now, censor, priority) = reschedule(operands)?;
             Ok(Command::Resume {
                 clock,
                 now,
@@ -76,9 +82,9 @@ pub fn read_command(words: &Words, known: &[&str], names: &Names) -> Result<Comm
 
 fn create(operands: &mut Operands) -> Result<Command, Misplaced> {
     let clock = operands.machine()?;
-    let policy = Policy::ALL[operands.choice("policy", &POLICIES)?];
+    let policy = Policy::ALL[operands.choice("policy", &Policy::WORDS)?];
     let process = operands.whole("process", 0, u64::MAX)?;
-    let tie = Tie::ALL[operands.optional_choice("tie", &TIES)?];
+    let tie = Tie::ALL[operands.optional_choice("tie", &Tie::WORDS)?];
     let scale = operands.optional_float("scale")?.unwrap_or(1.0);
     let entity = operands
         .optional("entity")
@@ -121,7 +127,7 @@ fn reschedule(operands: &mut Operands) -> Result<(u8, f64, Option<f64>, i32), Mi
     ))
 }
 
-fn set(mut operands: Operands) -> Result<Command, Misplaced> {
+fn set(operands: &mut Operands) -> Result<Command, Misplaced> {
     let (clock, cause) = (operands.machine()?, operands.cause()?);
     let priority = operands.whole("priority", 0, u32::MAX)?;
     let now = operands.float("now")?;
@@ -177,7 +183,10 @@ fn piece(text: &str, column: usize) -> Result<Pair, Misplaced> {
 }
 
 /// The operands of a command, or what its first word should have been.
-pub fn known_operands(word: &Word, others: &[&str]) -> Result<&'static [&'static str], Misplaced> {
+pub(crate) fn known_operands(
+    word: &Word,
+    others: &[&str],
+) -> Result<&'static [&'static str], Misplaced> {
     let found = COMMANDS.iter().find(|command| command.0 == word.text);
     found.map(|command| command.1).ok_or_else(|| {
         let commands = COMMANDS.iter().map(|command| command.0);

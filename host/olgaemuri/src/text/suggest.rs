@@ -1,6 +1,7 @@
 //! The word that was probably meant.
 
 /// The known word nearest to this one, where it is near enough to be a slip or a beginning.
+#[must_use]
 pub fn closest<'a>(word: &str, known: &[&'a str]) -> Option<&'a str> {
     let word = word.to_lowercase();
     let begun = known
@@ -16,11 +17,13 @@ pub fn closest<'a>(word: &str, known: &[&'a str]) -> Option<&'a str> {
 }
 
 /// `; did you mean ...?`, or nothing.
+#[must_use]
 pub fn hint(word: &str, known: &[&str]) -> String {
     hint_or(word, known, "")
 }
 
 /// `; did you mean ...?`, or these words instead.
+#[must_use]
 pub fn hint_or(word: &str, known: &[&str], otherwise: &str) -> String {
     match closest(word, known) {
         Some(meant) => format!("; did you mean `{meant}`?"),

@@ -1,0 +1,149 @@
+//! A session while it is typed.
+
+use super::shown;
+use crate::cli::report::Report;
+use crate::cli::wording::told;
+use olgaemuri::text::{Item, Line, Reader, Source};
+use olgaemuri::{Command, SessionText};
+use std::io::{self, Write};
+use std::mem::replace;
+
+pub struct Typed<'a> {
+    pub report: Report,
+    reader: Reader,
+    /// How many lines were typed.
+    pub count: usize,
+    /// Whether anything was added since it was saved.
+    pub changed: bool,
+    /// The words and files of `save` and `picture` so far; the same may be written again.
+    pub written: Vec<(String, String)>,
+    pub out: &'a mut dyn Write,
+}
+
+impl<'a> Typed<'a> {
+    pub fn new(text: SessionText, out: &'a mut dyn Write) -> Self {
+        let reader = Reader::after(&text, Source::named("typed").in_folder(""));
+        Self {
+            report: Report::new(text),
+            reader,
+            count: 0,
+            changed: false,
+            written: Vec::new(),
+            out,
+        }
+    }
+
+    pub fn say(&mut self, words: &str) -> io::Result<()> {
+        writeln!(self.out, "{words}")
+    }
+
+    pub fn status(&mut self) -> io::Result<()> {
+        let status = shown::status(&self.report);
+        self.say(&status)
+    }
+
+    pub fn list(&mut self) -> io::Result<()> {
+        let list = shown::list(&self.report);
+        self.say(&list)
+    }
+
+    /// Reads a line of the session and tries it. Comments and names, of which the engine knows nothing, are kept without a run.
+    pub fn read(&mut self, line: &str) -> io::Result<()> {
+        let before = self.reader.clone();
+        let line = match self.reader.read(line, self.count) {
+            Ok(line) => line,
+            Err(fault) => return self.say(&fault.to_string()),
+        };
+        match &line.item {
+            None if line.comment.is_none() => Ok(()),
+            None => {
+                self.keep(line);
+                Ok(())
+            }
+            Some(Item::Machine(..) | Item::Cause(..)) => {
+                self.keep(line);
+                self.say("noted")?;
+                self.status()
+            }
+            Some(_) => {
+                if !self.attempt(vec![line], false)? {
+                    self.reader = before;
+                }
+                Ok(())
+            }
+        }
+    }
+
+    fn keep(&mut self, line: Line) {
+        self.changed = true;
+        self.report.text.push(line, &self.reader);
+    }
+
+    /// Takes so many commands back.
+    pub fn undo(&mut self, times: &str) -> io::Result<()> {
+        let Some(times) = self.times(times)? else {
+            return Ok(());
+        };
+        let applied = self.report.outcome().applied().len();
+        if times > 1 && times > applied {
+            return self.say(&format!("in force: {applied}; nothing has changed"));
+        }
+        let undo = Line::from(Item::Command(Command::Undo));
+        self.attempt(vec![undo; times], false).map(|_| ())
+    }
+
+    /// Does so many commands again.
+    pub fn redo(&mut self, times: &str) -> io::Result<()> {
+        let Some(times) = self.times(times)? else {
+            return Ok(());
+        };
+        let mut session = self.report.session.clone();
+        let mut lines = Vec::new();
+        while lines.len() < times && session.can_redo() {
+            let next = session.next_redo().into_iter().cloned();
+            lines.extend(next.map(|command| Line::from(Item::Command(command))));
+            session.redo();
+        }
+        match lines.len() {
+            0 => self.say("nothing to do again; nothing has changed"),
+            found if found < times => {
+                self.say(&format!("taken back: {found}; nothing has changed"))
+            }
+            _ => self.attempt(lines, true).map(|_| ()),
+        }
+    }
+
+    /// How often something is to be done, or that it cannot be.
+    fn times(&mut self, word: &str) -> io::Result<Option<usize>> {
+        let times = word
+            .parse()
+            .ok()
+            .filter(|times| (1..=1_000_000).contains(times));
+        if times.is_none() {
+            self.say(&format!(
+                "expected a whole number from 1 to 1000000, not `{word}`"
+            ))?;
+        }
+        Ok(times)
+    }
+
+    /// Runs the session with more lines, and keeps them if nothing is refused then.
+    fn attempt(&mut self, lines: Vec<Line>, again: bool) -> io::Result<bool> {
+        let mut text = self.report.text.clone();
+        for line in lines {
+            text.push(line, &self.reader);
+        }
+        let report = Report::new(text);
+        let refused = report.rows().find(|row| !row.step.answer.is_accepted());
+        if let Some(row) = refused {
+            self.say(&format!("{}; nothing has changed", told(&report, &row)))?;
+            return Ok(false);
+        }
+        let known = replace(&mut self.report, report).given();
+        self.changed = true;
+        let answers = shown::answers(&self.report, known, again);
+        self.say(&answers)?;
+        self.status()?;
+        Ok(true)
+    }
+}
