@@ -5,11 +5,14 @@ ghost use mathlib.Core.List.{List};
 ghost use Prim.Native.Nat.{ℕ, _-_, _≤_, min};
 ghost use lib.Dec.{eqb, ltb};
 ghost use lib.Ieee.{Float, lt, le};
-ghost use Rattle.hazards.specs.Floats.{z, limit, zeroBits, inRange, isTime};
+ghost use Rattle.hazards.specs.Floats.{z, limit, zeroBits, inRange};
 ghost use Rattle.hazards.specs.Lists.{all};
 ghost use Rattle.hazards.specs.Rates.{intervalsFrom, pairsFrom, mostPairs};
 ghost use Rattle.hazards.specs.Checks.{rateOfKind, ownRate, rangeFault, zeroPair, ascending, intervalsFault, hazardOf};
 ghost use Rattle.hazards.specs.Checks.{intervalsOf, fieldsFrom, hazardFaults};
+use crate::floats::in_range;
+use crate::floats::zero_bits;
+use crate::floats::LIMIT;
 use crate::rates::HazardRate;
 use crate::rates::Intervals;
 use crate::refusals::Faults;
@@ -20,31 +23,6 @@ pub struct HazardFields {
     pub count: u8,
     pub ends: [f64; 8],
     pub rates: [f64; 8],
-}
-
-// All bits zero.
-pub fn zero_bits(x: f64) -> bool
-    ensures { λ r. ⌜ r ≡ zeroBits x ⌝ }
-{
-    if x != x { false } else { f64::to_bits(x) == 0 }
-}
-
-// Finite and of size at most 2^40.
-pub fn in_range(x: f64) -> bool
-    ensures { λ r. ⌜ r ≡ inRange x ⌝ }
-{
-    x >= -1099511627776.0 && x <= 1099511627776.0
-}
-
-// Sign bit clear and at most 2^40.
-pub fn is_time(x: f64) -> bool
-    ensures { λ r. ⌜ r ≡ isTime x ⌝ }
-{
-    if x <= 1099511627776.0 {
-        f64::to_bits(x) < 0x8000_0000_0000_0000
-    } else {
-        false
-    }
 }
 
 // The kind's own rate, +0.0 for Zero.
@@ -99,7 +77,7 @@ fn rates_in_range(rates: &[f64; 8], used: usize) -> bool
 fn ascends(before: f64, end: f64) -> bool
     ensures { λ r. ⌜ r ≡ (lt before end && le end limit) ⌝ }
 {
-    before < end && end <= 1099511627776.0
+    before < end && end <= LIMIT
 }
 
 // The ends of the first `used` pairs ascend from above 0 to at most 2^40.

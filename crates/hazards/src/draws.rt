@@ -1,6 +1,5 @@
 // Draws from the recorded threshold stream: lent bytes, each whole 8 of them one f64.
 ghost use mathlib.Core.Path.{_≡_};
-ghost use Rattle.hazards.specs.Floats.{isThreshold};
 ghost use Rattle.hazards.specs.Draws.{refusedDraw, drawAt, withPosition};
 
 // Where the next draw reads.
@@ -19,12 +18,6 @@ pub struct DrawOutcome {
 pub struct Draw {
     pub number: u8,
     pub threshold: f64,
-}
-
-fn is_threshold(x: f64) -> bool
-    ensures { λ r. ⌜ r ≡ isThreshold x ⌝ }
-{
-    x >= 0.0 && x <= 1024.0
 }
 
 // A refused draw leaves the position.
@@ -50,7 +43,7 @@ pub fn draw_at(stream: &[u8], position: usize) -> DrawOutcome
         return refused(crate::refusals::STREAM_EXHAUSTED, position);
     }
     let threshold = crate::fields::f64_at(stream, 8 * position);
-    if !is_threshold(threshold) {
+    if !crate::floats::is_threshold(threshold) {
         return refused(crate::refusals::BAD_THRESHOLD, position);
     }
     DrawOutcome {

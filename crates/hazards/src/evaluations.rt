@@ -67,7 +67,7 @@ pub fn evaluate_hazard_at<'a>(
 ) -> Evaluation
     ensures { λ r. ⌜ r ≡ evaluatedHazardAt (fieldsFrom kind first count (now (ends .entry)) (now (rates .entry))) t ⌝ }
 {
-    let number = evaluation_refusal(kind, first, count, ends, rates, crate::checks::in_range(t));
+    let number = evaluation_refusal(kind, first, count, ends, rates, crate::floats::in_range(t));
     if number != 0 {
         return without_value(number);
     }
@@ -86,7 +86,7 @@ pub fn evaluate_cumulative_hazard<'a>(
 ) -> Evaluation
     ensures { λ r. ⌜ r ≡ evaluatedCumulativeHazard (fieldsFrom kind first count (now (ends .entry)) (now (rates .entry))) t ⌝ }
 {
-    let number = evaluation_refusal(kind, first, count, ends, rates, crate::checks::in_range(t));
+    let number = evaluation_refusal(kind, first, count, ends, rates, crate::floats::in_range(t));
     if number != 0 {
         return without_value(number);
     }
@@ -106,8 +106,8 @@ pub fn evaluate_inversion<'a>(
 ) -> Evaluation
     ensures { λ r. ⌜ r ≡ evaluatedInversion (fieldsFrom kind first count (now (ends .entry)) (now (rates .entry))) «t_start» «target_w» ⌝ }
 {
-    let start = crate::checks::in_range(t_start);
-    let w = crate::checks::in_range(target_w);
+    let start = crate::floats::in_range(t_start);
+    let w = crate::floats::in_range(target_w);
     let number = evaluation_refusal(kind, first, count, ends, rates, start & w);
     if number != 0 {
         return without_value(number);

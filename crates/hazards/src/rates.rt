@@ -4,9 +4,11 @@ ghost use mathlib.Core.Bool.{_&&_};
 ghost use Prim.Native.Nat.{_-_, min};
 ghost use mathlib.Core.List.{[]};
 ghost use lib.Ieee.{lt, le};
-ghost use Rattle.hazards.specs.Floats.{z, notBelowZero};
+ghost use Rattle.hazards.specs.Floats.{z};
 ghost use Rattle.hazards.specs.Rates.{intervalsFrom, pairsFrom, usedPairs, piecewiseHazard, piecewiseCumulative, pairsAfter};
 ghost use Rattle.hazards.specs.Rates.{piecewiseWait, constantWait, hazardAt, cumulativeHazard, invertCumulativeHazard};
+
+use crate::floats::not_below_zero;
 
 // A kind with its own rate: the rate of Constant, eta of Gompertz (with b = 0), the trailing rate of PiecewiseConstant.
 pub enum HazardRate {
@@ -27,13 +29,6 @@ pub struct Intervals {
 pub enum Wait {
     After(f64),
     Never,
-}
-
-// x.max(0.0), with +0.0 for a negative number and for -0.0.
-pub fn not_below_zero(x: f64) -> f64
-    ensures { λ r. ⌜ r ≡ notBelowZero x ⌝ }
-{
-    if x > 0.0 { x } else { 0.0 }
 }
 
 // There are eight pairs, records and channels at most.

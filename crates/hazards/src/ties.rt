@@ -1,6 +1,5 @@
 // Candidates and which of them comes first.
 ghost use mathlib.Core.Path.{_≡_};
-ghost use Rattle.hazards.specs.Floats.{isFiniteWait};
 ghost use Rattle.hazards.specs.Ties.{tieBreakerOf, preferred, precedes, earlier};
 
 pub enum TieBreaker {
@@ -19,14 +18,6 @@ pub struct Candidate {
 pub enum Earliest {
     Nothing,
     Found(Candidate),
-}
-
-// An infinite wait is no candidate.
-pub fn is_finite_wait(x: f64) -> bool
-    ensures { λ r. ⌜ r ≡ isFiniteWait x ⌝ }
-{
-    let infinity = 1.0 / 0.0;
-    x >= 0.0 && x < infinity
 }
 
 pub fn tie_breaker(tie: u8) -> TieBreaker
