@@ -11,11 +11,11 @@ use borrow.Author.Tests.{lt-ltb, le-ltb, eq-eqb, ne-eqb, ltb-true, ltb-false, eq
 use Rattle.hazards.specs.Floats.{isThreshold}
 use Rattle.hazards.specs.Refusals.{invalidState, streamExhausted, badThreshold}
 use Rattle.hazards.specs.Draws.{streamLength, thresholdAt, refusedDraw, drawAt}
-use Rattle.hazards.specs.declared.draws.DrawOutcome.{DrawOutcome}
+use Rattle.hazards.specs.declared.draws.DrawAndPosition.{DrawAndPosition}
 
 -- a draw that is not refused
-abbrev pub acceptedDraw : List ℕ → ℕ → DrawOutcome
-acceptedDraw stream position = record { number = 0; threshold = thresholdAt stream position; position = position + 1 }
+abbrev pub acceptedDraw : List ℕ → ℕ → DrawAndPosition
+acceptedDraw stream position = record { number = 0; threshold = thresholdAt stream position; position = record { next = position + 1 } }
 
 module _ (stream : List ℕ) (position : ℕ) where
   -- ---- the four ways
@@ -40,7 +40,7 @@ module _ (stream : List ℕ) (position : ℕ) where
       rw (le-ltb (streamLength stream) position (omega arith), ne-eqb position (streamLength stream) (λ q. omega arith), e)
 
   -- ---- what holds of each of the four holds of the draw
-  module _ (X : DrawOutcome → Type 0)
+  module _ (X : DrawAndPosition → Type 0)
       (past : streamLength stream < position → X (refusedDraw invalidState position))
       (used-up : position ≡ streamLength stream → X (refusedDraw streamExhausted position))
       (bad : position < streamLength stream → isThreshold (thresholdAt stream position) ≡ false → X (refusedDraw badThreshold position))
@@ -81,9 +81,9 @@ module _ (stream : List ℕ) (position : ℕ) where
       (λ h e. omega arith) (λ h e. omega arith) (λ h w e. omega arith) (λ h w e. omega arith)
 
   -- ---- an accepted draw
-  pub accepted-moves : drawNumber ≡ 0 → drawAt stream position .position ≡ position + 1
+  pub accepted-moves : drawNumber ≡ 0 → drawAt stream position .position .next ≡ position + 1
   accepted-moves =
-      each-way (λ d. d .number ≡ 0 → d .position ≡ position + 1)
+      each-way (λ d. d .number ≡ 0 → d .position .next ≡ position + 1)
       (λ h e. omega arith) (λ h e. omega arith) (λ h w e. omega arith) (λ h w e. refl)
 
   pub accepted-below : drawNumber ≡ 0 → position < streamLength stream
@@ -91,9 +91,9 @@ module _ (stream : List ℕ) (position : ℕ) where
       each-way (λ d. d .number ≡ 0 → position < streamLength stream)
       (λ h e. omega arith) (λ h e. omega arith) (λ h w e. h) (λ h w e. h)
 
-  pub accepted-within : drawNumber ≡ 0 → drawAt stream position .position ≤ streamLength stream
+  pub accepted-within : drawNumber ≡ 0 → drawAt stream position .position .next ≤ streamLength stream
   accepted-within =
-      each-way (λ d. d .number ≡ 0 → d .position ≤ streamLength stream)
+      each-way (λ d. d .number ≡ 0 → d .position .next ≤ streamLength stream)
       (λ h e. omega arith) (λ h e. omega arith) (λ h w e. omega arith) (λ h w e. omega arith)
 
   pub accepted-reads : drawNumber ≡ 0 → drawAt stream position .threshold ≡ thresholdAt stream position
@@ -112,10 +112,10 @@ module _ (stream : List ℕ) (position : ℕ) where
       each-way (λ d. (d .number ≡ 0 → ⊥) → d ≡ refusedDraw (d .number) position)
       (λ h n. refl) (λ h n. refl) (λ h w n. refl) (λ h w n. absurd (n refl))
 
-  pub refused-position : (drawNumber ≡ 0 → ⊥) → drawAt stream position .position ≡ position
-  refused-position n = ap (λ (d : DrawOutcome). d .position) (refused-stays n)
+  pub refused-position : (drawNumber ≡ 0 → ⊥) → drawAt stream position .position .next ≡ position
+  refused-position n = ap (λ (d : DrawAndPosition). d .position .next) (refused-stays n)
 
   -- ---- any draw from within the stream ends within it
-  pub draw-within : position ≤ streamLength stream → drawAt stream position .position ≤ streamLength stream
+  pub draw-within : position ≤ streamLength stream → drawAt stream position .position .next ≤ streamLength stream
   draw-within l =
-      each-way (λ d. d .position ≤ streamLength stream) (λ h. l) (λ h. l) (λ h w. l) (λ h w. omega arith)
+      each-way (λ d. d .position .next ≤ streamLength stream) (λ h. l) (λ h. l) (λ h w. l) (λ h w. omega arith)

@@ -8,15 +8,16 @@ ghost use lib.Ieee.{Float, lt, le};
 ghost use Rattle.hazards.specs.Floats.{z, limit, zeroBits, inRange};
 ghost use Rattle.hazards.specs.Lists.{all};
 ghost use Rattle.hazards.specs.Rates.{intervalsFrom, pairsFrom, mostPairs};
-ghost use Rattle.hazards.specs.Checks.{rateOfKind, ownRate, rangeFault, zeroPair, ascending, intervalsFault, hazardOf};
+ghost use Rattle.hazards.specs.Checks.{rateOfKind, kindNumber, ownRate, rangeFault, zeroPair, ascending, intervalsFault, hazardOf};
 ghost use Rattle.hazards.specs.Checks.{intervalsOf, fieldsFrom, hazardFaults};
+use crate::floats::LIMIT;
 use crate::floats::in_range;
 use crate::floats::zero_bits;
-use crate::floats::LIMIT;
 use crate::rates::HazardRate;
 use crate::rates::Intervals;
 use crate::refusals::Faults;
 
+// The fields of a hazard as in SET.
 pub struct HazardFields {
     pub kind: u8,
     pub first: f64,
@@ -98,6 +99,7 @@ fn ends_ascend(ends: &[f64; 8], used: usize) -> bool
     true
 }
 
+// All bits of a pair are zero.
 fn zero_pair(end: f64, rate: f64) -> bool
     ensures { λ r. ⌜ r ≡ (zeroBits end && zeroBits rate) ⌝ }
 {
@@ -147,6 +149,7 @@ pub fn intervals_fault<'a>(
     !(unused & ascend)
 }
 
+// The hazard of a kind's number and its first field; a kind above 3 is refused by 4 before this is asked.
 pub fn rate_of_kind(kind: u8, first: f64) -> HazardRate
     ensures { λ r. ⌜ r ≡ rateOfKind kind first ⌝ }
 {
@@ -160,6 +163,18 @@ pub fn rate_of_kind(kind: u8, first: f64) -> HazardRate
         return HazardRate::Gompertz(first);
     }
     HazardRate::Piecewise(first)
+}
+
+// Document 01's number of a kind.
+pub fn kind_number(hazard: HazardRate) -> u8
+    ensures { λ r. ⌜ r ≡ kindNumber hazard ⌝ }
+{
+    match hazard {
+        HazardRate::Zero => 0,
+        HazardRate::Constant(_) => 1,
+        HazardRate::Gompertz(_) => 2,
+        HazardRate::Piecewise(_) => 3,
+    }
 }
 
 // Refusal 4 of a hazard's fields.
@@ -196,12 +211,14 @@ pub fn hazard_faults<'a>(
 }
 
 impl HazardFields {
+    // The kind with its own rate.
     pub fn hazard(self) -> HazardRate
         ensures { λ r. ⌜ r ≡ hazardOf self ⌝ }
     {
         rate_of_kind(self.kind, self.first)
     }
 
+    // The pairs, used or not, with their count.
     pub fn intervals(self) -> Intervals
         ensures { λ r. ⌜ r ≡ intervalsOf self ⌝ }
     {
@@ -214,6 +231,7 @@ impl HazardFields {
         }
     }
 
+    // Refusals 4 to 6 of these fields.
     pub fn faults(self) -> Faults
         ensures { λ r. ⌜ r ≡ hazardFaults self ⌝ }
     {

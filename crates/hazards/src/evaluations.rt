@@ -57,6 +57,7 @@ fn evaluation_refusal<'a>(
         .number()
 }
 
+// hazard_at: the hazard at time t.
 pub fn evaluate_hazard_at<'a>(
     kind: u8,
     first: f64,
@@ -76,6 +77,7 @@ pub fn evaluate_hazard_at<'a>(
     valued(crate::rates::hazard_at(hazard, ends, rates, pairs, t))
 }
 
+// cumulative_hazard: the hazard accumulated from 0 to t.
 pub fn evaluate_cumulative_hazard<'a>(
     kind: u8,
     first: f64,
@@ -95,6 +97,7 @@ pub fn evaluate_cumulative_hazard<'a>(
     valued(crate::rates::cumulative_hazard(hazard, ends, rates, pairs, t))
 }
 
+// invert_cumulative_hazard: the wait from t_start on until target_w more has accumulated; an infinite one is a value.
 pub fn evaluate_inversion<'a>(
     kind: u8,
     first: f64,

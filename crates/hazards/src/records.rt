@@ -11,6 +11,7 @@ use crate::rates::Wait;
 use crate::refusals::Faults;
 use crate::sampler::CompetingCause;
 
+// A record's faults, and its wait whether or not it has any.
 pub struct Examined {
     pub faults: Faults,
     pub wait: Wait,

@@ -1,13 +1,15 @@
 // Candidates and which of them comes first.
 ghost use mathlib.Core.Path.{_≡_};
-ghost use Rattle.hazards.specs.Ties.{tieBreakerOf, preferred, precedes, earlier};
+ghost use Rattle.hazards.specs.Ties.{tieBreakerOf, tieNumber, preferred, precedes, earlier};
 
+// Which of two causes at the same time comes first.
 pub enum TieBreaker {
     LowestCauseId,
     HighestCauseId,
     ExplicitPriority,
 }
 
+// A cause's event at a time: its wait in the sampler, now + wait in the clock.
 pub struct Candidate {
     pub cause_id: u32,
     pub priority: u32,
@@ -20,6 +22,7 @@ pub enum Earliest {
     Found(Candidate),
 }
 
+// The tie choice of a number; one above 2 is refused by 4 before this is asked.
 pub fn tie_breaker(tie: u8) -> TieBreaker
     ensures { λ r. ⌜ r ≡ tieBreakerOf tie ⌝ }
 {
@@ -30,6 +33,17 @@ pub fn tie_breaker(tie: u8) -> TieBreaker
         return TieBreaker::HighestCauseId;
     }
     TieBreaker::ExplicitPriority
+}
+
+// Document 01's number of a tie choice.
+pub fn tie_number(tie: TieBreaker) -> u8
+    ensures { λ r. ⌜ r ≡ tieNumber tie ⌝ }
+{
+    match tie {
+        TieBreaker::LowestCauseId => 0,
+        TieBreaker::HighestCauseId => 1,
+        TieBreaker::ExplicitPriority => 2,
+    }
 }
 
 fn explicitly_preferred(a: Candidate, b: Candidate) -> bool
