@@ -3,7 +3,6 @@
 use mathlib.Core.Path.{_≡_, refl, sym, ap, subst}
 use mathlib.Core.Bool.{Bool, true, false}
 use mathlib.Core.List.{List}
-use mathlib.Core.Logic.{_⊎_, inl, inr}
 use Prim.Native.Nat.{ℕ, _+_, _<_, _≤_}
 use native.Mathlib.Omega.{arith}
 use lib.Dec.{ltb, eqb}
@@ -69,11 +68,6 @@ module _ (stream : List ℕ) (position : ℕ) where
   abbrev pub drawNumber : ℕ
   drawNumber = drawAt stream position .number
 
-  pub draw-number : (drawNumber ≡ 0) ⊎ (drawNumber ≡ invalidState) ⊎ (drawNumber ≡ streamExhausted) ⊎ (drawNumber ≡ badThreshold)
-  draw-number =
-      each-way (λ d. (d .number ≡ 0) ⊎ (d .number ≡ invalidState) ⊎ (d .number ≡ streamExhausted) ⊎ (d .number ≡ badThreshold))
-      (λ h. inr (inl refl)) (λ h. inr (inr (inl refl))) (λ h e. inr (inr (inr refl))) (λ h e. inl refl)
-
   -- a position within the stream is never refused by 1
   pub within-not-past : position ≤ streamLength stream → drawNumber ≡ invalidState → ⊥
   within-not-past l =
@@ -85,11 +79,6 @@ module _ (stream : List ℕ) (position : ℕ) where
   accepted-moves =
       each-way (λ d. d .number ≡ 0 → d .position .next ≡ position + 1)
       (λ h e. omega arith) (λ h e. omega arith) (λ h w e. omega arith) (λ h w e. refl)
-
-  pub accepted-below : drawNumber ≡ 0 → position < streamLength stream
-  accepted-below =
-      each-way (λ d. d .number ≡ 0 → position < streamLength stream)
-      (λ h e. omega arith) (λ h e. omega arith) (λ h w e. h) (λ h w e. h)
 
   pub accepted-within : drawNumber ≡ 0 → drawAt stream position .position .next ≤ streamLength stream
   accepted-within =

@@ -19,7 +19,7 @@ use Rattle.hazards.specs.Draws.{streamLength, thresholdAt, drawAt}
 use Rattle.hazards.specs.Ties.{candidateAfter, tieBreakerOf, earlier, earliest}
 use Rattle.hazards.specs.Sampler.{faultsOfAll, settingsFaults, drawsRefusal, sampleRefusal, inCauseOrder}
 use Rattle.hazards.specs.Sampler.{candidates, censoredAt, sampledEvent, sampleNext}
-use Rattle.hazards.specs.SamplerCode.{examinedRecord}
+use Rattle.hazards.specs.SamplerCode.{examinedRecord, drawnThreshold}
 use Rattle.hazards.specs.declared.refusals.Faults.{Faults}
 use Rattle.hazards.specs.declared.rates.Wait.{Wait}
 use Rattle.hazards.specs.declared.rates.Wait.the-variants.{After, Never}
@@ -133,9 +133,9 @@ drawn-from (c ∷ cs) age f g k place reads =
 
 pub drawn-candidates : (cs : List CompetingCause) (age : Float) (thresholds : List Float) (stream : List ℕ) (position : ℕ)
     → ((i : ℕ) → i < length cs → getD thresholds i nan ≡ thresholdAt stream (position + i))
-    → candidates cs age (λ k. getD thresholds k nan) 0 ≡ candidates cs age (thresholdAt stream) position
+    → candidates cs age (drawnThreshold thresholds) 0 ≡ candidates cs age (thresholdAt stream) position
 drawn-candidates cs age thresholds stream position reads =
-    drawn-from cs age (λ k. getD thresholds k nan) (thresholdAt stream) 0 position
+    drawn-from cs age (drawnThreshold thresholds) (thresholdAt stream) 0 position
     (λ i h. let e : 0 + i ≡ i = omega arith in rw e (reads i h))
 
 pub sampled-some : (cs : List CompetingCause) (s : SampleSettings) (stream : List ℕ) (position : ℕ) → 0 < length cs

@@ -20,9 +20,13 @@ examinedRecord c age w = record {
   wait = invertCumulativeHazard (hazardOf (c .hazard)) (intervalsOf (c .hazard)) age w;
 }
 
+-- the threshold at a place of those that were drawn
+abbrev pub drawnThreshold : List Float → ℕ → Float
+drawnThreshold thresholds k = getD thresholds k nan
+
 -- the faults of the first n records, and the best of their candidates: in cause order, the one at place k takes threshold k
 abbrev pub scanOf : List CompetingCause → ℕ → TieBreaker → Float → List Float → Scan
 scanOf causes n tie age thresholds = record {
   faults = faultsOfAll (take n causes);
-  best = earliest tie (candidates (inCauseOrder (take n causes)) age (λ k. getD thresholds k nan) 0);
+  best = earliest tie (candidates (inCauseOrder (take n causes)) age (drawnThreshold thresholds) 0);
 }
