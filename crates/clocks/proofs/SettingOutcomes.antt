@@ -23,7 +23,7 @@ module _ (k : SurvivalClock) (s : CauseSetting) (stream : List ℕ) (position : 
   module _ (X : ChannelSet → Type 0)
       (kept : (cs : List HazardChannelState) (n : ℕ) → X (record { number = 0; clock = withChannels k cs n; position = position }))
       (drawn : (cs : List HazardChannelState) (n : ℕ) → drawNumber stream position ≡ 0
-      → X (record { number = 0; clock = withChannels k cs n; position = drawAt stream position .position }))
+      → X (record { number = 0; clock = withChannels k cs n; position = drawAt stream position .position .next }))
       (refused : (drawNumber stream position ≡ 0 → ⊥) → X (notSet k position (drawNumber stream position)))
       (ninth : X (notSet k position tooManyCauses))
     where

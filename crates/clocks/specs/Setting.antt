@@ -9,7 +9,7 @@ use lib.Ieee.{Float, le}
 use Rattle.hazards.specs.Floats.{z}
 use Rattle.hazards.specs.Refusals.{tooManyCauses}
 use Rattle.hazards.specs.Draws.{drawAt}
-use Rattle.hazards.specs.declared.draws.DrawOutcome.{DrawOutcome}
+use Rattle.hazards.specs.declared.draws.DrawAndPosition.{DrawAndPosition}
 use Rattle.clocks.specs.Channels.{emptyChannel, settledHazard, placeOf, holdsAt, insertAt}
 use Rattle.clocks.specs.Clocks.{usedChannels, withChannels}
 use Rattle.clocks.specs.declared.channels.HazardChannelState.{HazardChannelState}
@@ -41,9 +41,9 @@ abbrev pub notSet : SurvivalClock → ℕ → ℕ → ChannelSet
 notSet k position number = record { number = number; clock = k; position = position }
 
 -- f of the threshold drawn
-abbrev pub afterDraw : SurvivalClock → ℕ → DrawOutcome → (Float → SurvivalClock) → ChannelSet
+abbrev pub afterDraw : SurvivalClock → ℕ → DrawAndPosition → (Float → SurvivalClock) → ChannelSet
 afterDraw k position d f =
-    cond (eqb (d .number) 0) (record { number = 0; clock = f (d .threshold); position = d .position })
+    cond (eqb (d .number) 0) (record { number = 0; clock = f (d .threshold); position = d .position .next })
     (notSet k position (d .number))
 
 -- a cause that the clock has, at its place

@@ -56,7 +56,7 @@ pub(crate) fn accumulated_at<'a>(
     ensures { λ r. ⌜ r ≡ add binary64 accumulated (cumulativeHazard hazard (intervalsFrom (now (ends .entry)) (now (rates .entry)) count)
         (notBelowZero (sub binary64 time start))) ⌝ }
 {
-    let elapsed = hazards::rates::not_below_zero(time - start);
+    let elapsed = hazards::floats::not_below_zero(time - start);
     let added = hazards::rates::cumulative_hazard(hazard, ends, rates, count, elapsed);
     accumulated + added
 }

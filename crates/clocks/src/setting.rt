@@ -5,6 +5,7 @@ ghost use Rattle.clocks.specs.Setting.{channelOf, drawsAgain, setAgain, 
 use crate::channels::HazardChannelState;
 use crate::clocks::HazardInterruptionPolicy;
 use crate::clocks::SurvivalClock;
+use hazards::draws::StreamPosition;
 use hazards::rates::HazardRate;
 use hazards::rates::Intervals;
 
@@ -72,7 +73,7 @@ fn set_again(
             position,
         };
     }
-    let drawn = hazards::draws::draw_from(stream, position);
+    let drawn = hazards::draws::draw_from(stream, StreamPosition { next: position });
     if drawn.number != 0 {
         return ChannelSet {
             number: drawn.number,
@@ -85,7 +86,7 @@ fn set_again(
     ChannelSet {
         number: 0,
         clock: after,
-        position: drawn.position,
+        position: drawn.position.next,
     }
 }
 
@@ -107,7 +108,7 @@ fn set_new(
             position,
         };
     }
-    let drawn = hazards::draws::draw_from(stream, position);
+    let drawn = hazards::draws::draw_from(stream, StreamPosition { next: position });
     if drawn.number != 0 {
         return ChannelSet {
             number: drawn.number,
@@ -119,7 +120,7 @@ fn set_new(
     ChannelSet {
         number: 0,
         clock: clock.inserted(at, channel),
-        position: drawn.position,
+        position: drawn.position.next,
     }
 }
 

@@ -9,13 +9,14 @@ use lib.IntN.{ℤ}
 use lib.Signed.{leZ, ≤ℤ-refl}
 use lib.Ieee.{Float, binary64, isNan, toBits}
 use lib.Ieee.Bits.{is-true}
-use Rattle.hazards.specs.Checks.{ownRate}
+use Rattle.hazards.specs.Checks.{kindNumber, ownRate}
+use Rattle.hazards.specs.Ties.{tieNumber}
 use Rattle.hazards.specs.declared.rates.HazardRate.{HazardRate}
 use Rattle.hazards.specs.declared.rates.Intervals.{Intervals}
 use Rattle.clocks.specs.declared.channels.HazardChannelState.{HazardChannelState}
 use Rattle.clocks.specs.declared.clocks.SurvivalClock.{SurvivalClock}
 use Rattle.clocks.proofs.Cases.{either-way}
-use Rattle.engine.specs.Comparison.{sameFlag, sameInteger, sameFloat, everyBelow, kindNumber, policyNumber, tieNumber, sameFloats}
+use Rattle.engine.specs.Comparison.{sameFlag, sameInteger, sameFloat, everyBelow, policyNumber, sameFloats}
 use Rattle.engine.specs.Comparison.{sameHazard}
 use Rattle.engine.specs.Comparison.{sameIntervals, sameChannel, sameSettings, sameChannels, sameSchedule}
 use Rattle.engine.specs.Comparison.{sameClock, sameSlot, sameRequest, sameProgress, sameState}

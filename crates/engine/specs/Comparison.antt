@@ -9,12 +9,10 @@ use lib.Signed.{leZ}
 use lib.ListN.{getD}
 use lib.Ieee.{Float, binary64, isNan, toBits}
 use Rattle.hazards.specs.Floats.{z}
-use Rattle.hazards.specs.Checks.{ownRate}
+use Rattle.hazards.specs.Checks.{kindNumber, ownRate}
+use Rattle.hazards.specs.Ties.{tieNumber}
 use Rattle.hazards.specs.declared.rates.HazardRate.{HazardRate}
-use Rattle.hazards.specs.declared.rates.HazardRate.the-variants.{Zero, Constant, Gompertz, Piecewise}
 use Rattle.hazards.specs.declared.rates.Intervals.{Intervals}
-use Rattle.hazards.specs.declared.ties.TieBreaker.{TieBreaker}
-use Rattle.hazards.specs.declared.ties.TieBreaker.the-variants.{LowestCauseId, HighestCauseId, ExplicitPriority}
 use Rattle.clocks.specs.Channels.{emptyChannel}
 use Rattle.clocks.specs.declared.channels.HazardChannelState.{HazardChannelState}
 use Rattle.clocks.specs.declared.clocks.EntityId.{EntityId}
@@ -41,21 +39,10 @@ sameInteger a b = leZ a b && leZ b a
 unfoldable pub sameFloat : Float → Float → Bool
 sameFloat x y = cond (isNan x) (isNan y) (cond (isNan y) false (eqb (toBits binary64 x) (toBits binary64 y)))
 
--- the choices by their numbers in document 01
+-- the policies' numbers in document 01; those of tie and kind stand beside their enums in hazards
 abbrev pub policyNumber : HazardInterruptionPolicy → ℕ
 policyNumber Restart = 0
 policyNumber RetainResidual = 1
-
-abbrev pub tieNumber : TieBreaker → ℕ
-tieNumber LowestCauseId = 0
-tieNumber HighestCauseId = 1
-tieNumber ExplicitPriority = 2
-
-abbrev pub kindNumber : HazardRate → ℕ
-kindNumber Zero = 0
-kindNumber (Constant rate) = 1
-kindNumber (Gompertz eta) = 2
-kindNumber (Piecewise trailing) = 3
 
 -- ---- arrays: a test of every place below n
 

@@ -101,7 +101,7 @@ sampledBy tie = sampleNext causes 2 (settings tie) (f64 two ++ f64 two) 0
 
 -- the cause's event after 4.0; two thresholds are drawn
 abbrev pub eventAfterFour : ℕ → Sampled
-eventAfterFour cause = record { answer = eventOf cause four false; position = 2 }
+eventAfterFour cause = record { answer = eventOf cause four false; position = record { next = 2 } }
 
 -- ---- row 8: ticks as low and high word
 

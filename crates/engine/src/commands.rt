@@ -221,7 +221,7 @@ pub fn create_faults(command: &[u8]) -> Faults
     let policy = byte_at(command, POLICY_FIELD) > 1;
     let tie = byte_at(command, TIE_FIELD) > 2;
     let entity = has_fault(byte_at(command, HAS_ENTITY_FIELD), unused_entity(command));
-    let scale = hazards::checks::in_range(f64_at(command, SCALE_FIELD));
+    let scale = hazards::floats::in_range(f64_at(command, SCALE_FIELD));
     let own = Faults {
         choice: policy | (tie | entity),
         range: !scale,
@@ -242,7 +242,7 @@ pub fn set_faults(command: &[u8]) -> Faults
     ensures { λ r. ⌜ r ≡ setFaults (now (command .entry)) ⌝ }
 {
     let fields = hazard_fields(command);
-    let now = hazards::checks::is_time(f64_at(command, SET_NOW_FIELD));
+    let now = hazards::floats::is_time(f64_at(command, SET_NOW_FIELD));
     let rest = hazards::refusals::range_fault_unless(now).joined(cause_faults(command));
     fields.faults().joined(rest)
 }
@@ -250,13 +250,13 @@ pub fn set_faults(command: &[u8]) -> Faults
 pub fn reschedule_faults(command: &[u8]) -> Faults
     ensures { λ r. ⌜ r ≡ rescheduleFaults (now (command .entry)) ⌝ }
 {
-    let now = hazards::checks::is_time(f64_at(command, NOW_FIELD));
+    let now = hazards::floats::is_time(f64_at(command, NOW_FIELD));
     let censor = f64_at(command, CENSOR_FIELD);
-    let time = hazards::checks::is_time(censor);
+    let time = hazards::floats::is_time(censor);
     let own = Faults {
         choice: has_fault(
             byte_at(command, HAS_CENSOR_FIELD),
-            hazards::checks::zero_bits(censor),
+            hazards::floats::zero_bits(censor),
         ),
         range: !(now & time),
         intervals: false,
@@ -268,6 +268,6 @@ pub fn reschedule_faults(command: &[u8]) -> Faults
 pub fn pause_faults(command: &[u8]) -> Faults
     ensures { λ r. ⌜ r ≡ pauseFaults (now (command .entry)) ⌝ }
 {
-    let now = hazards::checks::is_time(f64_at(command, NOW_FIELD));
+    let now = hazards::floats::is_time(f64_at(command, NOW_FIELD));
     hazards::refusals::range_fault_unless(now).joined(clock_faults(command))
 }

@@ -3,7 +3,7 @@ ghost use mathlib.Core.Path.{_≡_};
 ghost use lib.ListN.{length, getD};
 ghost use Rattle.clocks.specs.Channels.{emptyChannel};
 ghost use Rattle.engine.specs.State.{emptySlot, emptyRequest};
-ghost use Rattle.engine.specs.Comparison.{sameFlag, sameFloat, policyNumber, tieNumber, kindNumber, everyBelow, sameFloats};
+ghost use Rattle.engine.specs.Comparison.{sameFlag, sameFloat, policyNumber, everyBelow, sameFloats};
 ghost use Rattle.engine.specs.Comparison.{sameHazard, sameIntervals, sameChannel, sameEntity, sameEvent, sameWinner, sameSettings};
 ghost use Rattle.engine.specs.Comparison.{sameChannels, sameSchedule, sameClock, sameSlot, sameRequest, sameProgress, sameState};
 use crate::state::ClockSlot;
@@ -16,9 +16,10 @@ use clocks::clocks::HazardInterruptionPolicy;
 use clocks::clocks::ScheduledEvent;
 use clocks::clocks::SurvivalClock;
 use clocks::clocks::Winner;
+use hazards::checks::kind_number;
 use hazards::rates::HazardRate;
 use hazards::rates::Intervals;
-use hazards::ties::TieBreaker;
+use hazards::ties::tie_number;
 
 fn same_flag(a: bool, b: bool) -> bool
     ensures { λ r. ⌜ r ≡ sameFlag a b ⌝ }
@@ -44,27 +45,6 @@ pub fn policy_number(policy: HazardInterruptionPolicy) -> u8
     match policy {
         HazardInterruptionPolicy::Restart => 0,
         HazardInterruptionPolicy::RetainResidual => 1,
-    }
-}
-
-pub fn tie_number(tie: TieBreaker) -> u8
-    ensures { λ r. ⌜ r ≡ tieNumber tie ⌝ }
-{
-    match tie {
-        TieBreaker::LowestCauseId => 0,
-        TieBreaker::HighestCauseId => 1,
-        TieBreaker::ExplicitPriority => 2,
-    }
-}
-
-pub fn kind_number(hazard: HazardRate) -> u8
-    ensures { λ r. ⌜ r ≡ kindNumber hazard ⌝ }
-{
-    match hazard {
-        HazardRate::Zero => 0,
-        HazardRate::Constant(_) => 1,
-        HazardRate::Gompertz(_) => 2,
-        HazardRate::Piecewise(_) => 3,
     }
 }
 

@@ -1,6 +1,7 @@
 // Replays the fixed lists of the unchanged Rust's answers to evaluations and samples, and says how many there are and how many differ.
 // The lists' layouts, and how they were made, are in host/README.md.
 ghost use Prim.Native.Nat.{_≤_};
+use hazards::draws::StreamPosition;
 use hazards::fields::f64_at;
 use hazards::fields::put_u64;
 use hazards::fields::u8_at;
@@ -40,11 +41,13 @@ fn sample_agrees(case: &[u8]) -> bool {
     let settings = probe::settings_at(case, 1);
     let causes = probe::causes_at(case, 124);
     let n = u8_at(case, 0) as usize;
-    let position = u64_at(case, 19) as usize;
+    let position = StreamPosition {
+        next: u64_at(case, 19) as usize,
+    };
     let sampled = hazards::sampler::sample_next(causes, n, settings, stream_of(case), position);
     let mut out = [0u8; 40];
     hazards::answers::put_answer(&mut out, 0, sampled.answer);
-    put_u64(&mut out, 32, sampled.position as u64);
+    put_u64(&mut out, 32, sampled.position.next as u64);
     if case.len() < 1332 {
         return false;
     }

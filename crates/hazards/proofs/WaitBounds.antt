@@ -9,7 +9,7 @@ use lib.IntN.{ℤ}
 use lib.Dec.{T, le→leb, nltb→le}
 use lib.Ieee.{Float, fin, binary64, up, down, add, sub, mul, div, lt, le, fits}
 use lib.Ieee.Fits.{and-l, cond-fits, sub-fits, div-fits}
-use Rattle.hazards.specs.Floats.{z, limit, mostThreshold, notBelowZero, inRange}
+use Rattle.hazards.specs.Floats.{z, limit, notBelowZero, inRange}
 use Rattle.hazards.specs.Rates.{Pair, usedPairs, pairsAfter, waitThrough, piecewiseWait, constantWait, waitOfKind}
 use Rattle.hazards.specs.Rates.{invertCumulativeHazard}
 use Rattle.hazards.specs.Checks.{ownRate}
@@ -23,10 +23,10 @@ use Rattle.hazards.proofs.Signs.{NotBelow, Held}
 use Rattle.hazards.proofs.Upto.{for-fin, zero-upto, lands}
 use Rattle.hazards.proofs.UptoOrder.{lt-le, not-le, not-le-lt, nothing-le, le-refl-upto, le-trans-upto}
 use Rattle.hazards.proofs.UptoOperations.{mul-upto, sub-upto}
-use Rattle.hazards.proofs.UptoClamped.{clamped-below, positive-upto}
+use Rattle.hazards.proofs.UptoClamped.{clamped-below}
 use Rattle.hazards.proofs.Exact.{sum-at-least}
 use Rattle.hazards.proofs.SignedOperations.{div-signed, add-signed, sub-signed}
-use Rattle.hazards.proofs.Limits.{limit-upto, threshold-upto, rate-upto, positive-rate-upto, time-stays, threshold-stays}
+use Rattle.hazards.proofs.Limits.{limit-upto, rate-upto, positive-rate-upto, time-stays}
 use Rattle.hazards.proofs.Limits.{piece-lands, nothing-lands}
 use Rattle.hazards.proofs.SoundPairs.{sound, Following, none, next, own-rate-sound, pairs-sound, end-upto, after-following}
 
@@ -156,9 +156,3 @@ invert-not-below h p start {w} b s sf sl v l =
     (λ n.
     wait-of-kind-not-below h p (notBelowZero start) b s (own-rate-sound h p s) (clamped-held start sf)
     (clamped-below start sl limit-upto) (v n) l)
-
--- for a threshold, or what is left of one
-pub threshold-wait-not-below : (h : HazardRate) (p : Intervals) (start w : Float) → T (sound h p) → T (fits binary64 start)
-    → T (le start limit) → T (le w mostThreshold) → NotBelow (invertCumulativeHazard h p start w)
-threshold-wait-not-below h p start w s sf sl wl =
-    invert-not-below h p start 1024 s sf sl (λ n. positive-upto w n wl threshold-upto) threshold-stays

@@ -22,6 +22,12 @@ rateOfKind kind first =
     cond (eqb kind 0) Zero
     (cond (eqb kind 1) (Constant first) (cond (eqb kind 2) (Gompertz first) (Piecewise first)))
 
+abbrev pub kindNumber : HazardRate → ℕ
+kindNumber Zero = 0
+kindNumber (Constant rate) = 1
+kindNumber (Gompertz eta) = 2
+kindNumber (Piecewise trailing) = 3
+
 -- the kind's own rate, +0.0 for Zero
 unfoldable pub ownRate : HazardRate → Float
 ownRate Zero = z

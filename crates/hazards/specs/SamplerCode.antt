@@ -1,16 +1,15 @@
 -- What the code's answers mean: what the sampler finds of one record, and of all of them, accepted or not, with thresholds that were drawn
 -- beforehand.
-use mathlib.Core.List.{List, [], _∷_, _++_}
-use Prim.Native.Nat.{ℕ, suc}
+use mathlib.Core.List.{List}
+use Prim.Native.Nat.{ℕ}
 use lib.ListN.{getD, take}
 use lib.Ieee.{Float, nan}
-use Rattle.hazards.specs.Sampler.{faultsOfAll, inCauseOrder, causeFaults}
-use Rattle.hazards.specs.Ties.{candidateAfter, earliest}
+use Rattle.hazards.specs.Sampler.{causeFaults, faultsOfAll, inCauseOrder, candidates}
+use Rattle.hazards.specs.Ties.{earliest}
 use Rattle.hazards.specs.Checks.{hazardOf, intervalsOf}
 use Rattle.hazards.specs.Rates.{invertCumulativeHazard}
 use Rattle.hazards.specs.declared.candidates.Scan.{Scan}
 use Rattle.hazards.specs.declared.sampler.CompetingCause.{CompetingCause}
-use Rattle.hazards.specs.declared.ties.Candidate.{Candidate}
 use Rattle.hazards.specs.declared.ties.TieBreaker.{TieBreaker}
 use Rattle.hazards.specs.declared.records.Examined.{Examined}
 
@@ -21,16 +20,13 @@ examinedRecord c age w = record {
   wait = invertCumulativeHazard (hazardOf (c .hazard)) (intervalsOf (c .hazard)) age w;
 }
 
--- each record takes the next threshold, from place k on
-unfoldable pub candidatesWith : List CompetingCause → Float → List Float → ℕ → List Candidate
-candidatesWith [] age thresholds k = []
-candidatesWith (c ∷ cs) age thresholds k =
-    candidateAfter (c .«cause_id») (c .priority) (λ t. t) (examinedRecord c age (getD thresholds k nan) .wait)
-    ++ candidatesWith cs age thresholds (suc k)
+-- the threshold at a place of those that were drawn
+abbrev pub drawnThreshold : List Float → ℕ → Float
+drawnThreshold thresholds k = getD thresholds k nan
 
--- the faults of the first n records, and the best of their candidates
+-- the faults of the first n records, and the best of their candidates: in cause order, the one at place k takes threshold k
 abbrev pub scanOf : List CompetingCause → ℕ → TieBreaker → Float → List Float → Scan
 scanOf causes n tie age thresholds = record {
   faults = faultsOfAll (take n causes);
-  best = earliest tie (candidatesWith (inCauseOrder (take n causes)) age thresholds 0);
+  best = earliest tie (candidates (inCauseOrder (take n causes)) age (drawnThreshold thresholds) 0);
 }

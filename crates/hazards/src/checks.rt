@@ -5,46 +5,25 @@ ghost use mathlib.Core.List.{List};
 ghost use Prim.Native.Nat.{ℕ, _-_, _≤_, min};
 ghost use lib.Dec.{eqb, ltb};
 ghost use lib.Ieee.{Float, lt, le};
-ghost use Rattle.hazards.specs.Floats.{z, limit, zeroBits, inRange, isTime};
+ghost use Rattle.hazards.specs.Floats.{z, limit, zeroBits, inRange};
 ghost use Rattle.hazards.specs.Lists.{all};
 ghost use Rattle.hazards.specs.Rates.{intervalsFrom, pairsFrom, mostPairs};
-ghost use Rattle.hazards.specs.Checks.{rateOfKind, ownRate, rangeFault, zeroPair, ascending, intervalsFault, hazardOf};
+ghost use Rattle.hazards.specs.Checks.{rateOfKind, kindNumber, ownRate, rangeFault, zeroPair, ascending, intervalsFault, hazardOf};
 ghost use Rattle.hazards.specs.Checks.{intervalsOf, fieldsFrom, hazardFaults};
+use crate::floats::LIMIT;
+use crate::floats::in_range;
+use crate::floats::zero_bits;
 use crate::rates::HazardRate;
 use crate::rates::Intervals;
 use crate::refusals::Faults;
 
+// The fields of a hazard as in SET.
 pub struct HazardFields {
     pub kind: u8,
     pub first: f64,
     pub count: u8,
     pub ends: [f64; 8],
     pub rates: [f64; 8],
-}
-
-// All bits zero.
-pub fn zero_bits(x: f64) -> bool
-    ensures { λ r. ⌜ r ≡ zeroBits x ⌝ }
-{
-    if x != x { false } else { f64::to_bits(x) == 0 }
-}
-
-// Finite and of size at most 2^40.
-pub fn in_range(x: f64) -> bool
-    ensures { λ r. ⌜ r ≡ inRange x ⌝ }
-{
-    x >= -1099511627776.0 && x <= 1099511627776.0
-}
-
-// Sign bit clear and at most 2^40.
-pub fn is_time(x: f64) -> bool
-    ensures { λ r. ⌜ r ≡ isTime x ⌝ }
-{
-    if x <= 1099511627776.0 {
-        f64::to_bits(x) < 0x8000_0000_0000_0000
-    } else {
-        false
-    }
 }
 
 // The kind's own rate, +0.0 for Zero.
@@ -99,7 +78,7 @@ fn rates_in_range(rates: &[f64; 8], used: usize) -> bool
 fn ascends(before: f64, end: f64) -> bool
     ensures { λ r. ⌜ r ≡ (lt before end && le end limit) ⌝ }
 {
-    before < end && end <= 1099511627776.0
+    before < end && end <= LIMIT
 }
 
 // The ends of the first `used` pairs ascend from above 0 to at most 2^40.
@@ -120,6 +99,7 @@ fn ends_ascend(ends: &[f64; 8], used: usize) -> bool
     true
 }
 
+// All bits of a pair are zero.
 fn zero_pair(end: f64, rate: f64) -> bool
     ensures { λ r. ⌜ r ≡ (zeroBits end && zeroBits rate) ⌝ }
 {
@@ -169,6 +149,7 @@ pub fn intervals_fault<'a>(
     !(unused & ascend)
 }
 
+// The hazard of a kind's number and its first field; a kind above 3 is refused by 4 before this is asked.
 pub fn rate_of_kind(kind: u8, first: f64) -> HazardRate
     ensures { λ r. ⌜ r ≡ rateOfKind kind first ⌝ }
 {
@@ -182,6 +163,18 @@ pub fn rate_of_kind(kind: u8, first: f64) -> HazardRate
         return HazardRate::Gompertz(first);
     }
     HazardRate::Piecewise(first)
+}
+
+// Document 01's number of a kind.
+pub fn kind_number(hazard: HazardRate) -> u8
+    ensures { λ r. ⌜ r ≡ kindNumber hazard ⌝ }
+{
+    match hazard {
+        HazardRate::Zero => 0,
+        HazardRate::Constant(_) => 1,
+        HazardRate::Gompertz(_) => 2,
+        HazardRate::Piecewise(_) => 3,
+    }
 }
 
 // Refusal 4 of a hazard's fields.
@@ -218,12 +211,14 @@ pub fn hazard_faults<'a>(
 }
 
 impl HazardFields {
+    // The kind with its own rate.
     pub fn hazard(self) -> HazardRate
         ensures { λ r. ⌜ r ≡ hazardOf self ⌝ }
     {
         rate_of_kind(self.kind, self.first)
     }
 
+    // The pairs, used or not, with their count.
     pub fn intervals(self) -> Intervals
         ensures { λ r. ⌜ r ≡ intervalsOf self ⌝ }
     {
@@ -236,6 +231,7 @@ impl HazardFields {
         }
     }
 
+    // Refusals 4 to 6 of these fields.
     pub fn faults(self) -> Faults
         ensures { λ r. ⌜ r ≡ hazardFaults self ⌝ }
     {

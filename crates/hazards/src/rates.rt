@@ -4,9 +4,10 @@ ghost use mathlib.Core.Bool.{_&&_};
 ghost use Prim.Native.Nat.{_-_, min};
 ghost use mathlib.Core.List.{[]};
 ghost use lib.Ieee.{lt, le};
-ghost use Rattle.hazards.specs.Floats.{z, notBelowZero};
+ghost use Rattle.hazards.specs.Floats.{z};
 ghost use Rattle.hazards.specs.Rates.{intervalsFrom, pairsFrom, usedPairs, piecewiseHazard, piecewiseCumulative, pairsAfter};
 ghost use Rattle.hazards.specs.Rates.{piecewiseWait, constantWait, hazardAt, cumulativeHazard, invertCumulativeHazard};
+use crate::floats::not_below_zero;
 
 // A kind with its own rate: the rate of Constant, eta of Gompertz (with b = 0), the trailing rate of PiecewiseConstant.
 pub enum HazardRate {
@@ -27,13 +28,6 @@ pub struct Intervals {
 pub enum Wait {
     After(f64),
     Never,
-}
-
-// x.max(0.0), with +0.0 for a negative number and for -0.0.
-pub fn not_below_zero(x: f64) -> f64
-    ensures { λ r. ⌜ r ≡ notBelowZero x ⌝ }
-{
-    if x > 0.0 { x } else { 0.0 }
 }
 
 // There are eight pairs, records and channels at most.
@@ -66,6 +60,7 @@ fn piecewise_hazard<'a>(
     not_below_zero(trailing)
 }
 
+// The hazard at time t, 0 before time 0.
 pub fn hazard_at<'a>(
     hazard: HazardRate,
     ends: &'a [f64; 8],
@@ -115,6 +110,7 @@ fn piecewise_cumulative<'a>(
     cum + not_below_zero(trailing) * (t - cur_t)
 }
 
+// The hazard accumulated from 0 to t.
 pub fn cumulative_hazard<'a>(
     hazard: HazardRate,
     ends: &'a [f64; 8],
@@ -201,6 +197,7 @@ fn piecewise_wait<'a>(
     trailing_wait(trailing, start, cur_t, remaining_w)
 }
 
+// The wait until w has accumulated at one rate.
 pub(crate) fn constant_wait(rate: f64, w: f64) -> Wait
     ensures { λ r. ⌜ r ≡ constantWait rate w ⌝ }
 {

@@ -11,6 +11,7 @@ use crate::rates::Wait;
 use crate::refusals::Faults;
 use crate::sampler::CompetingCause;
 
+// A record's faults, and its wait whether or not it has any.
 pub struct Examined {
     pub faults: Faults,
     pub wait: Wait,
@@ -36,7 +37,7 @@ fn single_rate_faults<'a>(
     ensures { λ r. ⌜ r ≡ hazardFaults (fieldsFrom kind first count (now (ends .entry)) (now (rates .entry))) ⌝ }
 {
     let hazard = crate::checks::rate_of_kind(kind, first);
-    let own = crate::checks::in_range(crate::checks::own_rate(hazard));
+    let own = crate::floats::in_range(crate::checks::own_rate(hazard));
     let none = count == 0;
     let unused = crate::checks::unused_are_zero(ends, rates, 0);
     Faults {
@@ -59,7 +60,7 @@ fn single_rate_wait(kind: u8, first: f64, w: f64) -> Wait
         return Wait::Never;
     }
     if kind == 1 {
-        return crate::rates::constant_wait(crate::rates::not_below_zero(first), w);
+        return crate::rates::constant_wait(crate::floats::not_below_zero(first), w);
     }
     crate::rates::constant_wait(first, w)
 }

@@ -7,6 +7,7 @@ ghost use mathlib.Core.Path.{_≡_};
 ghost use Rattle.hazards.specs.Rates.{intervalsFrom, hazardAt, cumulativeHazard};
 ghost use Rattle.hazards.specs.Checks.{rateOfKind};
 use hazards::checks::HazardFields;
+use hazards::draws::StreamPosition;
 use hazards::evaluations::Evaluation;
 use hazards::fields::f64_at;
 use hazards::fields::put_f64;
@@ -227,7 +228,7 @@ fn put_sampled(out: &mut [u8], at: usize, sampled: Sampled)
     ensures { λ _. ⌜ length (now (out .exit)) ≡ length (now (out .entry)) ⌝ }
 {
     hazards::answers::put_answer(out, at, sampled.answer);
-    put_u64(out, at + 32, sampled.position as u64);
+    put_u64(out, at + 32, sampled.position.next as u64);
 }
 
 // One sample for each position of 8 bytes, while there are positions and room; the number of them. A request is n u8, the
@@ -245,7 +246,8 @@ pub extern "C" fn probe_sample(
     let count = lesser(positions.len() / 8, out.len() / 40);
     let mut i: usize = 0;
     while i < count {
-        let position = u64_at(positions, 8 * i) as usize;
+        let next = u64_at(positions, 8 * i) as usize;
+        let position = StreamPosition { next };
         let sampled = hazards::sampler::sample_next(causes, n, settings, stream, position);
         put_sampled(out, 40 * i, sampled);
         i += 1;

@@ -1,8 +1,8 @@
--- `ties::is_finite_wait` meets its contract.
+-- `floats::is_finite_wait` meets its contract.
 use lib.Ieee.{ofBits, div}
 use Rattle.hazards.specs.Floats.{isFiniteWait}
-use Rattle.hazards.proofs.ties.is_finite_wait.Statement.{statement}
-use Rattle.hazards.proofs.ties.is_finite_wait.Tie as tie
+use Rattle.hazards.proofs.floats.is_finite_wait.Statement.{statement}
+use Rattle.hazards.proofs.floats.is_finite_wait.Tie as tie
 
 returns : tie.Need-returns
 unfolding isFiniteWait ofBits div

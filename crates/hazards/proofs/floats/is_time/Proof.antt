@@ -1,9 +1,9 @@
--- `checks::is_time` meets its contract.
+-- `floats::is_time` meets its contract.
 use lib.Ieee.{ofBits}
 use Rattle.hazards.specs.Floats.{isTime}
 use Rattle.hazards.proofs.CheckLaws.{at-most-number}
-use Rattle.hazards.proofs.checks.is_time.Statement.{statement}
-use Rattle.hazards.proofs.checks.is_time.Tie as tie
+use Rattle.hazards.proofs.floats.is_time.Statement.{statement}
+use Rattle.hazards.proofs.floats.is_time.Tie as tie
 
 float-to-bits-result : tie.Need-float-to-bits-result
 float-to-bits-result c = at-most-number _ _ (c .if1 .taken)

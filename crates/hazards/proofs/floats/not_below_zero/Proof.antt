@@ -1,8 +1,8 @@
--- `rates::not_below_zero` meets its contract: x is above 0, or not.
+-- `floats::not_below_zero` meets its contract: x is above 0, or not.
 use lib.Ieee.{ofBits}
 use Rattle.hazards.specs.Floats.{notBelowZero}
-use Rattle.hazards.proofs.rates.not_below_zero.Statement.{statement}
-use Rattle.hazards.proofs.rates.not_below_zero.Tie as tie
+use Rattle.hazards.proofs.floats.not_below_zero.Statement.{statement}
+use Rattle.hazards.proofs.floats.not_below_zero.Tie as tie
 
 returns : tie.Need-returns
 unfolding notBelowZero ofBits

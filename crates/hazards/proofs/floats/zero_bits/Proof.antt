@@ -1,10 +1,10 @@
--- `checks::zero_bits` meets its contract.
+-- `floats::zero_bits` meets its contract.
 use mathlib.Core.Path.{refl}
 use lib.Ieee.{toBits}
 use Rattle.hazards.specs.Floats.{zeroBits}
 use Rattle.hazards.proofs.Patterns.{differs, same-no-nan}
-use Rattle.hazards.proofs.checks.zero_bits.Statement.{statement}
-use Rattle.hazards.proofs.checks.zero_bits.Tie as tie
+use Rattle.hazards.proofs.floats.zero_bits.Statement.{statement}
+use Rattle.hazards.proofs.floats.zero_bits.Tie as tie
 
 float-to-bits-result : tie.Need-float-to-bits-result
 float-to-bits-result c = same-no-nan _ (c .if1 .left)

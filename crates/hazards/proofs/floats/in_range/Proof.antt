@@ -1,8 +1,8 @@
--- `checks::in_range` meets its contract.
+-- `floats::in_range` meets its contract.
 use lib.Ieee.{ofBits, neg}
 use Rattle.hazards.specs.Floats.{inRange}
-use Rattle.hazards.proofs.checks.in_range.Statement.{statement}
-use Rattle.hazards.proofs.checks.in_range.Tie as tie
+use Rattle.hazards.proofs.floats.in_range.Statement.{statement}
+use Rattle.hazards.proofs.floats.in_range.Tie as tie
 
 returns : tie.Need-returns
 unfolding inRange ofBits neg

@@ -1,8 +1,8 @@
 -- The two comparisons are the definition's.
 use lib.Ieee.{ofBits}
 use Rattle.hazards.specs.Floats.{isThreshold}
-use Rattle.hazards.proofs.draws.is_threshold.Statement.{statement}
-use Rattle.hazards.proofs.draws.is_threshold.Tie as tie
+use Rattle.hazards.proofs.floats.is_threshold.Statement.{statement}
+use Rattle.hazards.proofs.floats.is_threshold.Tie as tie
 
 returns : tie.Need-returns
 unfolding isThreshold ofBits
