@@ -22,14 +22,14 @@ rateOfKind kind first =
     cond (eqb kind 0) Zero
     (cond (eqb kind 1) (Constant first) (cond (eqb kind 2) (Gompertz first) (Piecewise first)))
 
--- the kind's own rate, +0.0 for Zero
+-- the hazard's own rate, +0.0 for Zero
 unfoldable pub ownRate : HazardRate → Float
 ownRate Zero = z
 ownRate (Constant rate) = rate
 ownRate (Gompertz eta) = eta
 ownRate (Piecewise trailing) = trailing
 
--- ---- refusals 5 and 6 of a hazard, by its kind
+-- ---- refusals 5 and 6 of a hazard
 
 -- 5: first or a used rate not finite or of size above 2^40
 unfoldable pub rangeFault : HazardRate → Intervals → Bool

@@ -47,7 +47,7 @@ pub fn is_time(x: f64) -> bool
     }
 }
 
-// The kind's own rate, +0.0 for Zero.
+// The hazard's own rate, +0.0 for Zero.
 pub fn own_rate(hazard: HazardRate) -> f64
     ensures { λ r. ⌜ r ≡ ownRate hazard ⌝ }
 {

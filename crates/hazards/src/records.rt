@@ -55,9 +55,9 @@ fn examined_single_rate(cause: CompetingCause, age: f64, w: f64) -> Examined
         &cause.hazard.rates,
     );
     let faults = with_identifier(rate_faults, cause.cause_id);
-    let hazard = crate::checks::rate_of_kind(cause.hazard.kind, cause.hazard.first);
+    let rate = crate::checks::rate_of_kind(cause.hazard.kind, cause.hazard.first);
     let wait = crate::rates::invert_cumulative_hazard(
-        hazard,
+        rate,
         &cause.hazard.ends,
         &cause.hazard.rates,
         0,

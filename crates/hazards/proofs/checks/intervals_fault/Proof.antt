@@ -1,4 +1,4 @@
--- `checks::intervals_fault` meets its contract: each kind.
+-- `checks::intervals_fault` meets its contract: each constructor.
 use Rattle.hazards.specs.Checks.{intervalsFault}
 use borrow.Author.Needs.{needs}
 use Rattle.hazards.proofs.checks.intervals_fault.Statement.{statement}

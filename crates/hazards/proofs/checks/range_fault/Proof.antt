@@ -1,4 +1,4 @@
--- `checks::range_fault` meets its contract: each kind.
+-- `checks::range_fault` meets its contract: each constructor.
 use Rattle.hazards.specs.Checks.{rangeFault}
 use borrow.Author.Needs.{needs}
 use mathlib.Core.Bool.{not}

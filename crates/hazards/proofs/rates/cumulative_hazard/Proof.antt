@@ -1,4 +1,4 @@
--- `rates::cumulative_hazard` meets its contract: a time at most 0, then each kind.
+-- `rates::cumulative_hazard` meets its contract: a time at most 0, then each constructor.
 use lib.Ieee.{ofBits}
 use borrow.Author.Needs.{needs}
 use Rattle.hazards.specs.Rates.{cumulativeHazard, cumulativeOfRate}

@@ -1,4 +1,4 @@
--- `rates::hazard_at` meets its contract: a negative time, then each kind.
+-- `rates::hazard_at` meets its contract: a negative time, then each constructor.
 use lib.Ieee.{ofBits}
 use borrow.Author.Needs.{needs}
 use Rattle.hazards.specs.Rates.{hazardAt, hazardOfRate}

@@ -1,4 +1,4 @@
--- `rates::invert_cumulative_hazard` meets its contract: a w at most 0, then each kind.
+-- `rates::invert_cumulative_hazard` meets its contract: a w at most 0, then each constructor.
 use lib.Ieee.{ofBits}
 use borrow.Author.Needs.{needs}
 use Rattle.hazards.specs.Rates.{invertCumulativeHazard, waitOfRate}

@@ -1,4 +1,4 @@
--- `rates::uses_pairs` meets its contract: each kind.
+-- `rates::uses_pairs` meets its contract: each constructor.
 use Rattle.hazards.specs.Rates.{usesPairs}
 use borrow.Author.Needs.{needs}
 use Rattle.hazards.proofs.rates.uses_pairs.Statement.{statement}
