@@ -69,7 +69,8 @@ single-intervals (Constant rate) p e = refl
 single-intervals (Gompertz eta) p e = refl
 single-intervals (Piecewise trailing) p e = absurd (true≢false e)
 
-pub single-wait : (h : HazardRate) (p q : Intervals) (start w : Float) → usesPairs h ≡ false → invertCumulativeHazard h q start w ≡ invertCumulativeHazard h p start w
+pub single-wait : (h : HazardRate) (p q : Intervals) (start w : Float) → usesPairs h ≡ false
+    → invertCumulativeHazard h q start w ≡ invertCumulativeHazard h p start w
 unfolding usesPairs invertCumulativeHazard waitOfRate
 single-wait Zero p q start w e = refl
 single-wait (Constant rate) p q start w e = refl

@@ -58,7 +58,8 @@ unfolding waitOfRate
 wait-of-rate-held Zero p start w = tt
 wait-of-rate-held (Constant rate) p start w = constant-held (notBelowZero rate) w
 wait-of-rate-held (Gompertz eta) p start w = constant-held eta w
-wait-of-rate-held (Piecewise trailing) p start w = piecewise-held (drop (firstAfter start (usedPairs p)) (usedPairs p)) trailing start start w
+wait-of-rate-held (Piecewise trailing) p start w =
+    piecewise-held (drop (firstAfter start (usedPairs p)) (usedPairs p)) trailing start start w
 
 zero-held : T (fits binary64 z)
 unfolding fits

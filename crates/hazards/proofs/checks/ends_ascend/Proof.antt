@@ -45,7 +45,8 @@ returns c =
     let l = c .before .before .before .before in
     let a = l .before .before .args in
     λ rates.
-    let next = pieces-next (pairAt (intervalsFrom (a .ends .now) rates (a .count))) (l .before .at-most-eight .result) (l .loop .i) (omega arith) in
+    let f = pairAt (intervalsFrom (a .ends .now) rates (a .count)) in
+    let next = pieces-next f (l .before .at-most-eight .result) (l .loop .i) (omega arith) in
     sym (ascending-fails (l .loop .before) next (sym (c .before .ascends .ensures) ∙ not-true _ (c .if1 .taken)))
     ∙ l .loop .inv rates
 
@@ -60,7 +61,8 @@ loop-again c =
     let l = c .before .before .before .before in
     let a = l .before .before .args in
     λ rates.
-    let next = pieces-next (pairAt (intervalsFrom (a .ends .now) rates (a .count))) (l .before .at-most-eight .result) (l .loop .i) (omega arith) in
+    let f = pairAt (intervalsFrom (a .ends .now) rates (a .count)) in
+    let next = pieces-next f (l .before .at-most-eight .result) (l .loop .i) (omega arith) in
     sym (ascending-next (l .loop .before) next (sym (c .before .ascends .ensures) ∙ not-false _ (c .if1 .left)))
     ∙ l .loop .inv rates
 
@@ -69,8 +71,9 @@ returns-2 c =
     let l = c .before in
     let a = l .before .before .args in
     λ rates.
-    sym (ascending-none (l .loop .before) (pieces-end (pairAt (intervalsFrom (a .ends .now) rates (a .count))) (l .before .at-most-eight .result) (l .loop .i) (omega arith)))
-    ∙ l .loop .inv rates
+    let f = pairAt (intervalsFrom (a .ends .now) rates (a .count)) in
+    let end = pieces-end f (l .before .at-most-eight .result) (l .loop .i) (omega arith) in
+    sym (ascending-none (l .loop .before) end) ∙ l .loop .inv rates
 
 pub ends-ascend-spec : {M : Type 1} → statement M
 ends-ascend-spec =

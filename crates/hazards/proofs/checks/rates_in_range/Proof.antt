@@ -44,7 +44,8 @@ returns c =
     let l = c .before .before .before .before in
     let a = l .before .before .args in
     λ ends.
-    let next = pieces-next (pairAt (intervalsFrom ends (a .rates .now) (a .count))) (l .before .at-most-eight .result) (l .loop .i) (omega arith) in
+    let f = pairAt (intervalsFrom ends (a .rates .now) (a .count)) in
+    let next = pieces-next f (l .before .at-most-eight .result) (l .loop .i) (omega arith) in
     sym (all-fails (λ q. inRange (q .rate)) next (sym (c .before .in-range .ensures) ∙ not-true _ (c .if1 .taken)))
     ∙ l .loop .inv ends
 
@@ -59,7 +60,8 @@ loop-again c =
     let l = c .before .before .before .before in
     let a = l .before .before .args in
     λ ends.
-    let next = pieces-next (pairAt (intervalsFrom ends (a .rates .now) (a .count))) (l .before .at-most-eight .result) (l .loop .i) (omega arith) in
+    let f = pairAt (intervalsFrom ends (a .rates .now) (a .count)) in
+    let next = pieces-next f (l .before .at-most-eight .result) (l .loop .i) (omega arith) in
     sym (all-next (λ q. inRange (q .rate)) next (sym (c .before .in-range .ensures) ∙ not-false _ (c .if1 .left)))
     ∙ l .loop .inv ends
 
@@ -68,8 +70,9 @@ returns-2 c =
     let l = c .before in
     let a = l .before .before .args in
     λ ends.
-    sym (all-none (λ q. inRange (q .rate)) (pieces-end (pairAt (intervalsFrom ends (a .rates .now) (a .count))) (l .before .at-most-eight .result) (l .loop .i) (omega arith)))
-    ∙ l .loop .inv ends
+    let f = pairAt (intervalsFrom ends (a .rates .now) (a .count)) in
+    let end = pieces-end f (l .before .at-most-eight .result) (l .loop .i) (omega arith) in
+    sym (all-none (λ q. inRange (q .rate)) end) ∙ l .loop .inv ends
 
 pub rates-in-range-spec : {M : Type 1} → statement M
 rates-in-range-spec =

@@ -56,8 +56,9 @@ returns : tie.Need-returns Inv-loop μ-loop
 returns c =
     let l = c .before in
     let a = l .before .args in
-    λ n. sym (all-done zeroPair (l .loop .zero) (pieces-end (pairAt (intervalsFrom (a .ends .now) (a .rates .now) n)) 8 (l .loop .i) (omega arith)))
-    ∙ l .loop .inv n
+    λ n.
+    let end = pieces-end (pairAt (intervalsFrom (a .ends .now) (a .rates .now) n)) 8 (l .loop .i) (omega arith) in
+    sym (all-done zeroPair (l .loop .zero) end) ∙ l .loop .inv n
 
 pub unused-are-zero-spec : {M : Type 1} → statement M
 unused-are-zero-spec =

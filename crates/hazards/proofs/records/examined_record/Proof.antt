@@ -18,7 +18,8 @@ returns : tie.Need-returns
 returns c = search needs
 
 examined-single-rate-requires : tie.Need-examined-single-rate-requires
-examined-single-rate-requires c κs = ap usesPairs (sym (c .before .before .rate-of-kind .ensures)) ∙ sym (c .before .uses-pairs .ensures) ∙ c .if1 .left
+examined-single-rate-requires c κs =
+    ap usesPairs (sym (c .before .before .rate-of-kind .ensures)) ∙ sym (c .before .uses-pairs .ensures) ∙ c .if1 .left
 
 returns-2 : tie.Need-returns-2
 returns-2 c = search needs
