@@ -3,8 +3,8 @@ use lib.Ieee.{ofBits, toBits, isNan, add, sub, mul, div, lt, le}
 use Rattle.hazards.specs.Floats.{notBelowZero, zeroBits, inRange, isTime, isThreshold, isFiniteWait}
 use Rattle.hazards.specs.Lists.{all, foldl, insertBy, sortBy}
 use Rattle.hazards.specs.Fields.{littleEndian, bytesOf, fieldAt, f64At, i32At}
-use Rattle.hazards.specs.Rates.{pairsFrom, usedPairs, piecewiseHazard, hazardOfKind, hazardAt, piecewiseCumulative, cumulativeOfKind}
-use Rattle.hazards.specs.Rates.{mostPairs, cumulativeHazard, pairsAfter, piecewiseWait, constantWait, waitOfKind, invertCumulativeHazard}
+use Rattle.hazards.specs.Rates.{piecesBy, firstAfter, usedPairs, piecewiseHazard, hazardOfRate, hazardAt, piecewiseCumulative}
+use Rattle.hazards.specs.Rates.{cumulativeOfRate, cumulativeHazard, waitFrom, constantWait, waitOfRate, invertCumulativeHazard}
 use Rattle.hazards.specs.Checks.{ownRate, rangeFault, ascending, intervalsFault, choiceFault, hazardFaults}
 use Rattle.hazards.specs.Draws.{drawAt}
 use Rattle.hazards.specs.Answers.{headBytes, answerBytes}
@@ -31,8 +31,8 @@ use Rattle.engine.specs.Ledger.{recordCommand, ledgerOf}
 
 unfoldable pub computed : Unit {0}
 unfolding ofBits toBits isNan add sub mul div lt le notBelowZero zeroBits inRange isTime isThreshold isFiniteWait all foldl insertBy sortBy
-    littleEndian bytesOf fieldAt f64At i32At pairsFrom usedPairs piecewiseHazard hazardOfKind hazardAt piecewiseCumulative
-    cumulativeOfKind cumulativeHazard pairsAfter piecewiseWait constantWait waitOfKind invertCumulativeHazard ownRate mostPairs
+    littleEndian bytesOf fieldAt f64At i32At piecesBy firstAfter usedPairs piecewiseHazard hazardOfRate hazardAt piecewiseCumulative
+    cumulativeOfRate cumulativeHazard waitFrom constantWait waitOfRate invertCumulativeHazard ownRate
     rangeFault ascending intervalsFault choiceFault hazardFaults drawAt headBytes answerBytes candidateAfter preferred precedes
     earlier earliest faultsOfAll settingsFaults drawsRefusal sampleRefusal candidates censoredAt sampledEvent sampleNext settledHazard
     onUsed placeOf holdsAt insertAt channelCandidate wholeTicks newClock clockCandidates earliestEvent setAgain setNew setChannel

@@ -15,7 +15,7 @@ pub mod Limits
 pub mod ListLaws
 pub mod OrderLaws
 pub mod Overwrite
-pub mod Pairs
+pub mod Pieces
 pub mod Patterns
 pub mod PublicBounds
 pub mod SamplerLaws

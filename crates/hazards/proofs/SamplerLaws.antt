@@ -29,7 +29,7 @@ use Rattle.hazards.specs.declared.answers.Answer.{Answer}
 use Rattle.hazards.specs.declared.sampler.CompetingCause.{CompetingCause}
 use Rattle.hazards.specs.declared.sampler.SampleSettings.{SampleSettings}
 use Rattle.hazards.proofs.ListLaws.{foldl-append}
-use Rattle.hazards.proofs.Pairs.{one-left, none-left}
+use Rattle.hazards.proofs.Pieces.{one-left, none-left}
 
 -- past the end of an array of records
 abbrev pub noRecord : CompetingCause

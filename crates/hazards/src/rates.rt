@@ -1,15 +1,15 @@
 // Hazard rates of competing_risks.rs: the hazard, the cumulative hazard and its inverse, each float operation rounded once.
 ghost use mathlib.Core.Path.{_≡_};
 ghost use mathlib.Core.Bool.{_&&_};
-ghost use Prim.Native.Nat.{_-_, min};
+ghost use Prim.Native.Nat.{min};
 ghost use mathlib.Core.List.{[]};
 ghost use lib.Ieee.{lt, le};
 ghost use Rattle.hazards.specs.Floats.{z};
-ghost use Rattle.hazards.specs.Rates.{intervalsFrom, pairsFrom, usedPairs, piecewiseHazard, piecewiseCumulative, pairsAfter};
-ghost use Rattle.hazards.specs.Rates.{piecewiseWait, constantWait, hazardAt, cumulativeHazard, invertCumulativeHazard};
+ghost use Rattle.hazards.specs.Rates.{intervalsFrom, usedPairs, usesPairs, piecewiseHazard, piecewiseCumulative, firstAfter};
+ghost use Rattle.hazards.specs.Rates.{waitFrom, piecewiseWait, constantWait, hazardAt, cumulativeHazard, invertCumulativeHazard};
 use crate::floats::not_below_zero;
 
-// A kind with its own rate: the rate of Constant, eta of Gompertz (with b = 0), the trailing rate of PiecewiseConstant.
+// A hazard with its own rate: the rate of Constant, eta of Gompertz (with b = 0), the trailing rate of PiecewiseConstant.
 pub enum HazardRate {
     Zero,
     Constant(f64),
@@ -30,6 +30,18 @@ pub enum Wait {
     Never,
 }
 
+// Whether a hazard uses pairs at all.
+pub(crate) fn uses_pairs(hazard: HazardRate) -> bool
+    ensures { λ r. ⌜ r ≡ usesPairs hazard ⌝ }
+{
+    match hazard {
+        HazardRate::Zero => false,
+        HazardRate::Constant(_) => false,
+        HazardRate::Gompertz(_) => false,
+        HazardRate::Piecewise(_) => true,
+    }
+}
+
 // There are eight pairs, records and channels at most.
 pub fn at_most_eight(count: usize) -> usize
     ensures { λ r. ⌜ r ≡ min count 8 ⌝ }
@@ -45,9 +57,7 @@ fn piecewise_hazard<'a>(
     t: f64,
 ) -> f64
     ensures { λ r. ⌜ r
-        ≡ piecewiseHazard
-        (usedPairs (HazardRate.Piecewise trailing) (intervalsFrom (now (ends .entry)) (now (rates .entry)) count))
-        trailing t ⌝ }
+        ≡ piecewiseHazard (usedPairs (intervalsFrom (now (ends .entry)) (now (rates .entry)) count)) trailing t ⌝ }
 {
     let used = at_most_eight(count);
     let mut i: usize = 0;
@@ -89,9 +99,7 @@ fn piecewise_cumulative<'a>(
     t: f64,
 ) -> f64
     ensures { λ r. ⌜ r
-        ≡ piecewiseCumulative
-        (usedPairs (HazardRate.Piecewise trailing) (intervalsFrom (now (ends .entry)) (now (rates .entry)) count))
-        trailing t z z ⌝ }
+        ≡ piecewiseCumulative (usedPairs (intervalsFrom (now (ends .entry)) (now (rates .entry)) count)) trailing t z z ⌝ }
 {
     let used = at_most_eight(count);
     let mut cum = 0.0;
@@ -131,10 +139,9 @@ pub fn cumulative_hazard<'a>(
     }
 }
 
-// The place of the first pair that does not end at or before t, or one past the used pairs.
+// The index of the first used pair that does not end at or before t, or one past the used pairs.
 fn interval_after<'a>(ends: &'a [f64; 8], rates: &'a [f64; 8], count: usize, t: f64) -> usize
-    ensures { λ r. ⌜ pairsFrom (intervalsFrom (now (ends .entry)) (now (rates .entry)) count) r (min count 8 - r)
-        ≡ pairsAfter t (pairsFrom (intervalsFrom (now (ends .entry)) (now (rates .entry)) count) 0 (min count 8)) ⌝ }
+    ensures { λ r. ⌜ r ≡ firstAfter t (usedPairs (intervalsFrom (now (ends .entry)) (now (rates .entry)) count)) ⌝ }
 {
     let used = at_most_eight(count);
     let mut i: usize = 0;
@@ -155,7 +162,7 @@ fn within_capacity(rate: f64, w: f64, capacity: f64) -> bool
 
 // The wait at the trailing rate, from cur_t on.
 fn trailing_wait(trailing: f64, start: f64, cur_t: f64, w: f64) -> Wait
-    ensures { λ r. ⌜ r ≡ piecewiseWait [] trailing start «cur_t» w ⌝ }
+    ensures { λ r. ⌜ r ≡ waitFrom [] trailing start «cur_t» w ⌝ }
 {
     let rate = not_below_zero(trailing);
     if rate <= 0.0 {
@@ -174,10 +181,7 @@ fn piecewise_wait<'a>(
     w: f64,
 ) -> Wait
     ensures { λ r. ⌜ r
-        ≡ piecewiseWait
-        (pairsAfter start
-        (usedPairs (HazardRate.Piecewise trailing) (intervalsFrom (now (ends .entry)) (now (rates .entry)) count)))
-        trailing start start w ⌝ }
+        ≡ piecewiseWait (usedPairs (intervalsFrom (now (ends .entry)) (now (rates .entry)) count)) trailing start w ⌝ }
 {
     let used = at_most_eight(count);
     let mut i = interval_after(ends, rates, count, start);
