@@ -22,6 +22,7 @@ rateOfKind kind first =
     cond (eqb kind 0) Zero
     (cond (eqb kind 1) (Constant first) (cond (eqb kind 2) (Gompertz first) (Piecewise first)))
 
+-- a kind's number
 abbrev pub kindNumber : HazardRate → ℕ
 kindNumber Zero = 0
 kindNumber (Constant rate) = 1

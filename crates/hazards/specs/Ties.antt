@@ -26,6 +26,7 @@ candidateAfter cause priority timeOf Never = []
 abbrev pub tieBreakerOf : ℕ → TieBreaker
 tieBreakerOf tie = cond (eqb tie 0) LowestCauseId (cond (eqb tie 1) HighestCauseId ExplicitPriority)
 
+-- a tie choice's number
 abbrev pub tieNumber : TieBreaker → ℕ
 tieNumber LowestCauseId = 0
 tieNumber HighestCauseId = 1
