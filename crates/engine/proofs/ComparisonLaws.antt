@@ -12,10 +12,11 @@ use lib.Ieee.Bits.{is-true}
 use Rattle.hazards.specs.Checks.{ownRate}
 use Rattle.hazards.specs.declared.rates.HazardRate.{HazardRate}
 use Rattle.hazards.specs.declared.rates.Intervals.{Intervals}
+use Rattle.clocks.specs.Clocks.{policyNumber}
 use Rattle.clocks.specs.declared.channels.HazardChannelState.{HazardChannelState}
 use Rattle.clocks.specs.declared.clocks.SurvivalClock.{SurvivalClock}
 use Rattle.clocks.proofs.Cases.{either-way}
-use Rattle.engine.specs.Comparison.{sameFlag, sameInteger, sameFloat, everyBelow, kindNumber, policyNumber, tieNumber, sameFloats}
+use Rattle.engine.specs.Comparison.{sameFlag, sameInteger, sameFloat, everyBelow, kindNumber, tieNumber, sameFloats}
 use Rattle.engine.specs.Comparison.{sameHazard}
 use Rattle.engine.specs.Comparison.{sameIntervals, sameChannel, sameSettings, sameChannels, sameSchedule}
 use Rattle.engine.specs.Comparison.{sameClock, sameSlot, sameRequest, sameProgress, sameState}

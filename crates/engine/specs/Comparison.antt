@@ -16,10 +16,9 @@ use Rattle.hazards.specs.declared.rates.Intervals.{Intervals}
 use Rattle.hazards.specs.declared.ties.TieBreaker.{TieBreaker}
 use Rattle.hazards.specs.declared.ties.TieBreaker.the-variants.{LowestCauseId, HighestCauseId, ExplicitPriority}
 use Rattle.clocks.specs.Channels.{emptyChannel}
+use Rattle.clocks.specs.Clocks.{policyNumber}
 use Rattle.clocks.specs.declared.channels.HazardChannelState.{HazardChannelState}
 use Rattle.clocks.specs.declared.clocks.EntityId.{EntityId}
-use Rattle.clocks.specs.declared.clocks.HazardInterruptionPolicy.{HazardInterruptionPolicy}
-use Rattle.clocks.specs.declared.clocks.HazardInterruptionPolicy.the-variants.{Restart, RetainResidual}
 use Rattle.clocks.specs.declared.clocks.ScheduledEvent.{ScheduledEvent}
 use Rattle.clocks.specs.declared.clocks.Winner.{Winner}
 use Rattle.clocks.specs.declared.clocks.SurvivalClock.{SurvivalClock}
@@ -42,10 +41,6 @@ unfoldable pub sameFloat : Float → Float → Bool
 sameFloat x y = cond (isNan x) (isNan y) (cond (isNan y) false (eqb (toBits binary64 x) (toBits binary64 y)))
 
 -- the choices by their numbers in document 01
-abbrev pub policyNumber : HazardInterruptionPolicy → ℕ
-policyNumber Restart = 0
-policyNumber RetainResidual = 1
-
 abbrev pub tieNumber : TieBreaker → ℕ
 tieNumber LowestCauseId = 0
 tieNumber HighestCauseId = 1

@@ -2,8 +2,8 @@
 ghost use Prim.Native.Nat.{_≤_};
 use clocks::channels::HazardChannelState;
 use clocks::clocks::SurvivalClock;
+use clocks::clocks::policy_number;
 use engine::comparison::kind_number;
-use engine::comparison::policy_number;
 use engine::comparison::tie_number;
 use hazards::checks::own_rate;
 use hazards::fields::put_f64;
