@@ -6,7 +6,7 @@ use mathlib.Core.List.{List}
 use Prim.Native.Nat.{ℕ}
 use lib.Ieee.{Float}
 use Rattle.hazards.specs.declared.ties.TieBreaker.{TieBreaker}
-use Rattle.clocks.specs.Channels.{settled, restarted, onUsed, placeOf, holdsAt}
+use Rattle.clocks.specs.Channels.{settled, restarted, onUsed, placeOfCause}
 use Rattle.clocks.specs.Clocks.{notScheduled, noWinner, newClock, usedChannels, withChannels, withSchedule, removeChannel}
 use Rattle.clocks.specs.Setting.{setChannel}
 use Rattle.clocks.specs.Scheduling.{scheduledFor, reschedule, pause, resume, onEventDispatched}
@@ -19,6 +19,7 @@ use Rattle.clocks.specs.declared.scheduling.RealizedEvent.{RealizedEvent
 use Rattle.clocks.specs.declared.scheduling.Rescheduled.{Rescheduled}
 use Rattle.clocks.specs.declared.setting.CauseSetting.{CauseSetting}
 use Rattle.clocks.proofs.Cases.{either-way}
+use Rattle.clocks.proofs.Places.{by-place}
 use Rattle.clocks.proofs.SchedulingCases.{pause-inactive, pause-active}
 use Rattle.clocks.proofs.SettingOutcomes.{set-way}
 
@@ -85,7 +86,7 @@ module _ (k : SurvivalClock) (s : CauseSetting) (stream : List ℕ) (position : 
 module _ (k : SurvivalClock) (cause : ℕ) where
   pub remove-rest : OnlyChannels k (removeChannel k cause)
   unfolding removeChannel
-  remove-rest = either-way (holdsAt (placeOf cause (usedChannels k)) cause (usedChannels k)) (λ e. rw e) (λ e. rw e)
+  remove-rest = by-place (placeOfCause cause (usedChannels k)) (λ at e. rw (removeChannel, e)) (λ e. rw (removeChannel, e))
 
   pub remove-scheduled : removeChannel k cause .«scheduled_event_id» ≡ k .«scheduled_event_id»
   remove-scheduled = ap (λ (c : SurvivalClock). c .«scheduled_event_id») remove-rest

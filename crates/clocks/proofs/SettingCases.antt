@@ -10,10 +10,11 @@ use Rattle.hazards.specs.Floats.{z}
 use Rattle.hazards.specs.Refusals.{tooManyCauses}
 use Rattle.hazards.specs.Draws.{drawAt}
 use Rattle.hazards.specs.declared.draws.DrawAndPosition.{DrawAndPosition}
-use Rattle.clocks.specs.Channels.{emptyChannel, settledHazard, placeOf, holdsAt, insertAt}
+use Rattle.clocks.specs.Channels.{emptyChannel, settledHazard, placeOfCause, placeForNew, insertAt}
 use Rattle.clocks.specs.Clocks.{usedChannels, withChannels}
 use Rattle.clocks.specs.Setting.{channelOf, drawsAgain, notSet, afterDraw, setAgain, setNew, setChannel}
 use Rattle.clocks.specs.declared.channels.HazardChannelState.{HazardChannelState}
+use Rattle.clocks.specs.declared.channels.CausePlace.the-variants.{At, Absent}
 use Rattle.clocks.specs.declared.clocks.SurvivalClock.{SurvivalClock}
 use Rattle.clocks.specs.declared.setting.CauseSetting.{CauseSetting}
 use Rattle.clocks.proofs.UsedChannels.{getD-any}
@@ -58,39 +59,44 @@ module _ (k : SurvivalClock) (s : CauseSetting) (stream : List ℕ) (position at
         (draw-accepted k position d (λ w. withChannels k (set (k .channels) at (channelOf s z w)) (k .«channel_count»)) n
         ∙ rw q (again-draws h))
 
-  -- a cause that is new to the clock
-  pub new-ninth : 8 ≤ k .«channel_count» → notSet k position tooManyCauses ≡ setNew k s stream position at
+-- a cause that is new to the clock
+module _ (k : SurvivalClock) (s : CauseSetting) (stream : List ℕ) (position : ℕ) where
+  pub new-ninth : 8 ≤ k .«channel_count» → notSet k position tooManyCauses ≡ setNew k s stream position
   unfolding setNew
   new-ninth h = rw (le-ltb (k .«channel_count») 8 h)
 
+  abbrev newAt : ℕ
+  newAt = placeForNew (s .«cause_id») (usedChannels k)
+
   new-draws : k .«channel_count» < 8
       → afterDraw k position (drawAt stream position)
-      (λ w. withChannels k (insertAt at (channelOf s z w) (k .channels)) (k .«channel_count» + 1))
-      ≡ setNew k s stream position at
+      (λ w. withChannels k (insertAt newAt (channelOf s z w) (k .channels)) (k .«channel_count» + 1))
+      ≡ setNew k s stream position
   unfolding setNew
   new-draws h = rw (lt-ltb (k .«channel_count») 8 h)
 
   pub new-refused : {d : DrawAndPosition} → k .«channel_count» < 8 → d ≡ drawAt stream position → (d .number ≡ 0 → ⊥)
-      → notSet k position (d .number) ≡ setNew k s stream position at
+      → notSet k position (d .number) ≡ setNew k s stream position
   new-refused {d} h q n =
-      draw-refused k position d (λ w. withChannels k (insertAt at (channelOf s z w) (k .channels)) (k .«channel_count» + 1)) n
+      draw-refused k position d (λ w. withChannels k (insertAt newAt (channelOf s z w) (k .channels)) (k .«channel_count» + 1)) n
       ∙ rw q (new-draws h)
 
-  pub new-drawn : {d : DrawAndPosition} {c : HazardChannelState} {r : SurvivalClock} → k .«channel_count» < 8
-      → d ≡ drawAt stream position → d .number ≡ 0 → c ≡ channelOf s z (d .threshold)
+  pub new-drawn : {d : DrawAndPosition} {c : HazardChannelState} {at : ℕ} {r : SurvivalClock} → k .«channel_count» < 8
+      → d ≡ drawAt stream position → d .number ≡ 0 → c ≡ channelOf s z (d .threshold) → at ≡ newAt
       → r ≡ withChannels k (insertAt at c (k .channels)) (k .«channel_count» + 1)
-      → record { number = 0; clock = r; position = d .position .next } ≡ setNew k s stream position at
-  new-drawn {d} h q n p e =
-      rw (e, p)
-      (draw-accepted k position d (λ w. withChannels k (insertAt at (channelOf s z w) (k .channels)) (k .«channel_count» + 1)) n
+      → record { number = 0; clock = r; position = d .position .next } ≡ setNew k s stream position
+  new-drawn {d} h q n p a e =
+      rw (e, p, a)
+      (draw-accepted k position d (λ w. withChannels k (insertAt newAt (channelOf s z w) (k .channels)) (k .«channel_count» + 1)) n
       ∙ rw q (new-draws h))
 
-  -- which of the two
-  module _ (e : at ≡ placeOf (s .«cause_id») (usedChannels k)) where
-    pub set-held : holdsAt at (s .«cause_id») (usedChannels k) ≡ true → setAgain k s stream position at ≡ setChannel k s stream position
-    unfolding setChannel
-    set-held h = rw (← e, h)
+  -- which of the two: a used channel has the cause, or none has
+  pub set-held : {at : ℕ} → At at ≡ placeOfCause (s .«cause_id») (usedChannels k)
+      → setAgain k s stream position at ≡ setChannel k s stream position
+  unfolding setChannel
+  set-held h = rw (setChannel, ← h)
 
-    pub set-absent : holdsAt at (s .«cause_id») (usedChannels k) ≡ false → setNew k s stream position at ≡ setChannel k s stream position
-    unfolding setChannel
-    set-absent h = rw (← e, h)
+  pub set-absent : Absent ≡ placeOfCause (s .«cause_id») (usedChannels k)
+      → setNew k s stream position ≡ setChannel k s stream position
+  unfolding setChannel
+  set-absent h = rw (setChannel, ← h)

@@ -11,7 +11,7 @@ use Rattle.hazards.proofs.Bounds.{Upto, largest}
 use Rattle.hazards.specs.declared.ties.TieBreaker.{TieBreaker}
 use Rattle.hazards.proofs.Upto.{zero-upto}
 use Rattle.hazards.proofs.Limits.{time-upto}
-use Rattle.clocks.specs.Channels.{settled, restarted, placeOf, holdsAt}
+use Rattle.clocks.specs.Channels.{settled, restarted, placeOfCause}
 use Rattle.clocks.specs.Clocks.{notScheduled, noWinner, newClock, usedChannels, removeChannel, earliestEvent, one}
 use Rattle.clocks.specs.Scheduling.{finalEvent, scheduledFor, reschedule, pause, resume, onEventDispatched}
 use Rattle.clocks.specs.Validation.{isFinite, ascendingFrom}
@@ -22,6 +22,7 @@ use Rattle.clocks.specs.declared.scheduling.Censor.{Censor}
 use Rattle.clocks.specs.declared.scheduling.RealizedEvent.{RealizedEvent}
 use Rattle.clocks.proofs.Sound.{none, SoundClock}
 use Rattle.clocks.proofs.Cases.{either-way}
+use Rattle.clocks.proofs.Places.{by-place}
 use Rattle.clocks.proofs.EventTimes.{delta-upto, winner-upto}
 use Rattle.clocks.proofs.SchedulingCases.{pause-inactive, pause-active}
 use Rattle.clocks.proofs.SoundChannels.{settled-sound, restarted-sound}
@@ -58,8 +59,8 @@ module _ (k : SurvivalClock) (s : SoundClock k) where
   pub remove-sound : (cause : ℕ) → SoundClock (removeChannel k cause)
   unfolding removeChannel
   remove-sound cause =
-      let at = placeOf cause (usedChannels k) in
-      either-way (holdsAt at cause (usedChannels k)) (λ e. rw e (removed-sound k s at cause e)) (λ e. rw e s)
+      by-place (placeOfCause cause (usedChannels k))
+      (λ at e. rw (removeChannel, e) (removed-sound k s at cause e)) (λ e. rw (removeChannel, e) s)
 
   -- ---- on_event_dispatched
   pub dispatched-sound : SoundClock (onEventDispatched k .clock)

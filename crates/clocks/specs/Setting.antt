@@ -10,9 +10,10 @@ use Rattle.hazards.specs.Floats.{z}
 use Rattle.hazards.specs.Refusals.{tooManyCauses}
 use Rattle.hazards.specs.Draws.{drawAt}
 use Rattle.hazards.specs.declared.draws.DrawAndPosition.{DrawAndPosition}
-use Rattle.clocks.specs.Channels.{emptyChannel, settledHazard, placeOf, holdsAt, insertAt}
+use Rattle.clocks.specs.Channels.{emptyChannel, settledHazard, placeOfCause, placeForNew, insertAt}
 use Rattle.clocks.specs.Clocks.{usedChannels, withChannels}
 use Rattle.clocks.specs.declared.channels.HazardChannelState.{HazardChannelState}
+use Rattle.clocks.specs.declared.channels.CausePlace.the-variants.{At, Absent}
 use Rattle.clocks.specs.declared.clocks.HazardInterruptionPolicy.{HazardInterruptionPolicy}
 use Rattle.clocks.specs.declared.clocks.HazardInterruptionPolicy.the-variants.{Restart, RetainResidual}
 use Rattle.clocks.specs.declared.clocks.SurvivalClock.{SurvivalClock}
@@ -61,15 +62,19 @@ setAgain k s stream position at =
       position = position;
     })
 
--- a cause that is new to the clock: a ninth is refused
-unfoldable pub setNew : SurvivalClock → CauseSetting → List ℕ → ℕ → ℕ → ChannelSet
-setNew k s stream position at =
+-- a cause that is new to the clock goes to its place by ascending cause: a ninth is refused
+unfoldable pub setNew : SurvivalClock → CauseSetting → List ℕ → ℕ → ChannelSet
+setNew k s stream position =
+    let at = placeForNew (s .«cause_id») (usedChannels k) in
     cond (ltb (k .«channel_count») 8)
     (afterDraw k position (drawAt stream position)
     (λ w. withChannels k (insertAt at (channelOf s z w) (k .channels)) (k .«channel_count» + 1)))
     (notSet k position tooManyCauses)
 
+-- set_channel: the used channel with this cause, if any, is set again; a cause without one is new
 unfoldable pub setChannel : SurvivalClock → CauseSetting → List ℕ → ℕ → ChannelSet
 setChannel k s stream position =
-    let at = placeOf (s .«cause_id») (usedChannels k) in
-    cond (holdsAt at (s .«cause_id») (usedChannels k)) (setAgain k s stream position at) (setNew k s stream position at)
+    elim (placeOfCause (s .«cause_id») (usedChannels k)) [
+      | At at ↦ setAgain k s stream position at
+      | Absent ↦ setNew k s stream position
+    ]

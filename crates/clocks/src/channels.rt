@@ -17,6 +17,13 @@ pub struct HazardChannelState {
     pub interval_start_time: f64,
 }
 
+// The place of the used channel with a cause, if any.
+pub enum CausePlace {
+    At(usize),
+    Absent,
+}
+
+// No pairs.
 pub fn empty_intervals() -> Intervals
     ensures { λ r. ⌜ r ≡ emptyIntervals ⌝ }
 {
@@ -61,6 +68,7 @@ pub(crate) fn accumulated_at<'a>(
     accumulated + added
 }
 
+// The hazard that a channel has accumulated at a time.
 pub(crate) fn settled_hazard(channel: HazardChannelState, now: f64) -> f64
     ensures { λ r. ⌜ r ≡ settledHazard channel now ⌝ }
 {

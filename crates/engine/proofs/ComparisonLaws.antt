@@ -13,10 +13,11 @@ use Rattle.hazards.specs.Checks.{kindNumber, ownRate}
 use Rattle.hazards.specs.Ties.{tieNumber}
 use Rattle.hazards.specs.declared.rates.HazardRate.{HazardRate}
 use Rattle.hazards.specs.declared.rates.Intervals.{Intervals}
+use Rattle.clocks.specs.Clocks.{policyNumber}
 use Rattle.clocks.specs.declared.channels.HazardChannelState.{HazardChannelState}
 use Rattle.clocks.specs.declared.clocks.SurvivalClock.{SurvivalClock}
 use Rattle.clocks.proofs.Cases.{either-way}
-use Rattle.engine.specs.Comparison.{sameFlag, sameInteger, sameFloat, everyBelow, policyNumber, sameFloats}
+use Rattle.engine.specs.Comparison.{sameFlag, sameInteger, sameFloat, everyBelow, sameFloats}
 use Rattle.engine.specs.Comparison.{sameHazard}
 use Rattle.engine.specs.Comparison.{sameIntervals, sameChannel, sameSettings, sameChannels, sameSchedule}
 use Rattle.engine.specs.Comparison.{sameClock, sameSlot, sameRequest, sameProgress, sameState}

@@ -11,7 +11,7 @@ use Rattle.hazards.specs.Answers.{headBytes, answerBytes}
 use Rattle.hazards.specs.Ties.{candidateAfter, preferred, precedes, earlier, earliest}
 use Rattle.hazards.specs.Sampler.{faultsOfAll, settingsFaults, drawsRefusal, sampleRefusal, candidates, censoredAt, sampledEvent}
 use Rattle.hazards.specs.Sampler.{sampleNext}
-use Rattle.clocks.specs.Channels.{settledHazard, onUsed, placeOf, holdsAt, insertAt, channelCandidate}
+use Rattle.clocks.specs.Channels.{settledHazard, onUsed, placeOfCause, placeForNew, insertAt, channelCandidate}
 use Rattle.clocks.specs.Ticks.{wholeTicks}
 use Rattle.clocks.specs.Clocks.{newClock, clockCandidates, earliestEvent}
 use Rattle.clocks.specs.Setting.{setAgain, setNew, setChannel}
@@ -35,7 +35,7 @@ unfolding ofBits toBits isNan add sub mul div lt le notBelowZero zeroBits inRang
     cumulativeOfRate cumulativeHazard waitFrom constantWait waitOfRate invertCumulativeHazard ownRate
     rangeFault ascending intervalsFault choiceFault hazardFaults drawAt headBytes answerBytes candidateAfter preferred precedes
     earlier earliest faultsOfAll settingsFaults drawsRefusal sampleRefusal candidates censoredAt sampledEvent sampleNext settledHazard
-    onUsed placeOf holdsAt insertAt channelCandidate wholeTicks newClock clockCandidates earliestEvent setAgain setNew setChannel
+    onUsed placeOfCause placeForNew insertAt channelCandidate wholeTicks newClock clockCandidates earliestEvent setAgain setNew setChannel
     finalEvent scheduledFor reschedule pause resume onEventDispatched isFinite ascendingFrom validChannel validClock widthOf
     nextRequest without isThere openedState validSlot validRequest distinct validQueue validProgress validState sameFloat everyBelow
     sameHazard sameIntervals sameChannel sameSettings sameChannels sameSchedule sameClock sameSlot sameRequest sameProgress sameState

@@ -14,10 +14,9 @@ use Rattle.hazards.specs.Ties.{tieNumber}
 use Rattle.hazards.specs.declared.rates.HazardRate.{HazardRate}
 use Rattle.hazards.specs.declared.rates.Intervals.{Intervals}
 use Rattle.clocks.specs.Channels.{emptyChannel}
+use Rattle.clocks.specs.Clocks.{policyNumber}
 use Rattle.clocks.specs.declared.channels.HazardChannelState.{HazardChannelState}
 use Rattle.clocks.specs.declared.clocks.EntityId.{EntityId}
-use Rattle.clocks.specs.declared.clocks.HazardInterruptionPolicy.{HazardInterruptionPolicy}
-use Rattle.clocks.specs.declared.clocks.HazardInterruptionPolicy.the-variants.{Restart, RetainResidual}
 use Rattle.clocks.specs.declared.clocks.ScheduledEvent.{ScheduledEvent}
 use Rattle.clocks.specs.declared.clocks.Winner.{Winner}
 use Rattle.clocks.specs.declared.clocks.SurvivalClock.{SurvivalClock}
@@ -39,10 +38,6 @@ sameInteger a b = leZ a b && leZ b a
 unfoldable pub sameFloat : Float → Float → Bool
 sameFloat x y = cond (isNan x) (isNan y) (cond (isNan y) false (eqb (toBits binary64 x) (toBits binary64 y)))
 
--- the policies' numbers in document 01; those of tie and kind stand beside their enums in hazards
-abbrev pub policyNumber : HazardInterruptionPolicy → ℕ
-policyNumber Restart = 0
-policyNumber RetainResidual = 1
 
 -- ---- arrays: a test of every place below n
 

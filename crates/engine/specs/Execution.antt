@@ -17,11 +17,9 @@ use Rattle.hazards.specs.Ties.{tieBreakerOf}
 use Rattle.hazards.specs.declared.refusals.Faults.{Faults}
 use Rattle.hazards.specs.declared.checks.HazardFields.{HazardFields}
 use Rattle.hazards.specs.declared.answers.Answer.{Answer}
-use Rattle.clocks.specs.Clocks.{newClock, removeChannel}
+use Rattle.clocks.specs.Clocks.{policyOf, newClock, removeChannel}
 use Rattle.clocks.specs.Setting.{setChannel}
 use Rattle.clocks.specs.Scheduling as scheduling
-use Rattle.clocks.specs.declared.clocks.HazardInterruptionPolicy.{HazardInterruptionPolicy}
-use Rattle.clocks.specs.declared.clocks.HazardInterruptionPolicy.the-variants.{Restart, RetainResidual}
 use Rattle.clocks.specs.declared.clocks.SurvivalClock.{SurvivalClock}
 use Rattle.clocks.specs.declared.clocks.ScheduledEvent.{ScheduledEvent}
 use Rattle.clocks.specs.declared.setting.CauseSetting.{CauseSetting}
@@ -53,10 +51,6 @@ byteAt c at = getD c at 0
 
 abbrev pub clockOf : List ℕ → ℕ
 clockOf c = byteAt c commands.clockField
-
--- policy: 0 Restart, 1 RetainResidual; another is refused by 4 before this is asked
-abbrev pub policyOf : ℕ → HazardInterruptionPolicy
-policyOf policy = cond (eqb policy 0) Restart RetainResidual
 
 -- the eight floats from a place on, 16 bytes apart
 abbrev pub floatsAt : List ℕ → ℕ → List Float

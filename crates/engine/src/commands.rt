@@ -5,11 +5,11 @@ ghost use Prim.Native.Nat.{_≤_};
 ghost use lib.Dec.{eqb, ltb};
 ghost use Rattle.hazards.specs.Fields.{fieldAt};
 ghost use Rattle.engine.specs.Commands.{widthOf, entityIndexField, generationField};
-ghost use Rattle.engine.specs.Execution.{byteAt, floatsAt, policyOf, hazardFields, settingOf, createdClock, censorOf};
+ghost use Rattle.engine.specs.Execution.{byteAt, floatsAt, hazardFields, settingOf, createdClock, censorOf};
 ghost use Rattle.engine.specs.Execution.{clockFaults, createFaults, causeFaults, setFaults, rescheduleFaults, pauseFaults};
 use clocks::clocks::EntityId;
-use clocks::clocks::HazardInterruptionPolicy;
 use clocks::clocks::SurvivalClock;
+use clocks::clocks::policy_of;
 use clocks::scheduling::Censor;
 use clocks::setting::CauseSetting;
 use hazards::checks::HazardFields;
@@ -146,15 +146,6 @@ pub fn setting_of(command: &[u8]) -> CauseSetting
         intervals,
         now: f64_at(command, SET_NOW_FIELD),
     }
-}
-
-pub fn policy_of(policy: u8) -> HazardInterruptionPolicy
-    ensures { λ r. ⌜ r ≡ policyOf policy ⌝ }
-{
-    if policy == 0 {
-        return HazardInterruptionPolicy::Restart;
-    }
-    HazardInterruptionPolicy::RetainResidual
 }
 
 pub fn created_clock(command: &[u8]) -> SurvivalClock

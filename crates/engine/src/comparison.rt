@@ -3,7 +3,7 @@ ghost use mathlib.Core.Path.{_≡_};
 ghost use lib.ListN.{length, getD};
 ghost use Rattle.clocks.specs.Channels.{emptyChannel};
 ghost use Rattle.engine.specs.State.{emptySlot, emptyRequest};
-ghost use Rattle.engine.specs.Comparison.{sameFlag, sameFloat, policyNumber, everyBelow, sameFloats};
+ghost use Rattle.engine.specs.Comparison.{sameFlag, sameFloat, everyBelow, sameFloats};
 ghost use Rattle.engine.specs.Comparison.{sameHazard, sameIntervals, sameChannel, sameEntity, sameEvent, sameWinner, sameSettings};
 ghost use Rattle.engine.specs.Comparison.{sameChannels, sameSchedule, sameClock, sameSlot, sameRequest, sameProgress, sameState};
 use crate::state::ClockSlot;
@@ -12,10 +12,10 @@ use crate::state::Progress;
 use crate::state::Request;
 use clocks::channels::HazardChannelState;
 use clocks::clocks::EntityId;
-use clocks::clocks::HazardInterruptionPolicy;
 use clocks::clocks::ScheduledEvent;
 use clocks::clocks::SurvivalClock;
 use clocks::clocks::Winner;
+use clocks::clocks::policy_number;
 use hazards::checks::kind_number;
 use hazards::rates::HazardRate;
 use hazards::rates::Intervals;
@@ -37,15 +37,6 @@ fn same_float(a: f64, b: f64) -> bool
         return false;
     }
     f64::to_bits(a) == f64::to_bits(b)
-}
-
-pub fn policy_number(policy: HazardInterruptionPolicy) -> u8
-    ensures { λ r. ⌜ r ≡ policyNumber policy ⌝ }
-{
-    match policy {
-        HazardInterruptionPolicy::Restart => 0,
-        HazardInterruptionPolicy::RetainResidual => 1,
-    }
 }
 
 fn same_hazard(a: HazardRate, b: HazardRate) -> bool

@@ -2,7 +2,7 @@
 ghost use Prim.Native.Nat.{_≤_};
 use clocks::channels::HazardChannelState;
 use clocks::clocks::SurvivalClock;
-use engine::comparison::policy_number;
+use clocks::clocks::policy_number;
 use hazards::checks::kind_number;
 use hazards::checks::own_rate;
 use hazards::fields::put_f64;
