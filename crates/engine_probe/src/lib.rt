@@ -11,7 +11,7 @@ pub extern "C" fn probe_open(state: &mut [u8], journal: &mut [u8]) {
     state_encoding::put_state(state, engine::opening::open(journal));
 }
 
-// One input given to the state of a record, which then holds the state after it; the answer's 32 bytes, and its number.
+// One input given to the state of a record, which then holds the state after it; the answer's bytes, and its number.
 #[no_mangle]
 pub extern "C" fn probe_execute(
     state: &mut [u8],
