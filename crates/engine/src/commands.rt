@@ -6,7 +6,7 @@ ghost use lib.Dec.{eqb, ltb};
 ghost use Rattle.hazards.specs.Fields.{fieldAt};
 ghost use Rattle.engine.specs.Commands.{widthOf, entityIndexField, generationField};
 ghost use Rattle.engine.specs.Execution.{byteAt, floatsAt, policyOf, hazardFields, settingOf, createdClock, censorOf};
-ghost use Rattle.engine.specs.Execution.{clockFaults, createFaults, causeFaults, setFaults, rescheduleFaults, pauseFaults};
+ghost use Rattle.engine.specs.Execution.{clockFaults, createFaults, causeFaults, setFaults, rescheduleFaults, pauseFaults, faultsOf};
 use clocks::clocks::EntityId;
 use clocks::clocks::HazardInterruptionPolicy;
 use clocks::clocks::SurvivalClock;
@@ -270,4 +270,25 @@ pub fn pause_faults(command: &[u8]) -> Faults
 {
     let now = hazards::checks::is_time(f64_at(command, NOW_FIELD));
     hazards::refusals::range_fault_unless(now).joined(clock_faults(command))
+}
+
+// What refusals 4 to 7 say of any command, by its code. DELIVER and UNDO have no fields.
+pub fn faults(command: &[u8]) -> Faults
+    ensures { λ r. ⌜ r ≡ faultsOf (now (command .entry)) ⌝ }
+{
+    let code = byte_at(command, 0);
+    match code {
+        CREATE => create_faults(command),
+        SET => set_faults(command),
+        REMOVE => cause_faults(command),
+        RESCHEDULE => reschedule_faults(command),
+        PAUSE => pause_faults(command),
+        RESUME => reschedule_faults(command),
+        _ => Faults {
+            choice: false,
+            range: false,
+            intervals: false,
+            identifier: false,
+        },
+    }
 }
