@@ -133,6 +133,7 @@ fn hazard_fields(command: &[u8]) -> HazardFields
     }
 }
 
+// The cause, priority, hazard and time of a SET.
 pub fn setting_of(command: &[u8]) -> CauseSetting
     ensures { λ r. ⌜ r ≡ settingOf (now (command .entry)) ⌝ }
 {
@@ -148,6 +149,7 @@ pub fn setting_of(command: &[u8]) -> CauseSetting
     }
 }
 
+// Policy: 0 Restart, 1 RetainResidual; another is refused by 4 before this is asked.
 pub fn policy_of(policy: u8) -> HazardInterruptionPolicy
     ensures { λ r. ⌜ r ≡ policyOf policy ⌝ }
 {
@@ -157,6 +159,7 @@ pub fn policy_of(policy: u8) -> HazardInterruptionPolicy
     HazardInterruptionPolicy::RetainResidual
 }
 
+// The clock that a CREATE makes.
 pub fn created_clock(command: &[u8]) -> SurvivalClock
     ensures { λ r. ⌜ r ≡ createdClock (now (command .entry)) ⌝ }
 {
@@ -177,6 +180,7 @@ pub fn created_clock(command: &[u8]) -> SurvivalClock
     )
 }
 
+// The censor of a RESCHEDULE or RESUME.
 pub fn censor_of(command: &[u8]) -> Censor
     ensures { λ r. ⌜ r ≡ censorOf (now (command .entry)) ⌝ }
 {
@@ -215,6 +219,7 @@ fn has_fault(has: u8, empty: bool) -> bool
     !empty
 }
 
+// Of CREATE: policy, tie, entity and scale, and its clock.
 pub fn create_faults(command: &[u8]) -> Faults
     ensures { λ r. ⌜ r ≡ createFaults (now (command .entry)) ⌝ }
 {
@@ -231,6 +236,7 @@ pub fn create_faults(command: &[u8]) -> Faults
     own.joined(clock_faults(command))
 }
 
+// Of REMOVE: its cause and its clock.
 pub fn cause_faults(command: &[u8]) -> Faults
     ensures { λ r. ⌜ r ≡ causeFaults (now (command .entry)) ⌝ }
 {
@@ -238,6 +244,7 @@ pub fn cause_faults(command: &[u8]) -> Faults
     hazards::refusals::identifier_fault_if(reserved).joined(clock_faults(command))
 }
 
+// Of SET: its hazard and now, and what REMOVE is tested for.
 pub fn set_faults(command: &[u8]) -> Faults
     ensures { λ r. ⌜ r ≡ setFaults (now (command .entry)) ⌝ }
 {
@@ -247,6 +254,7 @@ pub fn set_faults(command: &[u8]) -> Faults
     fields.faults().joined(rest)
 }
 
+// Of RESCHEDULE and RESUME: now and censor, and their clock.
 pub fn reschedule_faults(command: &[u8]) -> Faults
     ensures { λ r. ⌜ r ≡ rescheduleFaults (now (command .entry)) ⌝ }
 {
@@ -265,6 +273,7 @@ pub fn reschedule_faults(command: &[u8]) -> Faults
     own.joined(clock_faults(command))
 }
 
+// Of PAUSE: now, and its clock.
 pub fn pause_faults(command: &[u8]) -> Faults
     ensures { λ r. ⌜ r ≡ pauseFaults (now (command .entry)) ⌝ }
 {

@@ -38,6 +38,7 @@ fn same_float(a: f64, b: f64) -> bool
     f64::to_bits(a) == f64::to_bits(b)
 }
 
+// A number for each policy.
 pub fn policy_number(policy: HazardInterruptionPolicy) -> u8
     ensures { λ r. ⌜ r ≡ policyNumber policy ⌝ }
 {
@@ -47,6 +48,7 @@ pub fn policy_number(policy: HazardInterruptionPolicy) -> u8
     }
 }
 
+// A number for each tie rule.
 pub fn tie_number(tie: TieBreaker) -> u8
     ensures { λ r. ⌜ r ≡ tieNumber tie ⌝ }
 {
@@ -57,6 +59,7 @@ pub fn tie_number(tie: TieBreaker) -> u8
     }
 }
 
+// A number for each kind of hazard.
 pub fn kind_number(hazard: HazardRate) -> u8
     ensures { λ r. ⌜ r ≡ kindNumber hazard ⌝ }
 {
@@ -237,6 +240,7 @@ fn every_slot(a: EngineState, b: EngineState) -> bool
     true
 }
 
+// Whether two states are the same in every field, as refusal 13 asks.
 pub fn same_state(a: EngineState, b: EngineState) -> bool
     ensures { λ r. ⌜ r ≡ sameState a b ⌝ }
 {
