@@ -15,7 +15,7 @@ use Rattle.engine.specs.Refusals.{nothingApplied, replayFails}
 use Rattle.engine.specs.Journal.{Bytes, Performed, rejected, performed, Engine, Asked, reject, undoLast, apply, reverted, answered}
 use Rattle.engine.specs.Journal.{concat, init, Outcome, cut, classify, cleared, unchanged}
 use Rattle.engine.specs.Journal.{Replayed, ends, replayFrom, replayAll, revertTo, undo, write, act, execute}
-use Rattle.engine.specs.Parts.{appliedPart}
+use Rattle.engine.specs.Parts.{part, appliedPart}
 use Rattle.engine.specs.Sessions.{Session, appliedAfter, feed, feedAll, newSession, Accepted, AcceptsEach}
 use Rattle.engine.proofs.DemandHalves.{OnlyApplied}
 use Rattle.engine.proofs.Supplied.{Laws}
@@ -72,12 +72,12 @@ module _ (E : Engine) (n : ℕ) (L : Laws E n) where
       ap (λ (l : Bytes). take (E .appliedLength (u .state)) l) (h .written)
       ∙ take-at (concat (u .applied)) (replicate (n - length (concat (u .applied))) 0) (E .appliedLength (u .state)) (sym (h .counted))
 
-  pub applied-part : (u : Session E) → Inv u → appliedPart (u .journal) (E .appliedLength (u .state)) ≡ concat (u .applied)
+  pub applied-part : (u : Session E) → Inv u → appliedPart (u .journal) (E .appliedLength (u .state)) ≡ part (concat (u .applied)) 0
   applied-part u h =
       let l : length (u .journal) ≡ n = journal-length u h in
       let k : E .appliedLength (u .state) ≡ length (concat (u .applied)) = h .counted in
       let r : length (concat (u .applied)) ≤ n = h .room in
-      applied-front (u .journal) (E .appliedLength (u .state)) (omega arith) ∙ applied-bytes u h
+      applied-front (u .journal) (E .appliedLength (u .state)) (omega arith) ∙ ap (λ (l : Bytes). part l 0) (applied-bytes u h)
 
   -- what one input leaves, by its outcome
   abbrev sessionBy : Session E → Bytes → Outcome E → Session E

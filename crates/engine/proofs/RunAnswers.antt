@@ -8,17 +8,13 @@ use borrow.Author.Tests.{eq-eqb, ne-eqb, leb-true}
 use lib.Dec.{leb}
 use lib.ListN.{length, take, drop, length-append, length-drop}
 use lib.Seq.{paste, length-take-le}
-use Rattle.hazards.specs.Answers.{answerWidth, headBytes, answerBytes, noEvent, withAnswer}
-use Rattle.hazards.proofs.Bytes.{bytesOf-length}
+use Rattle.hazards.specs.Answers.{answerWidth, answerBytes, noEvent, withAnswer}
+use Rattle.hazards.proofs.AnswerBytes.{answerBytes-length}
 use Rattle.hazards.specs.declared.answers.Answer.{Answer}
 use Rattle.engine.specs.Journal.{Bytes}
 use Rattle.engine.specs.RunCode.{Answered, answeredBy, answerAt}
 
 -- an answer changes no length
-answer-bytes : (a : Answer) → length (answerBytes a) ≡ 32
-unfolding answerBytes headBytes
-answer-bytes a = simp (length-append, bytesOf-length)
-
 pub answer-length : (answers : Bytes) (place : ℕ) (a : Answer) → length (withAnswer answers place a) ≡ length answers
 unfolding withAnswer
 answer-length answers place a = go (leb (place + answerWidth) (length answers)) refl
@@ -29,12 +25,12 @@ answer-length answers place a = go (leb (place + answerWidth) (length answers)) 
     go : (b : Bool) → leb (place + answerWidth) (length answers) ≡ b → length (cond b written answers) ≡ length answers
     go false e = refl
     go true e =
-        let fits : place + 32 ≤ length answers = leb-true _ _ e in
+        let fits : place + answerWidth ≤ length answers = leb-true _ _ e in
         let l₁ = length-append (take place answers) (answerBytes a ++ drop (place + answerWidth) answers) in
         let l₂ = length-append (answerBytes a) (drop (place + answerWidth) answers) in
         let t = length-take-le place answers (omega arith) in
         let d = length-drop (place + answerWidth) answers in
-        omega (arith, l₁, l₂, t, d, answer-bytes a, fits)
+        omega (arith, l₁, l₂, t, d, answerBytes-length a, fits)
 
 module _ (number : ℕ) (a : Answer) (free : ℕ) (j answers : Bytes) (place : ℕ) (c : Bytes) where
   abbrev by-test : Bool → Answered

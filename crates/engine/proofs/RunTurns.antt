@@ -116,7 +116,7 @@ module _ (bytes stream : Bytes) (n size : ℕ) (all : Ran) where
     pub reached : Reached stream n s j
     pub few : count ≤ at
     pub below : at ≤ length bytes
-    pub room : 32 * count ≤ length answers
+    pub room : answerWidth * count ≤ length answers
     pub same-journal : length j ≡ n
     pub bound : n < 2 ^ 63
     pub same-answers : length answers ≡ size
@@ -126,7 +126,7 @@ module _ (bytes stream : Bytes) (n size : ℕ) (all : Ran) where
   pub record Input (j answers result : Bytes) (s : EngineState) (count at : ℕ) : Type 0 where
     pub running : Running j answers result s count at
     pub more : at < length bytes
-    pub space : 32 * count + 32 ≤ length answers
+    pub space : answerWidth * count + answerWidth ≤ length answers
     pub wide : 0 < widthOf (code (drop at bytes))
     pub long : widthOf (code (drop at bytes)) ≤ length (drop at bytes)
 
@@ -162,18 +162,19 @@ module _ (bytes stream : Bytes) (n size : ℕ) (all : Ran) where
           let k : suc turns ≡ length bytes - count = omega (arith, r .few) in
           ap (λ (m : ℕ). runFrom m stream s j answers count at input) k ∙ r .goes
 
-      stops-full : length answers < 32 * count + 32 → finished answersFull j answers count at ≡ all
+      stops-full : length answers < answerWidth * count + answerWidth → finished answersFull j answers count at ≡ all
       stops-full l = sym (run-full stream s j answers count at input input-pos turns l) ∙ fuel
 
       -- by the tests on the input
       abbrev Numbered : ℕ → Type 0
       Numbered number =
           (number ≡ 0 → (0 < widthOf (code input)) × (widthOf (code input) ≤ length input))
-          × (32 * count + 32 ≤ length answers → (number ≡ 0 → ⊥)
-          → finished number j (withAnswer answers (32 * count) (noEvent number)) (count + 1) at ≡ all)
+          × (answerWidth * count + answerWidth ≤ length answers → (number ≡ 0 → ⊥)
+          → finished number j (withAnswer answers (answerWidth * count) (noEvent number)) (count + 1) at ≡ all)
 
-      rejected-ends : (m : ℕ) → classify E s input ≡ reject m → endsRun m ≡ true → 32 * count + 32 ≤ length answers
-          → finished m j (withAnswer answers (32 * count) (noEvent m)) (count + 1) at ≡ all
+      rejected-ends : (m : ℕ) → classify E s input ≡ reject m → endsRun m ≡ true
+          → answerWidth * count + answerWidth ≤ length answers
+          → finished m j (withAnswer answers (answerWidth * count) (noEvent m)) (count + 1) at ≡ all
       rejected-ends m k t l =
           sym
           (run-ends stream s j answers count at input input-pos turns l (after stream n (unchanged E s j m))
@@ -245,7 +246,8 @@ module _ (bytes stream : Bytes) (n size : ℕ) (all : Ran) where
         (omega arith, omega arith)
 
     turned : (o : Outcome E) → execute E s j i ≡ o → endsRun (answerOf (o .reply) .number) ≡ false → {written : Bytes}
-        → written ≡ withAnswer answers (32 * count) (answerOf (o .reply)) → length (o .journal) ≡ n → length written ≡ size
+        → written ≡ withAnswer answers (answerWidth * count) (answerOf (o .reply)) → length (o .journal) ≡ n
+        → length written ≡ size
         → Running (o .journal) written result (o .state) (count + 1) (at + w)
     turned o e t {written} q lj lw =
         let space = x .space in
@@ -273,11 +275,11 @@ module _ (bytes stream : Bytes) (n size : ℕ) (all : Ran) where
         later = length bytes - (count + 1)
 
         answer : Bytes
-        answer = withAnswer answers (32 * count) (answerOf (o .reply))
+        answer = withAnswer answers (answerWidth * count) (answerOf (o .reply))
 
     pub next-undo : code i ≡ commands.undo → (y : Executed) {k written : Bytes}
         → left y k ≡ after stream (length j) (undo (engineOf stream (length j)) s j)
-        → written ≡ withAnswer answers (32 * count) (y .answer) → length k ≡ n → length written ≡ size
+        → written ≡ withAnswer answers (answerWidth * count) (y .answer) → length k ≡ n → length written ≡ size
         → Running k written result (y .state) (count + 1) (at + w)
     next-undo u y {k} {written} e q lk lw =
         let f : left y k ≡ after stream n (undo E s j) =
@@ -286,7 +288,7 @@ module _ (bytes stream : Bytes) (n size : ℕ) (all : Ran) where
         let ea : y .answer ≡ answerOf (undo E s j .reply) = ap (λ (a : AfterInput). a .answer) f in
         let h =
         turned (undo E s j) (execute-undo E s j i (asks-undo E s i (valid r) i-pos (x .wide) (x .long) u)) (undo-goes stream n s j)
-        (q ∙ ap (withAnswer answers (32 * count)) ea) (ap length (sym ek) ∙ lk) lw in
+        (q ∙ ap (withAnswer answers (answerWidth * count)) ea) (ap length (sym ek) ∙ lk) lw in
         subst (λ (b : Bytes). Running b written result (y .state) (count + 1) (at + w)) (sym ek)
         (subst (λ (t : EngineState). Running (undo E s j .journal) written result t (count + 1) (at + w))
         (sym (ap (λ (a : AfterInput). a .state) f)) h)
@@ -339,12 +341,13 @@ module _ (bytes stream : Bytes) (n size : ℕ) (all : Ran) where
 
       -- the journal and the answers after it
       module _ {k written : Bytes}
-          (f : answeredBy k written ≡ answerAt (o .number) (o .answer) (s .progress .«applied_length») j answers (32 * count) c)
+          (f : answeredBy k written
+          ≡ answerAt (o .number) (o .answer) (s .progress .«applied_length») j answers (answerWidth * count) c)
           (lk : length k ≡ n) (lw : length written ≡ size) where
         pub next-refused : (o .number ≡ 0 → ⊥) → Running k written result s (count + 1) (at + w)
         next-refused z =
             let d : perform stream n s c ≡ rejected (o .number) = rejects stream n s c o t named (slotAt s t) refl did z in
-            let g = f ∙ answer-refused (o .number) (o .answer) (s .progress .«applied_length») j answers (32 * count) c z in
+            let g = f ∙ answer-refused (o .number) (o .answer) (s .progress .«applied_length») j answers (answerWidth * count) c z in
             let ek : k ≡ j = ap (λ (a : Answered). a .journal) g in
             let h =
             turned (unchanged E s j (o .number)) (execute-refused E s j i c (o .number) asked d) (goes-on d)
@@ -356,7 +359,7 @@ module _ (bytes stream : Bytes) (n size : ℕ) (all : Ran) where
             let next : EngineState = withSlot s t (o .slot) (o .progress) in
             let d : perform stream n s c ≡ performed next (o .answer) = performs stream n s c o t named (slotAt s t) refl did z in
             let pasted : Bytes = paste j (s .progress .«applied_length») c (length c) in
-            let g = f ∙ answer-copied (o .number) (o .answer) (s .progress .«applied_length») j answers (32 * count) c z in
+            let g = f ∙ answer-copied (o .number) (o .answer) (s .progress .«applied_length») j answers (answerWidth * count) c z in
             let ek : k ≡ pasted = ap (λ (a : Answered). a .journal) g in
             let h =
             turned (record { reply = answered (o .answer); state = next; journal = pasted })

@@ -6,7 +6,7 @@ use native.Mathlib.Omega.{arith}
 use borrow.Author.Tests.{eqb-true, eqb-false}
 use lib.Dec.{eqb}
 use lib.ListN.{length, take, drop, replicate}
-use Rattle.hazards.specs.Answers.{noEvent, withAnswer}
+use Rattle.hazards.specs.Answers.{answerWidth, noEvent, withAnswer}
 use Rattle.engine.specs.Commands as commands
 use Rattle.engine.specs.Commands.{widthOf}
 use Rattle.engine.specs.Refusals.{nothingApplied}
@@ -56,7 +56,7 @@ module _ (bytes stream : Bytes) (n size : ℕ) (all : Ran) where
       → r ≡ last)
       (journal : (v : Bytes) → k ≡ cleared (engineOf v (length j)) j r applied) (lk : length k ≡ n) (lw : length written ≡ size)
       (state : EngineState) where
-    nothing-undone : applied ≡ 0 → written ≡ withAnswer answers (32 * count) (noEvent nothingApplied)
+    nothing-undone : applied ≡ 0 → written ≡ withAnswer answers (answerWidth * count) (noEvent nothingApplied)
         → Deferred k written result state r true (count + 1) (at + w)
     nothing-undone z q =
         let er : r ≡ 0 = place stream n openedState openedState 0
@@ -74,7 +74,7 @@ module _ (bytes stream : Bytes) (n size : ℕ) (all : Ran) where
           counted = er ∙ sym z ∙ counted;
         }
 
-    last-undone : 0 < applied → written ≡ withAnswer answers (32 * count) (noEvent 0)
+    last-undone : 0 < applied → written ≡ withAnswer answers (answerWidth * count) (noEvent 0)
         → Deferred k written result state r true (count + 1) (at + w)
     last-undone p q =
         let own = reached-undo stream n s j (x .running .reached) (omega (arith, counted, p)) in
@@ -95,12 +95,12 @@ module _ (bytes stream : Bytes) (n size : ℕ) (all : Ran) where
           counted = er ∙ sym (own .counted);
         }
 
-    pub next-deferred : written ≡ withAnswer answers (32 * count) (noEvent (cond (eqb applied 0) nothingApplied 0))
+    pub next-deferred : written ≡ withAnswer answers (answerWidth * count) (noEvent (cond (eqb applied 0) nothingApplied 0))
         → Deferred k written result state r true (count + 1) (at + w)
     next-deferred q = go (eqb applied 0) refl
       where
         by : Bool → Bytes
-        by b = withAnswer answers (32 * count) (noEvent (cond b nothingApplied 0))
+        by b = withAnswer answers (answerWidth * count) (noEvent (cond b nothingApplied 0))
 
         go : (b : Bool) → eqb applied 0 ≡ b → Deferred k written result state r true (count + 1) (at + w)
         go true e = nothing-undone (eqb-true applied 0 e) (q ∙ ap by e)

@@ -13,7 +13,7 @@ use Rattle.engine.specs.Queue.{countFor}
 use Rattle.engine.specs.State.{queuedRequests}
 use Rattle.engine.specs.Validation.{validState}
 use Rattle.engine.specs.Journal.{Bytes, Reply, refusal, reverted, concat, execute}
-use Rattle.engine.specs.Parts.{appliedPart}
+use Rattle.engine.specs.Parts.{part, appliedPart}
 use Rattle.engine.specs.Sessions.{Session, feedAll, newSession, AcceptsEach}
 use Rattle.engine.specs.Ledger.{Ledger, emptyLedger, ledgerOf}
 use Rattle.engine.specs.Instance.{engineOf, requestsOf}
@@ -53,7 +53,7 @@ module _ (stream : List ℕ) (n : ℕ) (inputs : List Bytes) where
     -- gives is the applied commands, one after another
     pub journal-length : length (sessionAfter .journal) ≡ n
     pub applied-part : appliedPart (sessionAfter .journal) (sessionAfter .state .progress .«applied_length»)
-        ≡ concat (sessionAfter .applied)
+        ≡ part (concat (sessionAfter .applied)) 0
     -- requests made = withdrawn + delivered + queued, for each clock, and at most one is queued
     pub balance : (k : ℕ) → ledger .rows k .made ≡ ledger .rows k .withdrawn + ledger .rows k .delivered + queued k
     pub at-most-one : (k : ℕ) → queued k ≤ 1

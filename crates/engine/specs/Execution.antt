@@ -10,7 +10,7 @@ use lib.IntN.{ℤ}
 use lib.Ieee.{Float}
 use Rattle.hazards.specs.Floats.{inRange, isTime, zeroBits}
 use Rattle.hazards.specs.Fields.{fieldAt, f64At, i32At}
-use Rattle.hazards.specs.Refusals.{tooManyCauses, rangeFaultUnless, identifierFaultIf, isReserved, joined, numberOf}
+use Rattle.hazards.specs.Refusals.{tooManyCauses, noFaults, rangeFaultUnless, identifierFaultIf, isReserved, joined, numberOf}
 use Rattle.hazards.specs.Checks.{hazardFaults, hazardOf, intervalsOf}
 use Rattle.hazards.specs.Answers.{noEvent}
 use Rattle.hazards.specs.Ties.{tieBreakerOf}
@@ -145,6 +145,17 @@ rescheduleFaults c =
 
 unfoldable pub pauseFaults : List ℕ → Faults
 pauseFaults c = joined (rangeFaultUnless (isTime (nowOf c))) (clockFaults c)
+
+-- of any command, by its code: RESUME has RESCHEDULE's operands, DELIVER and UNDO have none. Every command meets these before all that
+-- follows in the table (proofs/ExecutionCases.antt: faulty-refused).
+unfoldable pub faultsOf : List ℕ → Faults
+faultsOf c =
+    let code = byteAt c 0 in
+    cond (eqb code commands.create) (createFaults c)
+    (cond (eqb code commands.set) (setFaults c)
+    (cond (eqb code commands.remove) (causeFaults c)
+    (cond (eqb code commands.reschedule) (rescheduleFaults c)
+    (cond (eqb code commands.pause) (pauseFaults c) (cond (eqb code commands.resume) (rescheduleFaults c) noFaults)))))
 
 -- ---- what the commands do: a slot, the progress p, the journal's length n and the command c
 

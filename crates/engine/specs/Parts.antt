@@ -14,10 +14,16 @@ copiedInto free command = cond (leb (length command) (length free)) (command ++ 
 unfoldable pub clearedFront : List ℕ → ℕ → List ℕ
 clearedFront bytes count = replicate (min count (length bytes)) 0 ++ drop (min count (length bytes)) bytes
 
--- the applied commands (document 01: standing commands) in the journal; empty where their length is above the journal's, which 1 refuses
-unfoldable pub appliedPart : List ℕ → ℕ → List ℕ
-appliedPart journal appliedLength = cond (leb appliedLength (length journal)) (take appliedLength journal) []
+-- a part of the journal, and the number that it is given with
+pub record Part : Type 0 where
+  pub bytes : List ℕ
+  pub number : ℕ
 
--- the number that this part is given with: 1 tells a refusal's empty part from that of no applied commands
-unfoldable pub appliedNumber : List ℕ → ℕ → ℕ
-appliedNumber journal appliedLength = cond (leb appliedLength (length journal)) 0 invalidState
+-- as the code gives them
+abbrev pub part : List ℕ → ℕ → Part
+part bytes number = record { bytes = bytes; number = number }
+
+-- the applied commands (document 01: standing commands) as that part of the journal; a length above the journal's is refused by 1 with an
+-- empty part
+unfoldable pub appliedPart : List ℕ → ℕ → Part
+appliedPart journal appliedLength = cond (leb appliedLength (length journal)) (part (take appliedLength journal) 0) (part [] invalidState)

@@ -58,7 +58,8 @@ withQueue p rs = record {
   «applied_length» = p .«applied_length»;
 }
 
--- with one request more, which is counted
+-- with one request more, which is counted. RESCHEDULE and RESUME alone put one in, and withdraw their clock's own before it, so that in a
+-- valid state fewer than sixteen are queued then (proofs/QueueRoom.antt: rescheduled-room, resumed-room).
 abbrev pub withRequest : Progress → Request → Progress
 withRequest p r = record {
   queue = set (p .queue) (p .queued) r;

@@ -6,7 +6,7 @@ ghost use lib.Dec.{eqb, ltb};
 ghost use Rattle.hazards.specs.Fields.{fieldAt};
 ghost use Rattle.engine.specs.Commands.{widthOf, entityIndexField, generationField};
 ghost use Rattle.engine.specs.Execution.{byteAt, floatsAt, hazardFields, settingOf, createdClock, censorOf};
-ghost use Rattle.engine.specs.Execution.{clockFaults, createFaults, causeFaults, setFaults, rescheduleFaults, pauseFaults};
+ghost use Rattle.engine.specs.Execution.{clockFaults, createFaults, causeFaults, setFaults, rescheduleFaults, pauseFaults, faultsOf};
 use clocks::clocks::EntityId;
 use clocks::clocks::SurvivalClock;
 use clocks::clocks::policy_of;
@@ -133,6 +133,7 @@ fn hazard_fields(command: &[u8]) -> HazardFields
     }
 }
 
+// The cause, priority, hazard and time of a SET.
 pub fn setting_of(command: &[u8]) -> CauseSetting
     ensures { λ r. ⌜ r ≡ settingOf (now (command .entry)) ⌝ }
 {
@@ -148,6 +149,7 @@ pub fn setting_of(command: &[u8]) -> CauseSetting
     }
 }
 
+// The clock that a CREATE makes.
 pub fn created_clock(command: &[u8]) -> SurvivalClock
     ensures { λ r. ⌜ r ≡ createdClock (now (command .entry)) ⌝ }
 {
@@ -168,6 +170,7 @@ pub fn created_clock(command: &[u8]) -> SurvivalClock
     )
 }
 
+// The censor of a RESCHEDULE or RESUME.
 pub fn censor_of(command: &[u8]) -> Censor
     ensures { λ r. ⌜ r ≡ censorOf (now (command .entry)) ⌝ }
 {
@@ -206,6 +209,7 @@ fn has_fault(has: u8, empty: bool) -> bool
     !empty
 }
 
+// Of CREATE: policy, tie, entity and scale, and its clock.
 pub fn create_faults(command: &[u8]) -> Faults
     ensures { λ r. ⌜ r ≡ createFaults (now (command .entry)) ⌝ }
 {
@@ -222,6 +226,7 @@ pub fn create_faults(command: &[u8]) -> Faults
     own.joined(clock_faults(command))
 }
 
+// Of REMOVE: its cause and its clock.
 pub fn cause_faults(command: &[u8]) -> Faults
     ensures { λ r. ⌜ r ≡ causeFaults (now (command .entry)) ⌝ }
 {
@@ -229,6 +234,7 @@ pub fn cause_faults(command: &[u8]) -> Faults
     hazards::refusals::identifier_fault_if(reserved).joined(clock_faults(command))
 }
 
+// Of SET: its hazard and now, and what REMOVE is tested for.
 pub fn set_faults(command: &[u8]) -> Faults
     ensures { λ r. ⌜ r ≡ setFaults (now (command .entry)) ⌝ }
 {
@@ -238,6 +244,7 @@ pub fn set_faults(command: &[u8]) -> Faults
     fields.faults().joined(rest)
 }
 
+// Of RESCHEDULE and RESUME: now and censor, and their clock.
 pub fn reschedule_faults(command: &[u8]) -> Faults
     ensures { λ r. ⌜ r ≡ rescheduleFaults (now (command .entry)) ⌝ }
 {
@@ -256,9 +263,31 @@ pub fn reschedule_faults(command: &[u8]) -> Faults
     own.joined(clock_faults(command))
 }
 
+// Of PAUSE: now, and its clock.
 pub fn pause_faults(command: &[u8]) -> Faults
     ensures { λ r. ⌜ r ≡ pauseFaults (now (command .entry)) ⌝ }
 {
     let now = hazards::floats::is_time(f64_at(command, NOW_FIELD));
     hazards::refusals::range_fault_unless(now).joined(clock_faults(command))
+}
+
+// What refusals 4 to 7 say of any command, by its code. DELIVER and UNDO have no fields.
+pub fn faults(command: &[u8]) -> Faults
+    ensures { λ r. ⌜ r ≡ faultsOf (now (command .entry)) ⌝ }
+{
+    let code = byte_at(command, 0);
+    match code {
+        CREATE => create_faults(command),
+        SET => set_faults(command),
+        REMOVE => cause_faults(command),
+        RESCHEDULE => reschedule_faults(command),
+        PAUSE => pause_faults(command),
+        RESUME => reschedule_faults(command),
+        _ => Faults {
+            choice: false,
+            range: false,
+            intervals: false,
+            identifier: false,
+        },
+    }
 }

@@ -208,6 +208,7 @@ fn every_slot(a: EngineState, b: EngineState) -> bool
     true
 }
 
+// Whether two states are the same in every field, as refusal 13 asks.
 pub fn same_state(a: EngineState, b: EngineState) -> bool
     ensures { λ r. ⌜ r ≡ sameState a b ⌝ }
 {

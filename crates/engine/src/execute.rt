@@ -89,7 +89,7 @@ pub fn execute(state: EngineState, stream: &[u8], journal: &mut [u8], input: &[u
         return refuse(state, hazards::refusals::INVALID_STATE);
     }
     if input.len() == 0 {
-        return refuse(state, CUT_SHORT);
+        return refuse(state, CUT_SHORT); // no byte
     }
     let code = input[0];
     let width = crate::commands::width(code);
@@ -97,7 +97,7 @@ pub fn execute(state: EngineState, stream: &[u8], journal: &mut [u8], input: &[u
         return refuse(state, NO_COMMAND);
     }
     if input.len() < width {
-        return refuse(state, CUT_SHORT);
+        return refuse(state, CUT_SHORT); // fewer than the width
     }
     if code == crate::commands::UNDO {
         return crate::replay::undo(state, stream, journal);

@@ -16,6 +16,7 @@ pub struct Pick {
     pub request: Request,
 }
 
+// What an unused place holds.
 pub fn empty_request() -> Request
     ensures { λ r. ⌜ r ≡ emptyRequest ⌝ }
 {
@@ -97,6 +98,7 @@ pub fn next_request(progress: Progress) -> Pick
     best
 }
 
+// Whether a request with this index is queued.
 pub fn is_there(progress: Progress, index: u64) -> bool
     ensures { λ r. ⌜ r ≡ isThere index (queuedRequests progress) ⌝ }
 {

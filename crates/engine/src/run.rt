@@ -6,6 +6,7 @@ ghost use Prim.Native.Nat.{_+_, _*_, _%_, _≤_};
 ghost use lib.Dec.{eqb};
 ghost use lib.ListN.{length, replicate};
 ghost use Rattle.hazards.specs.Fields.{bytesOf};
+ghost use Rattle.hazards.specs.Answers.{answerWidth};
 ghost use Rattle.engine.specs.Refusals.{nothingApplied};
 ghost use Rattle.engine.specs.Run.{runOf, ran};
 ghost use Rattle.engine.specs.RunCode.{stop, endNumber, stopAt, answeredBy, answerAt, isReverted, bothAnswered, openedRun};
@@ -61,7 +62,7 @@ fn end_number(input: &[u8]) -> u8
 // What ends the run before an input is executed: 17 where its answer has no room, or 2 or 3, which is answered and counted; else 0, and
 // nothing is written.
 fn end_run(input: &[u8], answers: &mut [u8], result: &mut [u8], answered: usize, read: usize) -> u8
-    requires { ⌜ (32 * answered ≤ length (now answers)) × (length (now result) ≡ 16) ⌝ }
+    requires { ⌜ (answerWidth * answered ≤ length (now answers)) × (length (now result) ≡ 16) ⌝ }
     ensures { λ r. ⌜ stop r (now (answers .exit)) (now (result .exit))
         ≡ stopAt (now (input .entry)) (now (answers .entry)) (now (result .entry)) answered read ⌝ }
 {
@@ -110,7 +111,7 @@ fn answer_reverted(
     answers: &mut [u8],
     place: usize,
 ) -> bool
-    requires { ⌜ place + 32 ≤ length (now answers) ⌝ }
+    requires { ⌜ place + answerWidth ≤ length (now answers) ⌝ }
     ensures { λ r. ⌜ (r ≡ isReverted number (now (rest .entry)) (now (answers .entry)) place)
         × (now (answers .exit) ≡ cond r (bothAnswered answer (now (answers .entry)) place) (now (answers .entry))) ⌝ }
 {

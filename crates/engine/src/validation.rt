@@ -196,6 +196,7 @@ fn valid_progress(progress: Progress, stream: &[u8], journal_length: usize) -> b
     position & ((applied <= journal_length) & (progress.request_count <= applied as u64))
 }
 
+// Whether a state passes refusal 1.
 pub fn valid_state(state: EngineState, stream: &[u8], journal_length: usize) -> bool
     ensures { λ r. ⌜ r ≡ validState (now (stream .entry)) «journal_length» state ⌝ }
 {

@@ -9,7 +9,7 @@ use borrow.Author.Needs.{needs}
 use lib.Dec.{eqb}
 use lib.ListN.{length, getD, drop}
 use lib.Seq.{length-take-le}
-use Rattle.hazards.specs.Answers.{noEvent, withAnswer}
+use Rattle.hazards.specs.Answers.{answerWidth, noEvent, withAnswer}
 use Rattle.engine.specs.Refusals.{nothingApplied}
 use Rattle.engine.specs.Commands as commands
 use Rattle.engine.specs.Commands.{widthOf}
@@ -302,7 +302,7 @@ within c =
     let m = c .before .before .before in
     let w = widthed (tested m) in
     reverted-within (tested m .perform-on .result .number) (bytes w) (place w + w .width .result) (ended (known w) .end-run .last .1 .0)
-    (32 * turn (ended (known w)) .loop .answered) (sym (m .answer-reverted .ensures .0) ∙ c .if5 .taken)
+    (answerWidth * turn (ended (known w)) .loop .answered) (sym (m .answer-reverted .ensures .0) ∙ c .if5 .taken)
 
 add-at-2 : tie.Need-add-at-2 Inv-loop μ-loop
 add-at-2 c =
@@ -381,7 +381,8 @@ answered : (c : tie.After-answer-at Inv-loop μ-loop)
     → answeredBy (c .answer-at .last .1 .1 .1 .0) (c .answer-at .last .1 .1 .1 .1 .0)
     ≡ answerAt (performed c .perform-on .result .number) (performed c .perform-on .result .answer)
     (freshened (performed c) .if3 .state .progress .«applied_length») (turn (ended (known (widthed (performed c)))) .loop .journal)
-    (ended (known (widthed (performed c))) .end-run .last .1 .0) (32 * turn (ended (known (widthed (performed c)))) .loop .answered)
+    (ended (known (widthed (performed c))) .end-run .last .1 .0)
+    (answerWidth * turn (ended (known (widthed (performed c)))) .loop .answered)
     (partOf (bytes (widthed (performed c))) (place (widthed (performed c))) (widthed (performed c) .width .result))
 answered c =
     let m = performed c in
@@ -390,9 +391,10 @@ answered c =
     let o = m .perform-on .result in
     let command = partOf (bytes w) (place w) (w .width .result) in
     c .answer-at .ensures
-    ∙ ap (λ (b : List ℕ). answerAt (o .number) (o .answer) (l .applied) (l .journal) b (32 * l .answered) command)
+    ∙ ap (λ (b : List ℕ). answerAt (o .number) (o .answer) (l .applied) (l .journal) b (answerWidth * l .answered) command)
     (same-answers (unreverted c))
-    ∙ ap (λ (k : ℕ). answerAt (o .number) (o .answer) k (l .journal) (ended (known w) .end-run .last .1 .0) (32 * l .answered) command)
+    ∙ ap
+    (λ (k : ℕ). answerAt (o .number) (o .answer) k (l .journal) (ended (known w) .end-run .last .1 .0) (answerWidth * l .answered) command)
     (counted (freshened m))
 
 loop-again-3 : tie.Need-loop-again-3 Inv-loop μ-loop
