@@ -49,6 +49,7 @@ pub mod RunStops
 pub mod RunTurns
 pub mod RunUndos
 pub mod SlotLaws
+pub mod Splits
 pub mod Supplied
 pub mod ValidationLaws
 pub mod Worked
