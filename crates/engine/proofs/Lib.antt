@@ -41,6 +41,7 @@ pub mod RequestLists
 pub mod RequestOrder
 pub mod Rows
 pub mod RunAnswers
+pub mod RunInputs
 pub mod RunNumbers
 pub mod RunOpening
 pub mod RunReverts
