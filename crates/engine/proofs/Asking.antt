@@ -12,9 +12,11 @@ use Rattle.hazards.specs.Refusals.{invalidState}
 use Rattle.engine.specs.Commands as commands
 use Rattle.engine.specs.Refusals.{cutShort, noCommand, nothingApplied, replayFails}
 use Rattle.engine.specs.Journal.{Bytes, Engine, Asked, reject, undoLast, apply, code, cut, classify, Performed, rejected, performed}
-use Rattle.engine.specs.Journal.{commandAt, widthAfter, fails, ends, replayFrom, replayAll, undo, unchanged, cleared, reverted}
+use Rattle.engine.specs.Journal.{undo, unchanged, cleared, reverted}
 use Rattle.engine.specs.Journal.{answered, execute, act, write}
+use Rattle.engine.specs.ReplayCode.{commandAt, widthAfter, fails, ends, replayFrom, replayAll}
 use Rattle.engine.proofs.Replays.{Asks, asks, replay-end}
+use Rattle.engine.proofs.Splits.{undo-scans}
 
 module _ (E : Engine) (s : E .State) (i : Bytes) where
   pub asks-invalid : E .valid s ≡ false → classify E s i ≡ reject invalidState
@@ -149,19 +151,16 @@ module _ (E : Engine) (s : E .State) (j : Bytes) where
 
   module _ (h : 0 < E .appliedLength s) where
     pub undo-fails : replayAll E (take (E .appliedLength s) j) ≡ fails → undo E s j ≡ unchanged E s j replayFails
-    unfolding undo
-    undo-fails e = simp (lt-ltb 0 (E .appliedLength s) h, e)
+    undo-fails e = undo-scans E s j ∙ simp (lt-ltb 0 (E .appliedLength s) h, e)
 
     pub undo-other : (t before : E .State) (last : ℕ) → replayAll E (take (E .appliedLength s) j) ≡ ends t before last → E .same t s ≡ false
         → undo E s j ≡ unchanged E s j replayFails
-    unfolding undo
-    undo-other t before last e d = simp (lt-ltb 0 (E .appliedLength s) h, e, d)
+    undo-other t before last e d = undo-scans E s j ∙ simp (lt-ltb 0 (E .appliedLength s) h, e, d)
 
     pub undo-reverts : (t before : E .State) (last : ℕ) → replayAll E (take (E .appliedLength s) j) ≡ ends t before last
         → E .same t s ≡ true
         → undo E s j ≡ record { reply = reverted; state = before; journal = cleared E j last (E .appliedLength s) }
-    unfolding undo
-    undo-reverts t before last e d = simp (lt-ltb 0 (E .appliedLength s) h, e, d)
+    undo-reverts t before last e d = undo-scans E s j ∙ simp (lt-ltb 0 (E .appliedLength s) h, e, d)
 
 -- execution
 module _ (E : Engine) (s : E .State) (j i : Bytes) where

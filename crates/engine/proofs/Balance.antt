@@ -11,14 +11,14 @@ use lib.ListN.{length}
 use borrow.Author.Tests.{eqb-true, eqb-false}
 use Rattle.engine.specs.Commands as commands
 use Rattle.engine.specs.Queue.{keepIf, without}
-use Rattle.engine.specs.Journal.{Bytes, performed, Engine, code, Reply, execute}
+use Rattle.engine.specs.Journal.{Bytes, performed, Engine, code, Reply, replay, execute}
 use Rattle.engine.specs.Sessions.{Session, feed, feedAll, newSession}
 use Rattle.engine.specs.Ledger.{Ledger, emptyLedger, nextPending, recordWithdrawal, recordRequest, recordDelivery, Requests}
 use Rattle.engine.specs.Ledger.{recordCommand, recordReply, ledgerOf}
 use Rattle.engine.specs.declared.state.Request.{Request}
 use Rattle.engine.proofs.DemandHalves.{Balanced}
 use Rattle.engine.proofs.Supplied.{Laws, Sound, Queueing, Delivers, Queues, QueueLaws}
-use Rattle.engine.proofs.CommandLists.{Whole, replay, AllWhole}
+use Rattle.engine.proofs.CommandLists.{Whole, AllWhole}
 use Rattle.engine.proofs.RequestLists.{isFor, notAt, notFor, none-left}
 use Rattle.engine.proofs.LedgerLinks.{Linked, row-one, linked-empty, linked-withdrawal, linked-request, same-pick, linked-delivery}
 use Rattle.engine.proofs.LedgerLinks.{linked-at}

@@ -25,7 +25,7 @@ use Rattle.engine.specs.Comparison.{sameFloat, everyBelow, sameHazard, s
 use Rattle.engine.specs.Comparison.{sameSchedule, sameClock, sameSlot, sameRequest, sameProgress, sameState}
 use Rattle.engine.specs.Execution.{createFaults, setFaults, rescheduleFaults, pauseFaults, performCreate, performSet}
 use Rattle.engine.specs.Execution.{performReschedule, performPause, performResume, performDeliver, performOn, target, perform}
-use Rattle.engine.specs.Journal.{classify, replayFrom, replayAll, undo, execute}
+use Rattle.engine.specs.Journal.{classify, replay, splitFrom, undo, execute}
 use Rattle.engine.specs.Sessions.{feed, feedAll, newSession}
 use Rattle.engine.specs.Ledger.{recordCommand, ledgerOf}
 
@@ -40,5 +40,5 @@ unfolding ofBits toBits isNan add sub mul div lt le notBelowZero zeroBits inRang
     nextRequest without isThere openedState validSlot validRequest distinct validQueue validProgress validState sameFloat everyBelow
     sameHazard sameIntervals sameChannel sameSettings sameChannels sameSchedule sameClock sameSlot sameRequest sameProgress sameState
     createFaults setFaults rescheduleFaults pauseFaults performCreate performSet performReschedule performPause performResume
-    performDeliver performOn target perform classify replayFrom replayAll undo execute feed feedAll newSession recordCommand ledgerOf
+    performDeliver performOn target perform classify replay splitFrom undo execute feed feedAll newSession recordCommand ledgerOf
 computed = tt

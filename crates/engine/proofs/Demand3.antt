@@ -22,6 +22,7 @@ use Rattle.engine.proofs.Balance.{balanced}
 use Rattle.engine.proofs.ComparisonLaws.{state-same}
 use Rattle.engine.proofs.EngineLaws.{engine-laws}
 use Rattle.engine.proofs.GoodKept.{engine-sound, engine-queue}
+use Rattle.engine.proofs.RunNumbers.{zero-accepted}
 
 module _ (stream : List ℕ) (n : ℕ) (inputs : List Bytes) where
   abbrev E : Engine
@@ -61,6 +62,7 @@ module _ (stream : List ℕ) (n : ℕ) (inputs : List Bytes) where
         same-state = first .same-state;
         same-journal = first .same-journal;
         accepts-each = first .accepts-each;
+        zero-accepted = λ input. zero-accepted stream n (u .state) (u .journal) input;
         journal-length = journal-length E n (engine-laws stream n) u inv;
         applied-part = applied-part E n (engine-laws stream n) u inv;
         balance = λ k. second k .balance;

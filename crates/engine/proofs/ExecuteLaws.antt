@@ -16,12 +16,12 @@ use Rattle.engine.specs.State.{slotAt, withSlot}
 use Rattle.engine.specs.Validation.{validSlot, validQueue, validProgress, validState}
 use Rattle.engine.specs.Execution.{OnSlot, performOn, target}
 use Rattle.engine.specs.ExecutionCode.{onSlotOf}
-use Rattle.engine.specs.Journal.{Bytes, Engine, Outcome, Replayed, fails, ends, replayAll, unchanged, cleared, undo}
+use Rattle.engine.specs.Journal.{Bytes, Engine, Outcome, unchanged, cleared, undo}
 use Rattle.engine.specs.Journal.{act, apply, write, code, cut, classify, execute}
 use Rattle.engine.specs.Instance.{engineOf}
 use Rattle.engine.specs.Comparison.{sameState}
 use Rattle.engine.specs.Parts.{copiedInto, clearedFront}
-use Rattle.engine.specs.ReplayCode.{beforeLast, replayedOf}
+use Rattle.engine.specs.ReplayCode.{beforeLast, replayedOf, Replayed, fails, ends, replayAll}
 use Rattle.engine.specs.ExecuteCode.{Applied, appliedOn, journalAfter, applyOn}
 use Rattle.engine.specs.Answers.{after, left}
 use Rattle.engine.specs.declared.execute.Executed.{Executed}

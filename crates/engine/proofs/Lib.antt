@@ -37,6 +37,7 @@ pub mod CommandLists
 pub mod Asking
 pub mod ReplaySteps
 pub mod Replays
+pub mod Splits
 pub mod ReplayLaws
 pub mod ExecuteLaws
 -- demand 3: of any engine that meets the laws, then of this one
@@ -50,6 +51,7 @@ pub mod Balance
 pub mod EngineLaws
 pub mod Demand3
 -- the batch run
+pub mod RunInputs
 pub mod RunOpening
 pub mod RunStates
 pub mod RunNumbers

@@ -4,10 +4,10 @@ use mathlib.Core.Path.{_≡_, subst}
 use mathlib.Core.Bool.{true}
 use mathlib.Core.List.{List, [], _∷_}
 use mathlib.Core.Option.{some}
-use Rattle.engine.specs.Journal.{Bytes, Engine}
+use Rattle.engine.specs.Journal.{Bytes, Engine, replay}
 use Rattle.engine.specs.Sessions.{feedAll, newSession}
 use Rattle.engine.proofs.Supplied.{Laws, Sound}
-use Rattle.engine.proofs.CommandLists.{replay, AllWhole}
+use Rattle.engine.proofs.CommandLists.{AllWhole}
 use Rattle.engine.proofs.Replays.{First, first}
 use Rattle.engine.proofs.Applied.{Inv, inv-open, inv-all}
 

@@ -17,13 +17,13 @@ use Rattle.clocks.proofs.Cases.{either-way}
 use Rattle.engine.specs.Commands as commands
 use Rattle.engine.specs.Commands.{widthOf}
 use Rattle.engine.specs.State.{slotAt, withSlot, emptySlot, openedState}
-use Rattle.engine.specs.Journal.{Bytes, Engine, rejected, performed, apply, code, cut, classify, commandAt, widthAfter}
-use Rattle.engine.specs.Journal.{Replayed, fails, ends, replayFrom, replayAll}
+use Rattle.engine.specs.Journal.{Bytes, Engine, rejected, performed, apply, code, cut, classify}
 use Rattle.engine.specs.Execution.{OnSlot, refused, done, performOn, target, perform}
 use Rattle.engine.specs.ExecutionCode.{onSlotOf}
 use Rattle.engine.specs.Validation.{validState}
 use Rattle.engine.specs.Instance.{engineOf}
 use Rattle.engine.specs.ReplayCode.{wholeWidth, noFront, frontCommand, replayedOf}
+use Rattle.engine.specs.ReplayCode.{commandAt, widthAfter, Replayed, fails, ends, replayFrom, replayAll}
 use Rattle.engine.specs.declared.replay.FrontCommand.{FrontCommand}
 use Rattle.engine.specs.declared.replay.Replay.{Replay}
 use Rattle.engine.specs.declared.execution.SlotOutcome.{SlotOutcome}

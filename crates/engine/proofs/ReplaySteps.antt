@@ -7,7 +7,8 @@ use mathlib.Core.Option.{Option, none, some}
 use lib.ListN.{length, drop, length-drop, drop-of-length-le}
 use lib.Seq.{length-take-le, drop-drop}
 use Rattle.engine.specs.Journal.{Bytes, Performed, rejected, performed, Engine, Asked, reject, undoLast, apply, code}
-use Rattle.engine.specs.Journal.{cut, classify, widthAfter, commandAt, Replayed, fails, ends, replayFrom, replayAll}
+use Rattle.engine.specs.Journal.{cut, classify}
+use Rattle.engine.specs.ReplayCode.{widthAfter, commandAt, Replayed, fails, ends, replayFrom, replayAll}
 use Rattle.engine.proofs.Replays.{Asks, asks, replay-end}
 
 module _ (E : Engine) where

@@ -38,7 +38,7 @@ use Rattle.engine.proofs.JournalBytes.{restOf, partOf, part-all, part-o
 use Rattle.engine.proofs.PerformedTargets.{same-past}
 use Rattle.engine.proofs.Replays.{cut-whole}
 use Rattle.engine.proofs.RunAnswers.{answer-refused, answer-copied}
-use Rattle.engine.proofs.RunNumbers.{performedNumber, perform-goes, undo-goes}
+use Rattle.engine.proofs.RunNumbers.{performedReply, perform-goes, reply-goes, undo-goes}
 use Rattle.engine.proofs.RunStates.{Reached, reached-open, reached-next, reached-good}
 use Rattle.engine.proofs.RunStops.{numbered, end-number, stop-way}
 use Rattle.engine.proofs.SlotLaws.{outcome-done, done-fits, rejects, performs, accepted-below}
@@ -287,7 +287,8 @@ module _ (bytes stream : Bytes) (n size : ℕ) (all : Ran) where
         let ek : k ≡ undo E s j .journal = ap (λ (a : AfterInput). a .journal) f in
         let ea : y .answer ≡ answerOf (undo E s j .reply) = ap (λ (a : AfterInput). a .answer) f in
         let h =
-        turned (undo E s j) (execute-undo E s j i (asks-undo E s i (valid r) i-pos (x .wide) (x .long) u)) (undo-goes stream n s j)
+        turned (undo E s j) (execute-undo E s j i (asks-undo E s i (valid r) i-pos (x .wide) (x .long) u))
+        (reply-goes (undo E s j .reply) (undo-goes stream n s j))
         (q ∙ ap (withAnswer answers (answerWidth * count)) ea) (ap length (sym ek) ∙ lk) lw in
         subst (λ (b : Bytes). Running b written result (y .state) (count + 1) (at + w)) (sym ek)
         (subst (λ (t : EngineState). Running (undo E s j .journal) written result t (count + 1) (at + w))
@@ -319,8 +320,10 @@ module _ (bytes stream : Bytes) (n size : ℕ) (all : Ran) where
       did : onSlotOf o ≡ performOn stream n (slotAt s t) (s .progress) c
       did = e ∙ ap (λ (m : ℕ). performOn stream m slot (s .progress) c) (r .same-journal) ∙ on-slot
 
-      goes-on : {d : Performed EngineState Answer} → perform stream n s c ≡ d → endsRun (performedNumber d) ≡ false
-      goes-on q = sym (ap (λ (d : Performed EngineState Answer). endsRun (performedNumber d)) q) ∙ perform-goes stream n s c
+      goes-on : {d : Performed EngineState Answer} → perform stream n s c ≡ d → endsRun (answerOf (performedReply d) .number) ≡ false
+      goes-on q =
+          sym (ap (λ (d : Performed EngineState Answer). endsRun (answerOf (performedReply d) .number)) q)
+          ∙ reply-goes (performedReply (perform stream n s c)) (perform-goes stream n s c)
 
       -- an accepted command is about one of the sixteen, and has room in the journal
       pub next-below : o .number ≡ 0 → t < 16

@@ -11,7 +11,8 @@ use Rattle.engine.specs.Commands as commands
 use Rattle.engine.specs.Commands.{widthOf}
 use Rattle.engine.specs.Refusals.{nothingApplied}
 use Rattle.engine.specs.State.{openedState}
-use Rattle.engine.specs.Journal.{Bytes, Engine, code, ends, replayAll, cleared, undo}
+use Rattle.engine.specs.Journal.{Bytes, Engine, code, cleared, undo}
+use Rattle.engine.specs.ReplayCode.{ends, replayAll}
 use Rattle.engine.specs.Instance.{engineOf}
 use Rattle.engine.specs.Answers.{after, left}
 use Rattle.engine.specs.Run.{Ran}

@@ -1,7 +1,7 @@
--- Document 01, "Journal and undo": what the bytes given to an engine ask for, the replay of the journal, UNDO, and the execution of one
--- command (document 01: the command door), over any engine.
-use Prim.Native.Nat.{ℕ, zero, suc, _+_, _-_}
-use mathlib.Core.Bool.{Bool, cond}
+-- Document 01, "Journal and undo": what the bytes given to an engine ask for, the commands in the journal and the state that they give,
+-- UNDO, and the execution of one command (document 01: the command door), over any engine.
+use Prim.Native.Nat.{ℕ, zero, suc, _-_}
+use mathlib.Core.Bool.{Bool, true, false, cond, _&&_}
 use mathlib.Core.List.{List, [], _∷_, _++_}
 use mathlib.Core.Option.{Option, none, some}
 use lib.ListN.{length, getD, take, drop, replicate}
@@ -45,6 +45,10 @@ pub data Asked : Type 0 where
 -- the first byte
 abbrev pub code : Bytes → ℕ
 code i = getD i 0 0
+
+-- whether the bytes begin with a whole command, UNDO among them, by the widths of codes
+abbrev pub isWhole : (ℕ → ℕ) → Bytes → Bool
+isWhole width i = ltb 0 (width (code i)) && leb (width (code i)) (length i)
 
 -- what one input is answered: a refusal's number, that the last command was reverted, or a command's answer
 pub data Reply (A : Type 0) : Type 0 where
@@ -93,47 +97,65 @@ module _ (E : Engine) where
   abbrev pub unchanged : E .State → Bytes → ℕ → Outcome
   unchanged s j n = record { reply = refusal n; state = s; journal = j }
 
-  -- what one command at the front of the bytes gives: the state after it and its width
-  abbrev pub widthAfter : Bytes → Performed (E .State) (E .Answer) → Option (E .State × ℕ)
-  widthAfter c (rejected n) = none
-  widthAfter c (performed t a) = some (t, length c)
+  -- the state after one command; none where it is refused or is an UNDO
+  abbrev pub stateOf : Performed (E .State) (E .Answer) → Option (E .State)
+  stateOf (rejected n) = none
+  stateOf (performed s a) = some s
 
-  abbrev pub commandAt : E .State → Asked → Option (E .State × ℕ)
-  commandAt s (reject n) = none
-  commandAt s undoLast = none
-  commandAt s (apply c) = widthAfter c (E .perform s c)
+  abbrev pub afterOne : E .State → Asked → Option (E .State)
+  afterOne s (reject n) = none
+  afterOne s undoLast = none
+  afterOne s (apply c) = stateOf (E .perform s c)
 
-  -- the replay of the applied bytes: it fails where they hold an UNDO or one is refused; else the state after all, the state before the
-  -- last command and its place
-  pub data Replayed : Type 0 where
-    fails : Replayed
-    ends : E .State → E .State → ℕ → Replayed
+  abbrev pub thenOne : Option (E .State) → Bytes → Option (E .State)
+  thenOne none c = none
+  thenOne (some s) c = afterOne s (classify s c)
 
-  -- the bytes run as commands, one after another, from s at the place `at`; `before` and `last` are the state before the last command run
-  -- and its place. The first number bounds the commands: each takes a byte or more, so the bytes' length is enough
-  unfoldable pub replayFrom : ℕ → E .State → E .State → ℕ → ℕ → Bytes → Replayed
-  replayFrom zero s before last at [] = ends s before last
-  replayFrom zero s before last at (b ∷ bs) = fails
-  replayFrom (suc k) s before last at [] = ends s before last
-  replayFrom (suc k) s before last at (b ∷ bs) =
-      elim (commandAt s (classify s (b ∷ bs))) [ none ↦ fails | some p ↦ replayFrom k (p .0) s at (at + p .1) (drop (p .1) (b ∷ bs)) ]
+  -- the state after the commands, one after another; none where one is refused or is an UNDO
+  unfoldable pub replay : Option (E .State) → List Bytes → Option (E .State)
+  replay o [] = o
+  replay o (c ∷ cs) = replay (thenOne o c) cs
 
-  -- UNDO after the replay: the last applied command is reverted (document 01: UNDO strikes the last standing command) and its bytes are
-  -- cleared
-  abbrev pub revertTo : E .State → Bytes → Replayed → Outcome
-  revertTo s j fails = unchanged s j replayFails
-  revertTo s j (ends t before last) =
-      cond (E .same t s) (record { reply = reverted; state = before; journal = cleared j last (E .appliedLength s) })
+  abbrev pub fromOpening : List Bytes → Option (E .State)
+  fromOpening cs = replay (some (E .opened)) cs
+
+  -- the command before the others, where these are commands
+  abbrev pub prepend : Bytes → Option (List Bytes) → Option (List Bytes)
+  prepend c none = none
+  prepend c (some cs) = some (c ∷ cs)
+
+  -- the commands that the bytes hold, one after another, each cut to its width; none where the bytes do not split wholly. The first number
+  -- bounds the commands: each takes a byte or more, so more than the bytes' length makes no difference (proofs/Splits.antt: split-turns)
+  unfoldable pub splitFrom : ℕ → Bytes → Option (List Bytes)
+  splitFrom zero [] = some []
+  splitFrom zero (b ∷ bs) = none
+  splitFrom (suc k) [] = some []
+  splitFrom (suc k) (b ∷ bs) =
+      elim (isWhole (E .width) (b ∷ bs)) [ true ↦ prepend (cut (b ∷ bs)) (splitFrom k (drop (E .width b) (b ∷ bs))) | false ↦ none ]
+
+  abbrev pub commandsIn : Bytes → Option (List Bytes)
+  commandsIn bytes = splitFrom (length bytes) bytes
+
+  -- UNDO of the applied commands cs, by the state that all of them give from opening and the one that the rest gives: the last is reverted
+  -- (document 01: UNDO strikes the last standing command) and zero is written over its bytes. 13 where one is refused or is an UNDO, or
+  -- they end in another state than s. The rest gives a state wherever all do (proofs/Replays.antt: replay-init)
+  abbrev pub revertLast : E .State → Bytes → List Bytes → Option (E .State) → Option (E .State) → Outcome
+  revertLast s j cs none rest = unchanged s j replayFails
+  revertLast s j cs (some all) none = unchanged s j replayFails
+  revertLast s j cs (some all) (some rest) =
+      cond (E .same all s)
+      (record { reply = reverted; state = rest; journal = cleared j (length (concat (init cs))) (E .appliedLength s) })
       (unchanged s j replayFails)
 
-  -- from opening
-  unfoldable pub replayAll : Bytes → Replayed
-  replayAll bytes = replayFrom (length bytes) (E .opened) (E .opened) 0 0 bytes
+  -- 13 too where the applied bytes do not split into commands
+  abbrev pub undoIn : E .State → Bytes → Option (List Bytes) → Outcome
+  undoIn s j none = unchanged s j replayFails
+  undoIn s j (some cs) = revertLast s j cs (fromOpening cs) (fromOpening (init cs))
 
-  -- refusals 12 and 13
+  -- 12 where nothing is applied
   unfoldable pub undo : E .State → Bytes → Outcome
   undo s j =
-      cond (ltb 0 (E .appliedLength s)) (revertTo s j (replayAll (take (E .appliedLength s) j))) (unchanged s j nothingApplied)
+      cond (ltb 0 (E .appliedLength s)) (undoIn s j (commandsIn (take (E .appliedLength s) j))) (unchanged s j nothingApplied)
 
   -- an accepted command is copied into the free part
   abbrev pub write : E .State → Bytes → Bytes → Performed (E .State) (E .Answer) → Outcome

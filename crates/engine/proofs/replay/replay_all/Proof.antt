@@ -5,8 +5,8 @@ use native.Mathlib.Omega.{arith}
 use borrow.Author.Needs.{needs}
 use lib.ListN.{length}
 use Rattle.engine.specs.State.{emptySlot, withSlot}
-use Rattle.engine.specs.Journal.{replayAll}
 use Rattle.engine.specs.Instance.{engineOf}
+use Rattle.engine.specs.ReplayCode.{replayAll}
 use Rattle.engine.proofs.Good.{Good}
 use Rattle.engine.proofs.EveryPlace.{getD-any}
 use Rattle.engine.proofs.GoodValid.{opened-good}

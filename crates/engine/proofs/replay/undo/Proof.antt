@@ -6,9 +6,9 @@ use borrow.Author.Needs.{needs}
 use borrow.Author.Tests.{not-true, not-false}
 use lib.ListN.{length, take}
 use lib.Seq.{length-take-le}
-use Rattle.engine.specs.Journal.{Engine, ends, replayAll}
+use Rattle.engine.specs.Journal.{Engine}
 use Rattle.engine.specs.Instance.{engineOf}
-use Rattle.engine.specs.ReplayCode.{beforeLast}
+use Rattle.engine.specs.ReplayCode.{beforeLast, ends, replayAll}
 use Rattle.engine.proofs.Asking.{undo-nothing, undo-fails, undo-other}
 use Rattle.engine.proofs.ExecuteLaws.{left-refused, replay-failed, replay-ended, reverted-left}
 use Rattle.engine.proofs.replay.undo.Statement.{statement}
