@@ -38,7 +38,6 @@ sameInteger a b = leZ a b && leZ b a
 unfoldable pub sameFloat : Float → Float → Bool
 sameFloat x y = cond (isNan x) (isNan y) (cond (isNan y) false (eqb (toBits binary64 x) (toBits binary64 y)))
 
-
 -- ---- arrays: a test of every place below n
 
 unfoldable pub everyBelow : ℕ → (ℕ → Bool) → Bool
