@@ -100,12 +100,8 @@ impl Session {
         }
         let (commands, thresholds) = body.split_at(commands as usize);
         let thresholds = thresholds_from_bytes(thresholds).ok_or(BytesError::Thresholds)?;
-        let mut session = Self::new(thresholds);
-        session.push_raw(commands);
-        Ok(match journal {
-            NO_JOURNAL => session,
-            length => session.with_journal_length(length as usize),
-        })
+        let journal = Some(journal).filter(|journal| *journal != NO_JOURNAL);
+        Ok(Self::of(thresholds, commands.to_vec(), journal))
     }
 }
 

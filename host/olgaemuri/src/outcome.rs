@@ -120,7 +120,10 @@ impl Outcome {
         for (place, _) in walk.changes {
             outcome.steps[place].applied = true;
         }
-        debug_assert!(outcome.is_of_journal(&ran.journal));
+        debug_assert!(
+            ran.journal
+                .is_none_or(|journal| outcome.is_of_journal(&journal))
+        );
         outcome.clocks = clocks(&outcome);
         outcome
     }

@@ -80,6 +80,16 @@ impl Session {
         }
     }
 
+    /// A session with this list.
+    pub(crate) fn of(thresholds: Vec<f64>, commands: Vec<u8>, journal: Option<u64>) -> Self {
+        Self {
+            thresholds,
+            commands,
+            journal_length: journal.map(|length| usize::try_from(length).unwrap_or(usize::MAX)),
+            ..Self::default()
+        }
+    }
+
     /// Chooses how many bytes of applied commands there is room for; a command beyond is refused by 14. Without a choice
     /// there is room for all.
     #[must_use]

@@ -130,14 +130,7 @@ impl SessionText {
     /// The session that the engine is given.
     #[must_use]
     pub fn session(&self) -> Session {
-        let mut session = Session::new(self.thresholds());
-        session.push_raw(&self.commands());
-        match self.journal() {
-            Some(length) => {
-                session.with_journal_length(usize::try_from(length).unwrap_or(usize::MAX))
-            }
-            None => session,
-        }
+        Session::of(self.thresholds(), self.commands(), self.journal())
     }
 
     /// The same session without reference to files of thresholds: their values stand in it.

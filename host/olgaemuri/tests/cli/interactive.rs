@@ -249,11 +249,11 @@ fn too_many_and_none() {
         &format!("{PRESS}undo 4\nredo\nundo 0\nundo x\nundo 2\nredo 3\nundo 1 2\nredo 1 2\n"),
     );
     for expected in [
-        "in force: 3; nothing has changed\n",
+        "only 3 commands in force; nothing has changed\n",
         "nothing to do again; nothing has changed\n",
         "expected a whole number from 1 to 1000000, not `0`\n",
         "expected a whole number from 1 to 1000000, not `x`\n",
-        "taken back: 2; nothing has changed\n",
+        "only 2 commands taken back; nothing has changed\n",
         "typed:13:6: expected an operand name=value, not `1`\n",
         "nothing more may follow `redo`\n",
     ] {
