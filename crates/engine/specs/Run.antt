@@ -42,9 +42,9 @@ endsRun number = eqb number noCommand || eqb number cutShort
 abbrev pub executed : Bytes → EngineState → Bytes → Bytes → AfterInput
 executed stream state journal input = after stream (length journal) (execute (engineOf stream (length journal)) state journal input)
 
--- 17 if under an answer's bytes are left for a command, which is not executed. `turns` bounds the commands. From opening no state is refused
--- by 1, so each command that does not end the run takes a byte or more: turns above the list's length make no difference, and the run
--- ends at the list's end (proofs/RunInputs.antt: run-turns)
+-- 17 if under an answer's bytes are left for a command, which is not executed. `turns` bounds the commands. From opening no state is
+-- refused by 1, so each command that does not end the run takes a byte or more: turns above the list's length make no difference, and the
+-- run ends at the list's end (proofs/RunInputs.antt: run-turns)
 unfoldable pub runFrom : ℕ → Bytes → EngineState → Bytes → Bytes → ℕ → ℕ → Bytes → Ran
 runFrom zero stream state journal answers answered read rest = finished 0 journal answers answered read
 runFrom (suc turns) stream state journal answers answered read [] = finished 0 journal answers answered read
