@@ -15,7 +15,7 @@ use Rattle.clocks.specs.declared.channels.HazardChannelState.{HazardChan
 use Rattle.clocks.specs.declared.clocks.SurvivalClock.{SurvivalClock}
 use Rattle.clocks.specs.declared.setting.CauseSetting.{CauseSetting}
 use Rattle.clocks.specs.declared.setting.ChannelSet.{ChannelSet}
-use Rattle.clocks.proofs.Cases.{either-way}
+use Rattle.hazards.proofs.Cases.{by-test}
 use Rattle.clocks.proofs.Places.{by-place}
 
 module _ (k : SurvivalClock) (s : CauseSetting) (stream : List ℕ) (position : ℕ) where
@@ -31,18 +31,18 @@ module _ (k : SurvivalClock) (s : CauseSetting) (stream : List ℕ) (position : 
       unfolding setAgain
       again-way at =
           let old = getD (k .channels) at emptyChannel in
-          either-way (drawsAgain (k .policy) (settledHazard old (s .now)) (old .«target_threshold»))
+          by-test (drawsAgain (k .policy) (settledHazard old (s .now)) (old .«target_threshold»))
           (λ e.
-          either-way (eqb (drawNumber stream position) 0) (λ d. rw (e, d) (drawn _ _ (eqb-true _ _ d)))
+          by-test (eqb (drawNumber stream position) 0) (λ d. rw (e, d) (drawn _ _ (eqb-true _ _ d)))
           (λ d. rw (e, d) (refused (eqb-false _ _ d))))
           (λ e. rw e (kept _ _))
 
       new-way : X (setNew k s stream position)
       unfolding setNew
       new-way =
-          either-way (ltb (k .«channel_count») 8)
+          by-test (ltb (k .«channel_count») 8)
           (λ e.
-          either-way (eqb (drawNumber stream position) 0) (λ d. rw (e, d) (drawn _ _ (eqb-true _ _ d)))
+          by-test (eqb (drawNumber stream position) 0) (λ d. rw (e, d) (drawn _ _ (eqb-true _ _ d)))
           (λ d. rw (e, d) (refused (eqb-false _ _ d))))
           (λ e. rw e ninth)
 

@@ -22,7 +22,7 @@ use Rattle.clocks.specs.declared.channels.CausePlace.the-variants.{At, A
 use Rattle.clocks.specs.declared.clocks.SurvivalClock.{SurvivalClock}
 use Rattle.clocks.specs.declared.setting.CauseSetting.{CauseSetting}
 use Rattle.clocks.proofs.Sound.{SoundChannel, SoundClock}
-use Rattle.clocks.proofs.Cases.{either-way}
+use Rattle.hazards.proofs.Cases.{by-test}
 use Rattle.clocks.proofs.Places.{by-place}
 use Rattle.clocks.proofs.SoundChannels.{settled-hazard-upto, setting-sound}
 use Rattle.clocks.proofs.SoundPlaces.{held-sound, replaced-sound, added-sound}
@@ -52,9 +52,9 @@ module _ (k : SurvivalClock) (sk : SoundClock k) (s : CauseSetting) (range : ran
       let so = held-sound k sk at cause h in
       let accumulated = settledHazard old (s .now) in
       let kept = channelOf s accumulated (old .«target_threshold») in
-      either-way (drawsAgain (k .policy) accumulated (old .«target_threshold»))
+      by-test (drawsAgain (k .policy) accumulated (old .«target_threshold»))
       (λ e.
-      either-way (eqb (drawAt stream position .number) 0) (λ d. rw (e, d) (replaced-sound k sk at cause h drawn refl (drawn-sound d)))
+      by-test (eqb (drawAt stream position .number) 0) (λ d. rw (e, d) (replaced-sound k sk at cause h drawn refl (drawn-sound d)))
       (λ d. rw (e, d) sk))
       (λ e.
       rw e
@@ -65,9 +65,9 @@ module _ (k : SurvivalClock) (sk : SoundClock k) (s : CauseSetting) (range : ran
   new-cause-sound : placeOfCause cause (usedChannels k) ≡ Absent → SoundClock (setNew k s stream position .clock)
   unfolding setNew
   new-cause-sound h =
-      either-way (ltb (k .«channel_count») 8)
+      by-test (ltb (k .«channel_count») 8)
       (λ e.
-      either-way (eqb (drawAt stream position .number) 0)
+      by-test (eqb (drawAt stream position .number) 0)
       (λ d. rw (e, d) (added-sound k sk drawn (ltb-true (k .«channel_count») 8 e) h (drawn-sound d))) (λ d. rw (e, d) sk))
       (λ e. rw e sk)
 

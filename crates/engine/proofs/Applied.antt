@@ -12,11 +12,12 @@ use lib.Seq.{paste, take-at}
 use lib.Dec.{ltb}
 use borrow.Author.Tests.{ltb-true, lt-ltb}
 use Rattle.engine.specs.Refusals.{nothingApplied, replayFails}
-use Rattle.engine.specs.Journal.{Bytes, Performed, rejected, performed, Engine, Asked, reject, undoLast, apply, reverted, answered}
-use Rattle.engine.specs.Journal.{concat, init, Outcome, cut, classify, cleared, unchanged}
-use Rattle.engine.specs.Journal.{replay, commandsIn, revertLast, undoIn, undo, write, act, execute}
-use Rattle.engine.specs.ReplayCode.{ends, replayAll}
-use Rattle.engine.specs.Parts.{part, appliedPart}
+use Rattle.engine.specs.Engine.{Bytes, Performed, rejected, performed, Engine, Asked, reject, undoLast, carryOut, reverted, completed}
+use Rattle.engine.specs.Engine.{concat, init, Outcome, cut, classify, unchanged}
+use Rattle.engine.specs.Replay.{cleared, replay, commandsIn, revertLast, undoIn, undo}
+use Rattle.engine.specs.Execute.{write, act, execute}
+use Rattle.engine.specs.ReplayInternals.{ends, replayAll}
+use Rattle.engine.specs.Journal.{part, appliedPart}
 use Rattle.engine.specs.Sessions.{Session, appliedAfter, feed, feedAll, newSession, Accepted, AcceptsEach}
 use Rattle.engine.proofs.DemandHalves.{OnlyApplied}
 use Rattle.engine.proofs.Supplied.{Laws}
@@ -222,7 +223,7 @@ module _ (E : Engine) (n : ℕ) (L : Laws E n) where
       → Inv (sessionBy u i (act E (u .state) (u .journal) k))
   inv-act u i (reject m) h e = inv-refused u i m h
   inv-act u i undoLast h e = inv-undo u i h
-  inv-act u i (apply c) h e = go (E .perform (u .state) c) refl
+  inv-act u i (carryOut c) h e = go (E .perform (u .state) c) refl
     where
       go : (d : Performed (E .State) (E .Answer)) → E .perform (u .state) c ≡ d → Inv (sessionBy u i (write E (u .state) (u .journal) c d))
       go (rejected m) p = inv-refused u i m h
@@ -243,9 +244,9 @@ module _ (E : Engine) (n : ℕ) (L : Laws E n) where
     applied : feedAll E u cs .applied ≡ u .applied ++ cs
     accepts : AcceptsEach E u cs
 
-  pub feed-one : (u : Session E) (c : Bytes) (t : E .State) (a : E .Answer) → Whole E c → classify E (u .state) c ≡ apply c
+  pub feed-one : (u : Session E) (c : Bytes) (t : E .State) (a : E .Answer) → Whole E c → classify E (u .state) c ≡ carryOut c
       → E .perform (u .state) c ≡ performed t a
-      → (feed E u c .state ≡ t) × (feed E u c .applied ≡ u .applied ++ (c ∷ [])) × (execute E (u .state) (u .journal) c .reply ≡ answered a)
+      → (feed E u c .state ≡ t) × (feed E u c .applied ≡ u .applied ++ (c ∷ [])) × (execute E (u .state) (u .journal) c .reply ≡ completed a)
   unfolding feed execute
   feed-one u c t a w k e =
       let o : execute E (u .state) (u .journal) c ≡ write E (u .state) (u .journal) c (performed t a) =
@@ -293,7 +294,7 @@ module _ (E : Engine) (n : ℕ) (L : Laws E n) where
 
   -- an UNDO right after an accepted command leaves state and journal as they were before it
   pub taken-back : ((s : E .State) → E .same s s ≡ true) → (u : Session E) (i : Bytes) (a : E .Answer) (t : E .State) (k : Bytes) → Inv u
-      → execute E (u .state) (u .journal) i ≡ record { reply = answered a; state = t; journal = k }
+      → execute E (u .state) (u .journal) i ≡ record { reply = completed a; state = t; journal = k }
       → undo E t k ≡ record { reply = reverted; state = u .state; journal = u .journal }
   taken-back r u i a t k h e =
       let c : Bytes = cut E i in

@@ -4,7 +4,7 @@ use mathlib.Core.Path.{_≡_}
 use mathlib.Core.List.{List, [], _∷_}
 use lib.ListN.{length}
 use Rattle.engine.specs.Commands as commands
-use Rattle.engine.specs.Journal.{Bytes, Engine, code}
+use Rattle.engine.specs.Engine.{Bytes, Engine, code}
 
 module _ (E : Engine) where
   -- a whole command but UNDO, cut to its width

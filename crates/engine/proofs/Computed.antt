@@ -17,15 +17,17 @@ use Rattle.clocks.specs.Clocks.{newClock, clockCandidates, earliestEvent}
 use Rattle.clocks.specs.Setting.{setAgain, setNew, setChannel}
 use Rattle.clocks.specs.Scheduling.{finalEvent, scheduledFor, reschedule, pause, resume, onEventDispatched}
 use Rattle.clocks.specs.Validation.{isFinite, ascendingFrom, validChannel, validClock}
-use Rattle.engine.specs.Commands.{widthOf}
-use Rattle.engine.specs.Queue.{nextRequest, without, isThere}
-use Rattle.engine.specs.State.{openedState}
-use Rattle.engine.specs.Validation.{validSlot, validRequest, distinct, validQueue, validProgress, validState}
+use Rattle.engine.specs.Commands.{widthOf, createFaults, setFaults, rescheduleFaults, pauseFaults}
+use Rattle.engine.specs.Queue.{nextRequest, without, isQueued}
+use Rattle.engine.specs.Opening.{openedState}
+use Rattle.engine.specs.Validation.{validSlot, validRequest, distinct, validQueue, validShared, validState}
 use Rattle.engine.specs.Comparison.{sameFloat, everyBelow, sameHazard, sameIntervals, sameChannel, sameSettings, sameChannels}
-use Rattle.engine.specs.Comparison.{sameSchedule, sameClock, sameSlot, sameRequest, sameProgress, sameState}
-use Rattle.engine.specs.Execution.{createFaults, setFaults, rescheduleFaults, pauseFaults, performCreate, performSet}
-use Rattle.engine.specs.Execution.{performReschedule, performPause, performResume, performDeliver, performOn, target, perform}
-use Rattle.engine.specs.Journal.{classify, replay, splitFrom, undo, execute}
+use Rattle.engine.specs.Comparison.{sameSchedule, sameClock, sameSlot, sameRequest, sameShared, sameState}
+use Rattle.engine.specs.Execution.{performCreate, performSet, performReschedule, performPause, performResume, performDeliver}
+use Rattle.engine.specs.Execution.{performOn, target, perform}
+use Rattle.engine.specs.Engine.{classify}
+use Rattle.engine.specs.Replay.{replay, splitFrom, undo}
+use Rattle.engine.specs.Execute.{execute}
 use Rattle.engine.specs.Sessions.{feed, feedAll, newSession}
 use Rattle.engine.specs.Ledger.{recordCommand, ledgerOf}
 
@@ -37,8 +39,8 @@ unfolding ofBits toBits isNan add sub mul div lt le notBelowZero zeroBits inRang
     earlier earliest faultsOfAll settingsFaults drawsRefusal sampleRefusal candidates censoredAt sampledEvent sampleNext settledHazard
     onUsed placeOfCause placeForNew insertAt channelCandidate wholeTicks newClock clockCandidates earliestEvent setAgain setNew setChannel
     finalEvent scheduledFor reschedule pause resume onEventDispatched isFinite ascendingFrom validChannel validClock widthOf
-    nextRequest without isThere openedState validSlot validRequest distinct validQueue validProgress validState sameFloat everyBelow
-    sameHazard sameIntervals sameChannel sameSettings sameChannels sameSchedule sameClock sameSlot sameRequest sameProgress sameState
+    nextRequest without isQueued openedState validSlot validRequest distinct validQueue validShared validState sameFloat everyBelow
+    sameHazard sameIntervals sameChannel sameSettings sameChannels sameSchedule sameClock sameSlot sameRequest sameShared sameState
     createFaults setFaults rescheduleFaults pauseFaults performCreate performSet performReschedule performPause performResume
     performDeliver performOn target perform classify replay splitFrom undo execute feed feedAll newSession recordCommand ledgerOf
 computed = tt

@@ -13,7 +13,7 @@ pub mod AcceptedFields
 pub mod ExecutionCases
 pub mod PerformedWays
 pub mod PerformedTargets
-pub mod ProgressLaws
+pub mod SharedLaws
 pub mod SlotLaws
 -- requests and the queue
 pub mod RequestOrder
@@ -26,12 +26,12 @@ pub mod QueuePlaces
 pub mod QueueRoom
 -- state validation, and the invariant of the states reached from opening
 pub mod ValidationLaws
-pub mod Good
-pub mod GoodValid
-pub mod GoodQueues
-pub mod GoodSteps
-pub mod GoodDeliveries
-pub mod GoodKept
+pub mod SoundState
+pub mod SoundValid
+pub mod SoundQueues
+pub mod SoundSteps
+pub mod SoundDeliveries
+pub mod SoundKept
 -- one input, the replay and UNDO
 pub mod CommandLists
 pub mod Asking

@@ -6,7 +6,7 @@ use native.Mathlib.Omega.{arith}
 use borrow.Author.Tests.{le-leb, lt-leb}
 use lib.ListN.{length, take, drop, replicate}
 use Rattle.hazards.specs.Refusals.{invalidState}
-use Rattle.engine.specs.Parts.{copiedInto, clearedFront, part, appliedPart}
+use Rattle.engine.specs.Journal.{copiedInto, clearedFront, part, appliedPart}
 
 module _ (free command : List ℕ) where
   pub copied-whole : length command ≤ length free → copiedInto free command ≡ command ++ drop (length command) free

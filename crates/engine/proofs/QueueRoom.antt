@@ -15,14 +15,14 @@ use Rattle.hazards.specs.Lists.{all}
 use Rattle.clocks.specs.Scheduling as scheduling
 use Rattle.clocks.specs.declared.clocks.ScheduledEvent.{ScheduledEvent}
 use Rattle.clocks.specs.declared.scheduling.Censor.{Censor}
-use Rattle.clocks.proofs.Cases.{either-way}
+use Rattle.hazards.proofs.Cases.{by-test}
 use Rattle.clocks.proofs.RequestLaws.{reschedule-requests, resume-requests}
-use Rattle.engine.specs.Queue.{keepIf, without, isThere, countFor}
+use Rattle.engine.specs.Queue.{keepIf, without, isQueued, countFor}
 use Rattle.engine.specs.State.{slotAt, queuedRequests}
-use Rattle.engine.specs.Validation.{validSlot, validRequest, distinct, validQueue, validProgress, validState}
+use Rattle.engine.specs.Validation.{validSlot, validRequest, distinct, validQueue, validShared, validState}
 use Rattle.engine.specs.Execution.{isWithdrawn, withdraw}
 use Rattle.engine.specs.declared.state.Request.{Request}
-use Rattle.engine.specs.declared.state.Progress.{Progress}
+use Rattle.engine.specs.declared.state.SharedState.{SharedState}
 use Rattle.engine.specs.declared.state.EngineState.{EngineState}
 use Rattle.engine.proofs.Conjunctions.{both-true}
 use Rattle.engine.proofs.DistinctIndices.{in-there, distinct-twice, keep-distinct}
@@ -53,14 +53,14 @@ fifteen i h l below others few = at-most 16 (own i ∷ l) within once
     none-for : keepIf (isFor i) l ≡ []
     none-for =
         keep-nothing (isFor i) l
-        (λ y j. either-way (eqb (y .clock) i) (λ t. absurd (others y j (eqb-true (y .clock) i t))) (λ t. t))
+        (λ y j. by-test (eqb (y .clock) i) (λ t. absurd (others y j (eqb-true (y .clock) i t))) (λ t. t))
 
     once : (k : ℕ) → countFor k (own i ∷ l) ≤ 1
-    once k = either-way (eqb i k) (λ t. rw (t, ← eqb-true i k t, none-for) (omega arith)) (λ t. rw t (few k))
+    once k = by-test (eqb i k) (λ t. rw (t, ← eqb-true i k t, none-for) (omega arith)) (λ t. rw t (few k))
 
 module _ (stream : List ℕ) (n : ℕ) (s : EngineState) (v : validState stream n s ≡ true) where
-  abbrev p : Progress
-  p = s .progress
+  abbrev p : SharedState
+  p = s .shared
 
   abbrev q : List Request
   q = queuedRequests p
@@ -72,7 +72,7 @@ module _ (stream : List ℕ) (n : ℕ) (s : EngineState) (v : validState stream 
   unfolding validState validQueue
   valid-queue =
       let a = both-true (all validSlot (s .slots)) _ v in
-      let b = both-true (validQueue s) (validProgress stream n p) (a .1) in
+      let b = both-true (validQueue s) (validShared stream n p) (a .1) in
       let c = both-true (leb (p .queued) 16) _ (b .0) in
       both-true (all (validRequest s) q) (distinct q) (c .1)
 
@@ -129,15 +129,15 @@ module _ (stream : List ℕ) (n : ℕ) (s : EngineState) (v : validState stream 
         fifteen i h q (λ y j. named y j .below)
         (λ y j e.
         let m = ap (λ (m : ℕ). eventOf m) (sym e) in
-        let there : isThere (eventOf i .index) q ≡ true =
-        ap (λ (x : ℕ). isThere x q) (ap (λ (x : ScheduledEvent). x .index) m ∙ named y j .index) ∙ in-there y q j in
+        let there : isQueued (eventOf i .index) q ≡ true =
+        ap (λ (x : ℕ). isQueued x q) (ap (λ (x : ScheduledEvent). x .index) m ∙ named y j .index) ∙ in-there y q j in
         let present : eventOf i .present ≡ true = ap (λ (x : ScheduledEvent). x .present) m ∙ named y j .event in
         true≢false (sym (rw (present, there)) ∙ t))
         one-each
 
     own-withdrawn : withdraw p (eventOf i) .queued < 16
     own-withdrawn =
-        either-way (isWithdrawn p (eventOf i)) (λ t. rw t (after-withdrawal t))
+        by-test (isWithdrawn p (eventOf i)) (λ t. rw t (after-withdrawal t))
         (λ t.
         let few = without-withdrawal t in
         let l = queued-length (p .queue) (p .queued) sixteen in

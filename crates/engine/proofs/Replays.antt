@@ -12,27 +12,28 @@ use borrow.Author.Tests.{ltb-true, leb-true, eqb-false, lt-ltb, le-leb, ne-eqb}
 use Rattle.hazards.specs.Refusals.{invalidState}
 use Rattle.engine.specs.Commands as commands
 use Rattle.engine.specs.Refusals.{cutShort, noCommand}
-use Rattle.engine.specs.Journal.{Bytes, Performed, rejected, performed, Engine, Asked, reject, undoLast, apply, code}
-use Rattle.engine.specs.Journal.{init, cut, classify, stateOf, afterOne, thenOne, replay}
-use Rattle.engine.specs.ReplayCode.{ends, replayFrom}
+use Rattle.engine.specs.Engine.{Bytes, Performed, rejected, performed, Engine, Asked, reject, undoLast, carryOut, code, init, cut}
+use Rattle.engine.specs.Engine.{classify}
+use Rattle.engine.specs.Replay.{stateOf, afterOne, thenOne, replay}
+use Rattle.engine.specs.ReplayInternals.{ends, replayFrom}
 use Rattle.engine.proofs.CommandLists.{Whole, AllWhole}
 
-reject-apply : (n : ℕ) (c : Bytes) → reject n ≡ apply c → ⊥
-reject-apply n c e = let z : _≡_ {A = ℕ} 0 1 = cc in omega arith
+reject-carry-out : (n : ℕ) (c : Bytes) → reject n ≡ carryOut c → ⊥
+reject-carry-out n c e = let z : _≡_ {A = ℕ} 0 1 = cc in omega arith
 
-undo-last-apply : (c : Bytes) → undoLast ≡ apply c → ⊥
-undo-last-apply c e = let z : _≡_ {A = ℕ} 0 1 = cc in omega arith
+undo-last-carry-out : (c : Bytes) → undoLast ≡ carryOut c → ⊥
+undo-last-carry-out c e = let z : _≡_ {A = ℕ} 0 1 = cc in omega arith
 
 module _ (E : Engine) where
   -- the bytes i ask in s for the command c
   pub record Asks (s : E .State) (i c : Bytes) : Type 0 where
     pub ok : E .valid s ≡ true
-    pub cutting : apply (cut E i) ≡ apply c
+    pub cutting : carryOut (cut E i) ≡ carryOut c
     pub wide : 0 < E .width (code i)
     pub long : E .width (code i) ≤ length i
     pub other : code i ≡ commands.undo → ⊥
 
-  pub asks : (s : E .State) (i c : Bytes) → classify E s i ≡ apply c → Asks s i c
+  pub asks : (s : E .State) (i c : Bytes) → classify E s i ≡ carryOut c → Asks s i c
   unfolding classify
   asks s i c =
       go (E .valid s) refl (ltb 0 (length i)) refl (ltb 0 (E .width (code i))) refl (leb (E .width (code i)) (length i)) refl
@@ -40,14 +41,14 @@ module _ (E : Engine) where
     where
       go : (v : Bool) → E .valid s ≡ v → (l : Bool) → ltb 0 (length i) ≡ l → (w : Bool) → ltb 0 (E .width (code i)) ≡ w
           → (f : Bool) → leb (E .width (code i)) (length i) ≡ f → (u : Bool) → eqb (code i) commands.undo ≡ u
-          → cond v (cond l (cond w (cond f (cond u undoLast (apply (cut E i))) (reject cutShort)) (reject noCommand)) (reject cutShort))
-          (reject invalidState) ≡ apply c
+          → cond v (cond l (cond w (cond f (cond u undoLast (carryOut (cut E i))) (reject cutShort)) (reject noCommand)) (reject cutShort))
+          (reject invalidState) ≡ carryOut c
           → Asks s i c
-      go false ev l el w ew f ef u eu e = absurd (reject-apply invalidState c e)
-      go true ev false el w ew f ef u eu e = absurd (reject-apply cutShort c e)
-      go true ev true el false ew f ef u eu e = absurd (reject-apply noCommand c e)
-      go true ev true el true ew false ef u eu e = absurd (reject-apply cutShort c e)
-      go true ev true el true ew true ef true eu e = absurd (undo-last-apply c e)
+      go false ev l el w ew f ef u eu e = absurd (reject-carry-out invalidState c e)
+      go true ev false el w ew f ef u eu e = absurd (reject-carry-out cutShort c e)
+      go true ev true el false ew f ef u eu e = absurd (reject-carry-out noCommand c e)
+      go true ev true el true ew false ef u eu e = absurd (reject-carry-out cutShort c e)
+      go true ev true el true ew true ef true eu e = absurd (undo-last-carry-out c e)
       go true ev true el true ew true ef false eu e =
           record {
             ok = ev;
@@ -72,7 +73,7 @@ module _ (E : Engine) where
   cut-self c w = ap (λ (k : ℕ). take k c) (sym (w .len)) ∙ take-length c
 
   -- a whole command asks for itself
-  pub classify-whole : (s : E .State) (c : Bytes) → E .valid s ≡ true → Whole E c → classify E s c ≡ apply c
+  pub classify-whole : (s : E .State) (c : Bytes) → E .valid s ≡ true → Whole E c → classify E s c ≡ carryOut c
   unfolding classify
   classify-whole s c v w =
       let h₁ : 0 < E .width (code c) = subst (λ (k : ℕ). 0 < k) (w .len) (w .pos) in
@@ -109,7 +110,7 @@ module _ (E : Engine) where
   none-some a e = let z : _≡_ {A = ℕ} 0 1 = cc in omega arith
 
   pub replay-one : (o : Option (E .State)) (cs : List Bytes) (c : Bytes) (s t : E .State) (a : E .Answer) → replay E o cs ≡ some s
-      → classify E s c ≡ apply c → E .perform s c ≡ performed t a → replay E o (cs ++ (c ∷ [])) ≡ some t
+      → classify E s c ≡ carryOut c → E .perform s c ≡ performed t a → replay E o (cs ++ (c ∷ [])) ≡ some t
   unfolding replay
   replay-one o cs c s t a r k e =
       replay-append o cs (c ∷ []) ∙ ap (λ (x : Option (E .State)). thenOne E x c) r ∙ ap (afterOne E s) k ∙ ap (stateOf E) e
@@ -118,7 +119,7 @@ module _ (E : Engine) where
   pub record First (s : E .State) (c : Bytes) (cs : List Bytes) (v : E .State) : Type 0 where
     pub next : E .State
     pub answer : E .Answer
-    pub asked : classify E s c ≡ apply c
+    pub asked : classify E s c ≡ carryOut c
     pub did : E .perform s c ≡ performed next answer
     pub rest : replay E (some next) cs ≡ some v
 
@@ -126,7 +127,7 @@ module _ (E : Engine) where
   unfolding replay
   first s c cs v w = by-ask (classify E s c) refl
     where
-      by-did : (d : Performed (E .State) (E .Answer)) → classify E s c ≡ apply c → E .perform s c ≡ d → replay E (stateOf E d) cs ≡ some v
+      by-did : (d : Performed (E .State) (E .Answer)) → classify E s c ≡ carryOut c → E .perform s c ≡ d → replay E (stateOf E d) cs ≡ some v
           → First s c cs v
       by-did (rejected m) k q e = absurd (none-some v (sym (replay-none cs) ∙ e))
       by-did (performed t a) k q e = record { next = t; answer = a; asked = k; did = q; rest = e }
@@ -134,9 +135,9 @@ module _ (E : Engine) where
       by-ask : (k : Asked) → classify E s c ≡ k → replay E (afterOne E s k) cs ≡ some v → First s c cs v
       by-ask (reject m) q e = absurd (none-some v (sym (replay-none cs) ∙ e))
       by-ask undoLast q e = absurd (none-some v (sym (replay-none cs) ∙ e))
-      by-ask (apply d) q e =
+      by-ask (carryOut d) q e =
           let ed : c ≡ d = sym (cut-self c w) ∙ cc (asks s c d q .cutting) in
-          by-did (E .perform s c) (q ∙ ap apply (sym ed)) refl
+          by-did (E .perform s c) (q ∙ ap carryOut (sym ed)) refl
           (subst (λ (x : Bytes). replay E (stateOf E (E .perform s x)) cs ≡ some v) (sym ed) e)
 
   pub replay-end : (k : ℕ) (s before : E .State) (last at : ℕ) → replayFrom E k s before last at [] ≡ ends s before last

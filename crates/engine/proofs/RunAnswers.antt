@@ -11,8 +11,8 @@ use lib.Seq.{paste, length-take-le}
 use Rattle.hazards.specs.Answers.{answerWidth, answerBytes, noEvent, withAnswer}
 use Rattle.hazards.proofs.AnswerBytes.{answerBytes-length}
 use Rattle.hazards.specs.declared.answers.Answer.{Answer}
-use Rattle.engine.specs.Journal.{Bytes}
-use Rattle.engine.specs.RunCode.{Answered, answeredBy, answerAt}
+use Rattle.engine.specs.Engine.{Bytes}
+use Rattle.engine.specs.RunInternals.{JournalAndAnswers, journalAndAnswers, answerAt}
 
 -- an answer changes no length
 pub answer-length : (answers : Bytes) (place : ℕ) (a : Answer) → length (withAnswer answers place a) ≡ length answers
@@ -33,27 +33,27 @@ answer-length answers place a = go (leb (place + answerWidth) (length answers)) 
         omega (arith, l₁, l₂, t, d, answerBytes-length a, fits)
 
 module _ (number : ℕ) (a : Answer) (free : ℕ) (j answers : Bytes) (place : ℕ) (c : Bytes) where
-  abbrev by-test : Bool → Answered
-  by-test b =
-      cond b (answeredBy (paste j free c (length c)) (withAnswer answers place a))
-      (answeredBy j (withAnswer answers place (noEvent number)))
+  abbrev by-number : Bool → JournalAndAnswers
+  by-number b =
+      cond b (journalAndAnswers (paste j free c (length c)) (withAnswer answers place a))
+      (journalAndAnswers j (withAnswer answers place (noEvent number)))
 
   pub answer-refused : (number ≡ 0 → ⊥)
-      → answerAt number a free j answers place c ≡ answeredBy j (withAnswer answers place (noEvent number))
-  answer-refused z = ap by-test (ne-eqb number 0 z)
+      → answerAt number a free j answers place c ≡ journalAndAnswers j (withAnswer answers place (noEvent number))
+  answer-refused z = ap by-number (ne-eqb number 0 z)
 
   pub answer-copied : number ≡ 0
-      → answerAt number a free j answers place c ≡ answeredBy (paste j free c (length c)) (withAnswer answers place a)
-  answer-copied z = ap by-test (eq-eqb number 0 z)
+      → answerAt number a free j answers place c ≡ journalAndAnswers (paste j free c (length c)) (withAnswer answers place a)
+  answer-copied z = ap by-number (eq-eqb number 0 z)
 
   -- as the code writes them
   pub refused-answered : (number ≡ 0 → ⊥) → {written : Bytes} → written ≡ withAnswer answers place (noEvent number)
-      → answeredBy j written ≡ answerAt number a free j answers place c
-  refused-answered z e = ap (answeredBy j) e ∙ sym (answer-refused z)
+      → journalAndAnswers j written ≡ answerAt number a free j answers place c
+  refused-answered z e = ap (journalAndAnswers j) e ∙ sym (answer-refused z)
 
   pub copied-answered : number ≡ 0 → {k written : Bytes} → k ≡ paste j free c (length c) → written ≡ withAnswer answers place a
-      → answeredBy k written ≡ answerAt number a free j answers place c
+      → journalAndAnswers k written ≡ answerAt number a free j answers place c
   copied-answered z {k} {written} ek e =
-      let both : answeredBy k written ≡ answeredBy (paste j free c (length c)) (withAnswer answers place a) =
-      λ i. answeredBy (ek i) (e i) in
+      let both : journalAndAnswers k written ≡ journalAndAnswers (paste j free c (length c)) (withAnswer answers place a) =
+      λ i. journalAndAnswers (ek i) (e i) in
       both ∙ sym (answer-copied z)

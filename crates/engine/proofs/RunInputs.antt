@@ -13,12 +13,14 @@ use lib.Seq.{take-at}
 use Rattle.hazards.specs.Fields.{bytesOf}
 use Rattle.hazards.specs.Answers.{answerWidth, withAnswer}
 use Rattle.hazards.proofs.Bytes.{bytesOf-length}
-use Rattle.clocks.proofs.Cases.{either-way}
+use Rattle.hazards.proofs.Cases.{by-test}
 use Rattle.engine.specs.Commands as commands
 use Rattle.engine.specs.Commands.{widthOf}
 use Rattle.engine.specs.Refusals.{noCommand, cutShort, answersFull, badBuffers}
 use Rattle.engine.specs.Validation.{validState}
-use Rattle.engine.specs.Journal.{Bytes, Engine, Outcome, code, isWhole, cut, unchanged, act, apply, undo, execute}
+use Rattle.engine.specs.Engine.{Bytes, Engine, Outcome, code, isWhole, cut, unchanged, carryOut}
+use Rattle.engine.specs.Execute.{act, execute}
+use Rattle.engine.specs.Replay.{undo}
 use Rattle.engine.specs.Sessions.{Session, feed, feedAll, newSession}
 use Rattle.engine.specs.Instance.{engineOf}
 use Rattle.engine.specs.Answers.{after, answerOf}
@@ -29,11 +31,11 @@ use Rattle.engine.proofs.Asking.{asks-no-command, asks-part, asks-undo,
 use Rattle.engine.proofs.Demand3.{demand-3}
 use Rattle.engine.proofs.EngineLaws.{engine-laws}
 use Rattle.engine.proofs.ExecuteLaws.{executes}
-use Rattle.engine.proofs.GoodValid.{good-valid}
+use Rattle.engine.proofs.SoundValid.{sound-state-valid}
 use Rattle.engine.proofs.RunAnswers.{answer-length}
 use Rattle.engine.proofs.RunNumbers.{reply-goes, undo-goes, write-goes}
 use Rattle.engine.proofs.RunOpening.{run-unusable, run-opens}
-use Rattle.engine.proofs.RunStates.{reached-good}
+use Rattle.engine.proofs.RunStates.{reached-sound}
 use Rattle.engine.proofs.RunTurns.{run-full, run-ends, run-next, run-done}
 use Rattle.engine.proofs.Splits.{Wide, whole-wide, wide-whole}
 
@@ -55,11 +57,11 @@ inputs-next room [] h = absurd (omega arith)
 inputs-next room (b ∷ bs) h = refl
 
 -- answers that there is room for
-room-for : (size count room : ℕ) → size / 32 ≡ count + suc room → 32 * count + 32 ≤ size
-room-for size count room e = omega (arith, div-add-mod' size 32, mod-lt size {m = 32} (omega arith))
+room-for : (size count room : ℕ) → size / answerWidth ≡ count + suc room → answerWidth * count + answerWidth ≤ size
+room-for size count room e = omega (arith, div-add-mod' size answerWidth, mod-lt size {m = answerWidth} (omega arith))
 
-no-room : (size count : ℕ) → size / 32 ≡ count + 0 → size < 32 * count + 32
-no-room size count e = omega (arith, div-add-mod' size 32, mod-lt size {m = 32} (omega arith))
+no-room : (size count : ℕ) → size / answerWidth ≡ count + 0 → size < answerWidth * count + answerWidth
+no-room size count e = omega (arith, div-add-mod' size answerWidth, mod-lt size {m = answerWidth} (omega arith))
 
 module _ (stream : Bytes) (n : ℕ) where
   abbrev E : Engine
@@ -79,7 +81,7 @@ module _ (stream : Bytes) (n : ℕ) where
   -- one input to an engine in use
   module _ (u : Session E) (h : Used u) (i : Bytes) (p : 0 < length i) where
     valid : validState stream n (u .state) ≡ true
-    valid = good-valid (u .state) stream n (reached-good stream n (u .state) (u .journal) (record { applied = u .applied; inv = h }))
+    valid = sound-state-valid (u .state) stream n (reached-sound stream n (u .state) (u .journal) (record { applied = u .applied; inv = h }))
 
     abbrev outcome : Outcome E
     outcome = execute E (u .state) (u .journal) i
@@ -97,7 +99,7 @@ module _ (stream : Bytes) (n : ℕ) where
     whole-goes : isWhole widthOf i ≡ true → endsRun (answerOf (outcome .reply) .number) ≡ false
     whole-goes e =
         let w : Wide E i = whole-wide E i e in
-        either-way (eqb (code i) commands.undo)
+        by-test (eqb (code i) commands.undo)
         (λ d.
         let o = execute-undo E (u .state) (u .journal) i (asks-undo E (u .state) i valid p (w .wide) (w .long) (eqb-true _ _ d)) in
         ap (λ (x : Outcome E). endsRun (answerOf (x .reply) .number)) o
@@ -107,7 +109,7 @@ module _ (stream : Bytes) (n : ℕ) where
         executes E (u .state) (u .journal) i (widthOf (code i)) refl
         (asks-command E (u .state) i valid p (w .wide) (w .long) (eqb-false _ _ d)) in
         ap (λ (x : Outcome E). endsRun (answerOf (x .reply) .number)) o
-        ∙ reply-goes (act E (u .state) (u .journal) (apply (cut E i)) .reply) (write-goes stream n (u .state) (u .journal) (cut E i)))
+        ∙ reply-goes (act E (u .state) (u .journal) (carryOut (cut E i)) .reply) (write-goes stream n (u .state) (u .journal) (cut E i)))
 
     -- bytes that are none end it, and change nothing
     record Ends : Type 0 where
@@ -174,9 +176,9 @@ module _ (stream : Bytes) (n : ℕ) where
       let i : Bytes = b ∷ bs in
       let p : 0 < length i = omega arith in
       let w : ℕ = widthOf b in
-      either-way (leb (answerWidth * count + answerWidth) (length answers))
+      by-test (leb (answerWidth * count + answerWidth) (length answers))
       (λ l.
-      either-way (isWhole widthOf i)
+      by-test (isWhole widthOf i)
       (λ t.
       let wide : 0 < w = whole-wide E i t .wide in
       let d : length (drop w i) ≡ length i - w = length-drop w i in
@@ -216,7 +218,7 @@ module _ (stream : Bytes) (n : ℕ) where
       record { journal = x .journal; answered = x .answered ∙ ap (bytesOf 8) z }
 
   runs : (turns room : ℕ) (u : Session E) → Used u → (answers : Bytes) (count read : ℕ) (rest : Bytes) → length rest ≤ turns
-      → length answers / 32 ≡ count + room
+      → length answers / answerWidth ≡ count + room
       → Runs (runAt turns u answers count read rest) u count (inputsFrom room rest)
   runs zero room u h answers count read [] l e =
       same-runs u count (run-nothing zero u answers count read) (inputs-nothing room) (ended 0 u answers count read)
@@ -232,12 +234,12 @@ module _ (stream : Bytes) (n : ℕ) where
       let p : 0 < length i = omega arith in
       let w : ℕ = widthOf b in
       let space = room-for (length answers) count room e in
-      either-way (isWhole widthOf i)
+      by-test (isWhole widthOf i)
       (λ t.
       let wide : 0 < w = whole-wide E i t .wide in
       let d : length (drop w i) ≡ length i - w = length-drop w i in
-      let q : length (written u h i p answers count) / 32 ≡ count + 1 + room =
-      ap (λ (k : ℕ). k / 32) (answer-length answers (answerWidth * count) (after stream n (outcome u h i p) .answer)) ∙ e ∙ omega arith in
+      let q : length (written u h i p answers count) / answerWidth ≡ count + 1 + room =
+      ap (λ (k : ℕ). k / answerWidth) (answer-length answers (answerWidth * count) (after stream n (outcome u h i p) .answer)) ∙ e ∙ omega arith in
       same-runs u count (goes u h i p answers count read turns space t) (inputs-next room i p ∙ ap (inputsBy room i) t)
       (after-one u count i (inputsFrom room (drop w i)) _
       (runs turns room (feed E u i) (fed u h i p) (written u h i p answers count) (count + 1) (read + w) (drop w i) (omega arith) q)))
@@ -253,15 +255,15 @@ pub run-demand-3 : (commandBytes stream journal answers result : Bytes)
     → RunDemand3 commandBytes stream journal answers result
 unfolding newSession
 run-demand-3 commandBytes stream journal answers result h =
-    either-way (eqb (length stream % 8) 0 && eqb (length result) 16)
+    by-test (eqb (length stream % 8) 0 && eqb (length result) 16)
     (λ e.
     let n : ℕ = length journal in
     let is : List Bytes = runInputs commandBytes answers in
     let d : Demand3 stream n is = demand-3 stream n is in
     let begins = inv-open (engineOf stream n) n (engine-laws stream n) in
-    let room : length answers / 32 ≡ 0 + length answers / 32 = omega arith in
+    let room : length answers / answerWidth ≡ 0 + length answers / answerWidth = omega arith in
     let opens = sym (run-opens commandBytes stream journal answers result e) in
-    let r = runs stream n (length commandBytes) (length answers / 32) (newSession (engineOf stream n) n) begins answers 0 0 commandBytes
+    let r = runs stream n (length commandBytes) (length answers / answerWidth) (newSession (engineOf stream n) n) begins answers 0 0 commandBytes
     (omega arith) room in
     let same : runOf commandBytes stream journal answers result .journal ≡ sessionAfter stream n is .journal =
     ap (λ (x : Ran). x .journal) opens ∙ r .journal in

@@ -19,25 +19,26 @@ use Rattle.clocks.specs.declared.setting.ChannelSet.{ChannelSet}
 use Rattle.clocks.specs.declared.clocks.SurvivalClock.{SurvivalClock}
 use Rattle.clocks.proofs.SettingOutcomes.{set-way}
 use Rattle.engine.specs.Commands as commands
-use Rattle.engine.specs.Commands.{widthOf}
+use Rattle.engine.specs.Commands.{widthOf, byteAt, settingOf, createFaults, setFaults, causeFaults, rescheduleFaults, pauseFaults}
 use Rattle.engine.specs.Queue.{nextRequest}
 use Rattle.engine.specs.Comparison.{sameState}
-use Rattle.engine.specs.State.{slotAt, queuedRequests, openedState}
+use Rattle.engine.specs.State.{slotAt, queuedRequests}
+use Rattle.engine.specs.Opening.{openedState}
 use Rattle.engine.specs.Validation.{validState}
 use Rattle.engine.specs.Refusals.{cutShort, noCommand, nothingApplied, replayFails, journalFull}
-use Rattle.engine.specs.Journal.{Bytes, Engine, Performed, rejected, performed, Asked, reject, undoLast, apply, code}
-use Rattle.engine.specs.Journal.{Reply, refusal, reverted, answered, concat, init, cut, classify, cleared, unchanged, replay}
-use Rattle.engine.specs.Journal.{commandsIn, revertLast, undoIn, undo, write, act, execute}
+use Rattle.engine.specs.Engine.{Bytes, Engine, Performed, rejected, performed, Asked, reject, undoLast, carryOut, code, Reply}
+use Rattle.engine.specs.Engine.{refusal, reverted, completed, concat, init, cut, classify, unchanged}
+use Rattle.engine.specs.Replay.{cleared, replay, commandsIn, revertLast, undoIn, undo}
+use Rattle.engine.specs.Execute.{write, act, execute}
 use Rattle.engine.specs.Sessions.{Accepted}
 use Rattle.engine.specs.Instance.{engineOf}
-use Rattle.engine.specs.Execution.{OnSlot, refused, done, byteAt, unlessFull, unlessFaulty, afterSet, settingOf}
-use Rattle.engine.specs.Execution.{createFaults, setFaults, causeFaults, rescheduleFaults, pauseFaults}
-use Rattle.engine.specs.Execution.{performCreate, performSet, performRemove, performReschedule, performPause, performResume}
-use Rattle.engine.specs.Execution.{delivered, performDeliver, performOn, target, stored, perform}
+use Rattle.engine.specs.Execution.{OnSlot, refused, done, unlessFull, unlessFaulty, afterSet, performCreate, performSet}
+use Rattle.engine.specs.Execution.{performRemove, performReschedule, performPause, performResume, delivered, performDeliver}
+use Rattle.engine.specs.Execution.{performOn, target, stored, perform}
 use Rattle.engine.specs.Run.{endsRun}
 use Rattle.engine.specs.Answers.{answerOf}
 use Rattle.engine.specs.declared.state.ClockSlot.{ClockSlot}
-use Rattle.engine.specs.declared.state.Progress.{Progress}
+use Rattle.engine.specs.declared.state.SharedState.{SharedState}
 use Rattle.engine.specs.declared.state.Request.{Request}
 use Rattle.engine.specs.declared.state.EngineState.{EngineState}
 
@@ -90,7 +91,7 @@ set-goes : (k : SurvivalClock) (s : CauseSetting) (stream : List ℕ) (position 
 set-goes k s stream position =
     set-way k s stream position (λ r. Goes (r .number)) (λ cs n. refl) (λ cs n d. refl) (λ d. draw-goes stream position) refl
 
-module _ (stream : List ℕ) (n : ℕ) (slot : ClockSlot) (p : Progress) (c : List ℕ) where
+module _ (stream : List ℕ) (n : ℕ) (slot : ClockSlot) (p : SharedState) (c : List ℕ) where
   full-goes : (d : OnSlot) → GoesOn d → GoesOn (unlessFull n p c d)
   full-goes d h = either (leb (p .«applied_length» + length c) n) d (refused journalFull) h refl
 
@@ -149,7 +150,7 @@ module _ (stream : List ℕ) (n : ℕ) (slot : ClockSlot) (p : Progress) (c : Li
 abbrev pub ReplyGoes : Reply Answer → Type 0
 ReplyGoes (refusal number) = Refuses number
 ReplyGoes reverted = Unit {0}
-ReplyGoes (answered a) = a .number ≡ 0
+ReplyGoes (completed a) = a .number ≡ 0
 
 refusal-goes : (number : ℕ) → Refuses number → (eqb number 0 ≡ false) × (endsRun number ≡ false)
 refusal-goes number = go (eqb number 0) (endsRun number)
@@ -161,20 +162,20 @@ refusal-goes number = go (eqb number 0) (endsRun number)
 pub reply-goes : (r : Reply Answer) → ReplyGoes r → endsRun (answerOf r .number) ≡ false
 reply-goes (refusal number) h = refusal-goes number h .1
 reply-goes reverted h = refl
-reply-goes (answered a) h = ap endsRun h
+reply-goes (completed a) h = ap endsRun h
 
 -- the reply to a performed command
 abbrev pub performedReply : Performed EngineState Answer → Reply Answer
 performedReply (rejected number) = refusal number
-performedReply (performed t a) = answered a
+performedReply (performed t a) = completed a
 
 pub perform-goes : (stream : List ℕ) (n : ℕ) (s : EngineState) (c : List ℕ) → ReplyGoes (performedReply (perform stream n s c))
 unfolding perform
 perform-goes stream n s c =
-    go (performOn stream n (slotAt s (target (s .progress) c)) (s .progress) c)
-    (on-goes stream n (slotAt s (target (s .progress) c)) (s .progress) c)
+    go (performOn stream n (slotAt s (target (s .shared) c)) (s .shared) c)
+    (on-goes stream n (slotAt s (target (s .shared) c)) (s .shared) c)
   where
-    go : (d : OnSlot) → GoesOn d → ReplyGoes (performedReply (stored s (target (s .progress) c) d))
+    go : (d : OnSlot) → GoesOn d → ReplyGoes (performedReply (stored s (target (s .shared) c) d))
     go (refused number) h = h
     go (done slot p a) h = h
 
@@ -185,7 +186,7 @@ module _ (stream : List ℕ) (n : ℕ) (s : EngineState) (j : Bytes) where
   -- UNDO
   pub undo-goes : ReplyGoes (undo E s j .reply)
   unfolding undo
-  undo-goes = by-length (ltb 0 (s .progress .«applied_length»)) (commandsIn E (take (s .progress .«applied_length») j))
+  undo-goes = by-length (ltb 0 (s .shared .«applied_length»)) (commandsIn E (take (s .shared .«applied_length») j))
     where
       by-same : (b : Bool) (rest : EngineState) (k : Bytes)
           → ReplyGoes (cond b (record { reply = reverted; state = rest; journal = k }) (unchanged E s j replayFails) .reply)
@@ -196,7 +197,7 @@ module _ (stream : List ℕ) (n : ℕ) (s : EngineState) (j : Bytes) where
       by-states cs none rest = refl
       by-states cs (some all) none = refl
       by-states cs (some all) (some rest) =
-          by-same (sameState all s) rest (cleared E j (length (concat (init cs))) (s .progress .«applied_length»))
+          by-same (sameState all s) rest (cleared E j (length (concat (init cs))) (s .shared .«applied_length»))
 
       by-commands : (o : Option (List Bytes)) → ReplyGoes (undoIn E s j o .reply)
       by-commands none = refl
@@ -207,7 +208,7 @@ module _ (stream : List ℕ) (n : ℕ) (s : EngineState) (j : Bytes) where
       by-length false o = refl
 
   -- a command but UNDO
-  pub write-goes : (c : Bytes) → ReplyGoes (act E s j (apply c) .reply)
+  pub write-goes : (c : Bytes) → ReplyGoes (act E s j (carryOut c) .reply)
   write-goes c = go (perform stream n s c) (perform-goes stream n s c)
     where
       go : (d : Performed EngineState Answer) → ReplyGoes (performedReply d) → ReplyGoes (write E s j c d .reply)
@@ -225,12 +226,12 @@ module _ (stream : List ℕ) (n : ℕ) (s : EngineState) (j : Bytes) where
   goes-zero : (r : Reply Answer) → ReplyGoes r → Zero r
   goes-zero (refusal number) h = refused-not-zero number (refusal-goes number h .0)
   goes-zero reverted h = ((λ e. tt), (λ x. refl))
-  goes-zero (answered a) h = ((λ e. tt), (λ x. h))
+  goes-zero (completed a) h = ((λ e. tt), (λ x. h))
 
   abbrev ZeroAsked : Asked → Type 0
   ZeroAsked (reject number) = eqb number 0 ≡ false
   ZeroAsked undoLast = Unit {0}
-  ZeroAsked (apply c) = Unit {0}
+  ZeroAsked (carryOut c) = Unit {0}
 
   classified : (i : Bytes) → ZeroAsked (classify E s i)
   unfolding classify
@@ -240,7 +241,7 @@ module _ (stream : List ℕ) (n : ℕ) (s : EngineState) (j : Bytes) where
     where
       go : (v l w f u : Bool)
           → ZeroAsked (cond v
-          (cond l (cond w (cond f (cond u undoLast (apply (cut E i))) (reject cutShort)) (reject noCommand)) (reject cutShort))
+          (cond l (cond w (cond f (cond u undoLast (carryOut (cut E i))) (reject cutShort)) (reject noCommand)) (reject cutShort))
           (reject invalidState))
       go false l w f u = refl
       go true false w f u = refl
@@ -256,4 +257,4 @@ module _ (stream : List ℕ) (n : ℕ) (s : EngineState) (j : Bytes) where
       go : (k : Asked) → ZeroAsked k → Zero (act E s j k .reply)
       go (reject number) h = refused-not-zero number h
       go undoLast h = goes-zero (undo E s j .reply) undo-goes
-      go (apply c) h = goes-zero (act E s j (apply c) .reply) (write-goes c)
+      go (carryOut c) h = goes-zero (act E s j (carryOut c) .reply) (write-goes c)

@@ -1,4 +1,4 @@
--- An accepted command of a batch run that the next input, an UNDO, reverts: after both, what is left of the run goes on from the state and
+-- An accepted command of a batch run that the next input, an UNDO, reverts: after both, what is returned of the run goes on from the state and
 -- the journal before it.
 use mathlib.Core.Path.{_≡_, refl, sym, ap, _∙_}
 use mathlib.Core.Bool.{Bool, true, false, cond, _&&_}
@@ -12,13 +12,14 @@ use Rattle.hazards.specs.Answers.{answerWidth, noEvent, withAnswer}
 use Rattle.engine.specs.Commands as commands
 use Rattle.engine.specs.Commands.{widthOf}
 use Rattle.engine.specs.State.{slotAt, withSlot}
-use Rattle.engine.specs.Journal.{Bytes, code, undo}
+use Rattle.engine.specs.Engine.{Bytes, code}
+use Rattle.engine.specs.Replay.{undo}
 use Rattle.engine.specs.Execution.{performOn, target}
-use Rattle.engine.specs.ExecutionCode.{onSlotOf}
-use Rattle.engine.specs.Answers.{after, left}
+use Rattle.engine.specs.ExecutionInternals.{onSlotOf}
+use Rattle.engine.specs.Answers.{after, returned}
 use Rattle.engine.specs.Instance.{engineOf}
 use Rattle.engine.specs.Run.{Ran}
-use Rattle.engine.specs.RunCode.{isReverted, bothAnswered}
+use Rattle.engine.specs.RunInternals.{isReverted, bothAnswered}
 use Rattle.engine.specs.declared.execution.SlotOutcome.{SlotOutcome}
 use Rattle.engine.specs.declared.state.ClockSlot.{ClockSlot}
 use Rattle.engine.specs.declared.state.EngineState.{EngineState}
@@ -67,14 +68,14 @@ undo-wide i e = ap widthOf e
 
 module _ (bytes stream : Bytes) (n size : ℕ) (all : Ran) {j answers result : Bytes} {s : EngineState} {count at : ℕ}
     (x : Input bytes stream n size all j answers result s count at) (w : ℕ) (ew : w ≡ widthOf (code (drop at bytes)))
-    (u : code (drop at bytes) ≡ commands.undo → ⊥) (o : SlotOutcome) (t : ℕ) (named : t ≡ target (s .progress) (partOf bytes at w))
+    (u : code (drop at bytes) ≡ commands.undo → ⊥) (o : SlotOutcome) (t : ℕ) (named : t ≡ target (s .shared) (partOf bytes at w))
     (slot : ClockSlot) (there : t < 16 → slot ≡ slotAt s t)
-    (e : onSlotOf o ≡ performOn stream (length j) slot (s .progress) (partOf bytes at w)) where
+    (e : onSlotOf o ≡ performOn stream (length j) slot (s .shared) (partOf bytes at w)) where
   abbrev next : EngineState
-  next = withSlot s t (o .slot) (o .progress)
+  next = withSlot s t (o .slot) (o .shared)
 
   abbrev pasted : Bytes
-  pasted = paste j (s .progress .«applied_length») (partOf bytes at w) (length (partOf bytes at w))
+  pasted = paste j (s .shared .«applied_length») (partOf bytes at w) (length (partOf bytes at w))
 
   abbrev first : Bytes
   first = withAnswer answers (answerWidth * count) (o .answer)
@@ -98,7 +99,7 @@ module _ (bytes stream : Bytes) (n size : ℕ) (all : Ran) {j answers result : B
           running =
               next-performed bytes stream n size all x w ew u o t named slot there e
               (sym
-              (answer-copied (o .number) (o .answer) (s .progress .«applied_length») j answers (answerWidth * count)
+              (answer-copied (o .number) (o .answer) (s .shared .«applied_length») j answers (answerWidth * count)
               (partOf bytes at w) z))
               pasted-length (first-length ∙ x .running .same-answers) z;
           more = within;
@@ -107,7 +108,7 @@ module _ (bytes stream : Bytes) (n size : ℕ) (all : Ran) {j answers result : B
           long = omega (arith, one, l, within);
         }
 
-    undone : left (onlyNumber 0 s) j ≡ after stream (length pasted) (undo (engineOf stream (length pasted)) next pasted)
+    undone : returned (onlyNumber 0 s) j ≡ after stream (length pasted) (undo (engineOf stream (length pasted)) next pasted)
     undone =
         sym
         (ap (λ (m : ℕ). after stream m (undo (engineOf stream m) next pasted)) pasted-length

@@ -11,11 +11,11 @@ use Rattle.hazards.specs.Fields.{bytesOf, withField}
 use Rattle.hazards.specs.Answers.{answerWidth, noEvent, withAnswer}
 use Rattle.hazards.proofs.Bytes.{bytesOf-length}
 use Rattle.hazards.proofs.Overwrite.{over, over-length, over-next, field-over}
-use Rattle.clocks.proofs.Cases.{either-way}
+use Rattle.hazards.proofs.Cases.{by-test}
 use Rattle.engine.specs.Commands.{widthOf}
 use Rattle.engine.specs.Refusals.{noCommand, cutShort, answersFull}
-use Rattle.engine.specs.Journal.{Bytes, code}
-use Rattle.engine.specs.RunCode.{Stop, stop, stopAt, endNumber}
+use Rattle.engine.specs.Engine.{Bytes, code}
+use Rattle.engine.specs.RunInternals.{Stop, stop, stopAt, endNumber}
 
 -- ---- the refusal of an input that ends a run, by the tests on the input
 
@@ -75,10 +75,10 @@ module _ (i answers result : Bytes) (answered read : ℕ) where
       (bytesOf 8 (answered + 1) ++ bytesOf 8 read)))
       → P (stopAt i answers result answered read)
   stop-way P full whole part =
-      either-way (leb (answerWidth * answered + answerWidth) (length answers))
+      by-test (leb (answerWidth * answered + answerWidth) (length answers))
       (λ l.
       let room : answerWidth * answered + answerWidth ≤ length answers = leb-true _ _ l in
-      either-way (eqb (endNumber i) 0)
+      by-test (eqb (endNumber i) 0)
       (λ z. subst P (stop-not room 0 (sym (eqb-true _ _ z)) refl) (whole room (eqb-true _ _ z)))
       (λ z. subst P (stop-number room (endNumber i) refl (eqb-false _ _ z)) (part room (eqb-false _ _ z))))
       (λ l. subst P (stop-full (leb-false _ _ l)) (full (leb-false _ _ l)))

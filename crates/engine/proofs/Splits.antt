@@ -10,11 +10,11 @@ use lib.ListN.{length, take, drop, length-append, length-drop, List·getD-append
 use lib.Seq.{take-all, take-at, drop-at, length-take-le, getD-take}
 use lib.Dec.{ltb, leb}
 use borrow.Author.Tests.{ltb-true, leb-true, lt-ltb, le-leb}
-use Rattle.engine.specs.Journal.{Bytes, Performed, rejected, performed, Engine, Asked, reject, undoLast, apply, code}
-use Rattle.engine.specs.Journal.{concat, init, Outcome, cut, classify, unchanged, stateOf, afterOne, replay, isWhole, prepend}
-use Rattle.engine.specs.Journal.{splitFrom, commandsIn, revertLast, undoIn, undo}
+use Rattle.engine.specs.Engine.{Bytes, Performed, rejected, performed, Engine, Asked, reject, undoLast, carryOut, code, concat, init}
+use Rattle.engine.specs.Engine.{Outcome, cut, classify, unchanged, isWhole}
+use Rattle.engine.specs.Replay.{stateOf, afterOne, replay, prepend, splitFrom, commandsIn, revertLast, undoIn, undo}
 use Rattle.engine.specs.Refusals.{nothingApplied}
-use Rattle.engine.specs.ReplayCode.{widthAfter, commandAt, Replayed, fails, ends, replayFrom, replayAll, revertTo, undoByScan}
+use Rattle.engine.specs.ReplayInternals.{widthAfter, commandAt, ReplayEnd, fails, ends, replayFrom, replayAll, revertTo, undoByScan}
 use Rattle.engine.proofs.CommandLists.{Whole, AllWhole}
 use Rattle.engine.proofs.Conjunctions.{both-true}
 use Rattle.engine.proofs.Replays.{Asks, asks, replay-none}
@@ -91,12 +91,12 @@ module _ (E : Engine) where
 
   -- ---- the scan of the bytes, by the commands that they hold
 
-  abbrev inCommands : E .State → E .State → ℕ → ℕ → List Bytes → Replayed E
+  abbrev inCommands : E .State → E .State → ℕ → ℕ → List Bytes → ReplayEnd E
   inCommands s prior last at [] = ends s prior last
   inCommands s prior last at (c ∷ cs) =
       elim (afterOne E s (classify E s c)) [ none ↦ fails | some t ↦ inCommands t s at (at + length c) cs ]
 
-  abbrev inSplit : E .State → E .State → ℕ → ℕ → Option (List Bytes) → Replayed E
+  abbrev inSplit : E .State → E .State → ℕ → ℕ → Option (List Bytes) → ReplayEnd E
   inSplit s prior last at none = fails
   inSplit s prior last at (some cs) = inCommands s prior last at cs
 
@@ -135,10 +135,10 @@ module _ (E : Engine) where
       Rest : Type 0
       Rest = (t : E .State) (l a : ℕ) (j : Bytes) → replayFrom E k t s l a j ≡ inSplit t s l a (splitFrom E k j)
 
-      here : Option (E .State × ℕ) → Replayed E
+      here : Option (E .State × ℕ) → ReplayEnd E
       here o = elim o [ none ↦ fails | some p ↦ replayFrom E k (p .0) s at (at + p .1) (drop (p .1) i) ]
 
-      next : Option (E .State) → Option (List Bytes) → Replayed E
+      next : Option (E .State) → Option (List Bytes) → ReplayEnd E
       next o none = fails
       next o (some cs) = elim o [ none ↦ fails | some t ↦ inCommands t s at (at + length (cut E i)) cs ]
 
@@ -168,7 +168,7 @@ module _ (E : Engine) where
           → here (commandAt E s q) ≡ next (afterOne E s q) (splitFrom E k (drop w i))
       by-ask (reject m) e ih = next-none (splitFrom E k (drop w i))
       by-ask undoLast e ih = next-none (splitFrom E k (drop w i))
-      by-ask (apply c) e ih =
+      by-ask (carryOut c) e ih =
           let a : Asks E s i c = asks E s i c e in
           let ec : cut E i ≡ c = cc (a .cutting) in
           by-did c ec (ap length (sym ec) ∙ length-take-le w i (a .long)) (E .perform s c) ih
@@ -176,7 +176,7 @@ module _ (E : Engine) where
       not-whole : (q : Asked) → classify E s i ≡ q → isWhole (E .width) i ≡ false → here (commandAt E s q) ≡ fails
       not-whole (reject m) e f = refl
       not-whole undoLast e f = refl
-      not-whole (apply c) e f =
+      not-whole (carryOut c) e f =
           let a : Asks E s i c = asks E s i c e in
           absurd (true≢false (sym (wide-whole i (record { wide = a .wide; long = a .long })) ∙ f))
 
@@ -189,7 +189,7 @@ module _ (E : Engine) where
           ∙ next-split (splitFrom E k (drop w i))
 
   -- the states that commands give, and the place of the last
-  abbrev pub byStates : ℕ → Option (E .State) → Option (E .State) → Replayed E
+  abbrev pub byStates : ℕ → Option (E .State) → Option (E .State) → ReplayEnd E
   byStates last none rest = fails
   byStates last (some all) none = fails
   byStates last (some all) (some rest) = ends all rest last
@@ -199,7 +199,7 @@ module _ (E : Engine) where
   unfolding replay
   in-states s prior last at c [] = go (afterOne E s (classify E s c))
     where
-      go : (o : Option (E .State)) → _≡_ {A = Replayed E} (elim o [ none ↦ fails | some t ↦ ends t s at ]) (byStates (at + 0) o (some s))
+      go : (o : Option (E .State)) → _≡_ {A = ReplayEnd E} (elim o [ none ↦ fails | some t ↦ ends t s at ]) (byStates (at + 0) o (some s))
       go none = refl
       go (some t) = let z : at ≡ at + 0 = omega arith in ap (ends t s) z
   in-states s prior last at c (d ∷ cs) = go (afterOne E s (classify E s c)) (λ t. in-states t s at (at + length c) d cs)
@@ -207,7 +207,7 @@ module _ (E : Engine) where
       go : (o : Option (E .State))
           → ((t : E .State) → inCommands t s at (at + length c) (d ∷ cs)
           ≡ byStates (at + length c + length (concat (init (d ∷ cs)))) (replay E (some t) (d ∷ cs)) (replay E (some t) (init (d ∷ cs))))
-          → _≡_ {A = Replayed E} (elim o [ none ↦ fails | some t ↦ inCommands t s at (at + length c) (d ∷ cs) ])
+          → _≡_ {A = ReplayEnd E} (elim o [ none ↦ fails | some t ↦ inCommands t s at (at + length c) (d ∷ cs) ])
           (byStates (at + length (c ++ concat (init (d ∷ cs)))) (replay E o (d ∷ cs)) (replay E o (init (d ∷ cs))))
       go none ih =
           ap (λ (o : Option (E .State)). byStates (at + length (c ++ concat (init (d ∷ cs)))) o (replay E none (init (d ∷ cs))))
@@ -217,7 +217,7 @@ module _ (E : Engine) where
           omega (arith, length-append c (concat (init (d ∷ cs)))) in
           ih t ∙ ap (λ (l : ℕ). byStates l (replay E (some t) (d ∷ cs)) (replay E (some t) (init (d ∷ cs)))) z
 
-  abbrev pub replayedIn : Option (List Bytes) → Replayed E
+  abbrev pub replayedIn : Option (List Bytes) → ReplayEnd E
   replayedIn none = fails
   replayedIn (some cs) =
       byStates (length (concat (init cs))) (replay E (some (E .opened)) cs) (replay E (some (E .opened)) (init cs))

@@ -23,7 +23,7 @@ use Rattle.clocks.specs.declared.clocks.SurvivalClock.{SurvivalClock}
 use Rattle.engine.specs.State.{emptySlot, emptyRequest}
 use Rattle.engine.specs.declared.state.ClockSlot.{ClockSlot}
 use Rattle.engine.specs.declared.state.Request.{Request}
-use Rattle.engine.specs.declared.state.Progress.{Progress}
+use Rattle.engine.specs.declared.state.SharedState.{SharedState}
 use Rattle.engine.specs.declared.state.EngineState.{EngineState}
 
 -- ---- single values
@@ -112,8 +112,8 @@ sameRequest a b =
     && (eqb (a .ticks .high) (b .ticks .high)
     && (sameInteger (a .priority) (b .priority) && eqb (a .index) (b .index))))
 
-unfoldable pub sameProgress : Progress → Progress → Bool
-sameProgress a b =
+unfoldable pub sameShared : SharedState → SharedState → Bool
+sameShared a b =
     everyBelow 16 (λ i. sameRequest (getD (a .queue) i emptyRequest) (getD (b .queue) i emptyRequest))
     && (eqb (a .queued) (b .queued)
     && (eqb (a .«request_count») (b .«request_count»)
@@ -122,4 +122,4 @@ sameProgress a b =
 unfoldable pub sameState : EngineState → EngineState → Bool
 sameState a b =
     everyBelow 16 (λ i. sameSlot (getD (a .slots) i emptySlot) (getD (b .slots) i emptySlot))
-    && sameProgress (a .progress) (b .progress)
+    && sameShared (a .shared) (b .shared)

@@ -8,8 +8,9 @@ use Rattle.hazards.specs.Fields.{bytesOf}
 use Rattle.hazards.specs.Answers.{answerWidth, withAnswer}
 use Rattle.engine.specs.Commands.{widthOf}
 use Rattle.engine.specs.Refusals.{noCommand, cutShort, answersFull, badBuffers}
-use Rattle.engine.specs.State.{openedState}
-use Rattle.engine.specs.Journal.{Bytes, isWhole, execute}
+use Rattle.engine.specs.Opening.{openedState}
+use Rattle.engine.specs.Engine.{Bytes, isWhole}
+use Rattle.engine.specs.Execute.{execute}
 use Rattle.engine.specs.Instance.{engineOf}
 use Rattle.engine.specs.Answers.{AfterInput, after}
 use Rattle.engine.specs.declared.state.EngineState.{EngineState}

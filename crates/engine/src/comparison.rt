@@ -5,11 +5,11 @@ ghost use Rattle.clocks.specs.Channels.{emptyChannel};
 ghost use Rattle.engine.specs.State.{emptySlot, emptyRequest};
 ghost use Rattle.engine.specs.Comparison.{sameFlag, sameFloat, everyBelow, sameFloats};
 ghost use Rattle.engine.specs.Comparison.{sameHazard, sameIntervals, sameChannel, sameEntity, sameEvent, sameWinner, sameSettings};
-ghost use Rattle.engine.specs.Comparison.{sameChannels, sameSchedule, sameClock, sameSlot, sameRequest, sameProgress, sameState};
+ghost use Rattle.engine.specs.Comparison.{sameChannels, sameSchedule, sameClock, sameSlot, sameRequest, sameShared, sameState};
 use crate::state::ClockSlot;
 use crate::state::EngineState;
-use crate::state::Progress;
 use crate::state::Request;
+use crate::state::SharedState;
 use clocks::channels::HazardChannelState;
 use clocks::clocks::EntityId;
 use clocks::clocks::ScheduledEvent;
@@ -172,7 +172,7 @@ fn same_request(a: Request, b: Request) -> bool
     clock & (low & (high & (priority & (a.index == b.index))))
 }
 
-fn every_request(a: Progress, b: Progress) -> bool
+fn every_request(a: SharedState, b: SharedState) -> bool
     ensures { λ r. ⌜ r ≡ everyBelow 16 (λ i. sameRequest (getD (a .queue) i emptyRequest) (getD (b .queue) i emptyRequest)) ⌝ }
 {
     let mut i: usize = 0;
@@ -185,8 +185,8 @@ fn every_request(a: Progress, b: Progress) -> bool
     true
 }
 
-fn same_progress(a: Progress, b: Progress) -> bool
-    ensures { λ r. ⌜ r ≡ sameProgress a b ⌝ }
+fn same_shared(a: SharedState, b: SharedState) -> bool
+    ensures { λ r. ⌜ r ≡ sameShared a b ⌝ }
 {
     let requests = every_request(a, b);
     let queued = a.queued == b.queued;
@@ -212,5 +212,5 @@ fn every_slot(a: EngineState, b: EngineState) -> bool
 pub fn same_state(a: EngineState, b: EngineState) -> bool
     ensures { λ r. ⌜ r ≡ sameState a b ⌝ }
 {
-    every_slot(a, b) & same_progress(a.progress, b.progress)
+    every_slot(a, b) & same_shared(a.shared, b.shared)
 }

@@ -1,7 +1,7 @@
 // The journal's bytes: a command copied into the free part, bytes cleared, and the part that the applied commands fill.
 ghost use mathlib.Core.Path.{_≡_};
 ghost use Prim.Native.Nat.{min};
-ghost use Rattle.engine.specs.Parts.{copiedInto, clearedFront, part, appliedPart};
+ghost use Rattle.engine.specs.Journal.{copiedInto, clearedFront, part, appliedPart};
 
 // The command over the first bytes of the free part; one that is longer changes nothing.
 pub fn copy_into(free: &mut [u8], command: &[u8])

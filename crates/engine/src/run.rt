@@ -9,7 +9,7 @@ ghost use Rattle.hazards.specs.Fields.{bytesOf};
 ghost use Rattle.hazards.specs.Answers.{answerWidth};
 ghost use Rattle.engine.specs.Refusals.{nothingApplied};
 ghost use Rattle.engine.specs.Run.{runOf, ran};
-ghost use Rattle.engine.specs.RunCode.{stop, endNumber, stopAt, answeredBy, answerAt, isReverted, bothAnswered, openedRun};
+ghost use Rattle.engine.specs.RunInternals.{stop, endNumber, stopAt, journalAndAnswers, answerAt, isReverted, bothAnswered, openedRun};
 use crate::execution::perform_on;
 use hazards::answers::ANSWER_WIDTH;
 use hazards::answers::Answer;
@@ -91,7 +91,7 @@ fn answer_at(
     command: &[u8],
 )
     requires { ⌜ (refusal ≡ 0 → free + length (now command) ≤ length (now journal)) ⌝ }
-    ensures { λ _. ⌜ answeredBy (now (journal .exit)) (now (answers .exit))
+    ensures { λ _. ⌜ journalAndAnswers (now (journal .exit)) (now (answers .exit))
         ≡ answerAt refusal answer free (now (journal .entry)) (now (answers .entry)) place (now (command .entry)) ⌝ }
 {
     if refusal != 0 {
@@ -175,15 +175,15 @@ fn run_commands(
             continue;
         }
         if stale {
-            state = crate::replay::replayed(stream, journal.len(), &journal[..applied]);
+            state = crate::replay::replayed_state(stream, journal.len(), &journal[..applied]);
             stale = false;
         }
         let command = &commands[start..at];
-        let target = crate::execution::target(state.progress, command);
+        let target = crate::execution::target(state.shared, command);
         // A clock above 15 is refused before its slot is looked at, so any slot does.
         let near = if target < 16 { target } else { 15 };
         let size = journal.len();
-        let outcome = perform_on(state.slots[near], state.progress, stream, size, command);
+        let outcome = perform_on(state.slots[near], state.shared, stream, size, command);
         let refusal = outcome.number;
         let answer = outcome.answer;
         if answer_reverted(refusal, answer, &commands[at..], answers, place) {
@@ -195,9 +195,9 @@ fn run_commands(
         if refusal == 0 {
             let moved = outcome.slot;
             state.slots[target] = moved;
-            let next = outcome.progress;
-            state.progress = next;
-            applied = state.progress.applied_length;
+            let next = outcome.shared;
+            state.shared = next;
+            applied = state.shared.applied_length;
         }
     }
     finish(result, answered, at);

@@ -3,6 +3,7 @@ pub mod AcceptedFlags
 pub mod AcceptedHazards
 pub mod AnswerBytes
 pub mod Bounds
+pub mod Cases
 pub mod Bytes
 pub mod CheckLaws
 pub mod DrawLaws

@@ -35,7 +35,7 @@ use Rattle.hazards.specs.declared.sampler.CompetingCause.{CompetingCause
 use Rattle.hazards.specs.declared.sampler.SampleSettings.{SampleSettings}
 use Rattle.hazards.proofs.AcceptedFlags.{accepted, joined-accepted}
 use Rattle.hazards.proofs.AcceptedHazards.{not-false, accepted-sound}
-use Rattle.hazards.proofs.Bytes.{by-test}
+use Rattle.hazards.proofs.Cases.{by-test}
 use Rattle.hazards.proofs.HazardBounds.{hazard-upto, cumulative-upto}
 use Rattle.hazards.proofs.Limits.{positive-rate-upto, time-upto, time-stays}
 use Rattle.hazards.proofs.ListLaws.{foldl-append}

@@ -19,7 +19,7 @@ use Rattle.hazards.specs.Draws.{streamLength, thresholdAt, drawAt}
 use Rattle.hazards.specs.Ties.{candidateAfter, tieBreakerOf, earlier, earliest}
 use Rattle.hazards.specs.Sampler.{faultsOfAll, settingsFaults, drawsRefusal, sampleRefusal, inCauseOrder}
 use Rattle.hazards.specs.Sampler.{candidates, censoredAt, sampledEvent, sampleNext}
-use Rattle.hazards.specs.SamplerCode.{examinedRecord, drawnThreshold}
+use Rattle.hazards.specs.SamplerInternals.{examinedRecord, drawnThreshold}
 use Rattle.hazards.specs.declared.refusals.Faults.{Faults}
 use Rattle.hazards.specs.declared.rates.Wait.{Wait}
 use Rattle.hazards.specs.declared.rates.Wait.the-variants.{After, Never}

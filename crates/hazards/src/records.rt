@@ -4,7 +4,7 @@ ghost use mathlib.Core.Bool.{false};
 ghost use Rattle.hazards.specs.Refusals.{joined, identifierFaultIf, isReserved};
 ghost use Rattle.hazards.specs.Rates.{usesPairs};
 ghost use Rattle.hazards.specs.Checks.{rateOfKind, fieldsFrom, hazardFaults, hazardOf};
-ghost use Rattle.hazards.specs.SamplerCode.{examinedRecord};
+ghost use Rattle.hazards.specs.SamplerInternals.{examinedRecord};
 use crate::rates::Wait;
 use crate::refusals::Faults;
 use crate::sampler::CompetingCause;

@@ -2,7 +2,7 @@
 use mathlib.Core.Path.{sym, _∙_}
 use borrow.Author.Needs.{needs}
 use borrow.Author.Tests.{ne-eqb}
-use Rattle.engine.specs.Execution.{faultsOf}
+use Rattle.engine.specs.Commands.{faultsOf}
 use Rattle.engine.proofs.commands.faults.Statement.{statement}
 use Rattle.engine.proofs.commands.faults.Tie as tie
 

@@ -6,8 +6,8 @@ use native.Mathlib.Omega.{arith}
 use borrow.Author.Needs.{needs}
 use lib.ListN.{length, drop, length-drop}
 use Rattle.engine.specs.Commands.{widthOf}
-use Rattle.engine.specs.Journal.{code}
-use Rattle.engine.specs.ReplayCode.{ends, replayAll}
+use Rattle.engine.specs.Engine.{code}
+use Rattle.engine.specs.ReplayInternals.{ends, replayAll}
 use Rattle.engine.specs.Instance.{engineOf}
 use Rattle.engine.specs.declared.state.EngineState.{EngineState}
 use Rattle.engine.proofs.JournalBytes.{code-at}

@@ -7,7 +7,7 @@ use borrow.Author.Needs.{needs}
 use lib.ListN.{length}
 use Rattle.hazards.specs.Fields.{bytesOf}
 use Rattle.hazards.specs.Answers.{answerWidth, withAnswer}
-use Rattle.engine.specs.RunCode.{stop}
+use Rattle.engine.specs.RunInternals.{stop}
 use Rattle.engine.proofs.RunStops.{stop-full, stop-not, stop-number}
 use Rattle.engine.proofs.run.end_run.Statement.{statement}
 use Rattle.engine.proofs.run.end_run.Tie as tie

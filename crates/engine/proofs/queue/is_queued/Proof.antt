@@ -1,21 +1,21 @@
--- `queue::is_there` meets its contract: at each turn the answer among the requests from `i` on is the answer among all.
+-- `queue::is_queued` meets its contract: at each turn the answer among the requests from `i` on is the answer among all.
 use mathlib.Core.Path.{refl, _≡_, sym, _∙_}
 use Prim.Native.Nat.{_≤_, _-_}
 use native.Mathlib.Omega.{arith}
 use lib.ListN.{length, length-map, drop}
 use borrow.Author.Needs.{needs}
 use Rattle.engine.specs.State.{queuedRequests}
-use Rattle.engine.specs.Queue.{isThere}
+use Rattle.engine.specs.Queue.{isQueued}
 use Rattle.engine.proofs.QueueLaws.{queued-next, queued-end, there-here, there-later, there-none}
-use Rattle.engine.proofs.queue.is_there.Statement.{statement}
-use Rattle.engine.proofs.queue.is_there.Tie as tie
+use Rattle.engine.proofs.queue.is_queued.Statement.{statement}
+use Rattle.engine.proofs.queue.is_queued.Tie as tie
 
 abbrev Inv-loop : tie.InvT-loop
-Inv-loop index progress used i₀ i =
-    (i ≤ used) × (isThere index (drop i (queuedRequests progress)) ≡ isThere index (queuedRequests progress))
+Inv-loop index shared used i₀ i =
+    (i ≤ used) × (isQueued index (drop i (queuedRequests shared)) ≡ isQueued index (queuedRequests shared))
 
 abbrev μ-loop : tie.MeasureT-loop
-μ-loop index progress used i₀ i = used - i
+μ-loop index shared used i₀ i = used - i
 
 used-places-requires : tie.Need-used-places-requires Inv-loop μ-loop
 used-places-requires c κs = search needs
@@ -60,8 +60,8 @@ returns-2 c =
     let end = queued-end (p .queue) (p .queued) sixteen (c .before .loop .i) (omega (arith, c .before .before .used-places .ensures)) in
     sym (there-none (c .before .before .before .args .index) end) ∙ c .before .loop .inv .1
 
-pub is-there-spec : {M : Type 1} → statement M
-is-there-spec =
+pub is-queued-spec : {M : Type 1} → statement M
+is-queued-spec =
     tie.close
     (tie.spec
     Inv-loop

@@ -10,9 +10,9 @@ use Rattle.hazards.specs.Answers.{answerWidth, noEvent, withAnswer}
 use Rattle.hazards.specs.declared.answers.Answer.{Answer}
 use Rattle.engine.specs.Commands.{widthOf}
 use Rattle.engine.specs.Refusals.{noCommand, cutShort, answersFull}
-use Rattle.engine.specs.State.{openedState}
+use Rattle.engine.specs.Opening.{openedState}
 use Rattle.engine.specs.Commands as commands
-use Rattle.engine.specs.Journal.{Bytes, code}
+use Rattle.engine.specs.Engine.{Bytes, code}
 use Rattle.engine.specs.Run.{Ran, runFrom}
 
 -- the number that ends a run, or 0, with the answers and the result
@@ -45,19 +45,19 @@ stopAt input answers result answered read =
     (stop answersFull answers (bytesOf 8 answered ++ bytesOf 8 read))
 
 -- the journal and the answers after a command
-pub record Answered : Type 0 where
+pub record JournalAndAnswers : Type 0 where
   pub journal : Bytes
   pub answers : Bytes
 
 -- as the code leaves them
-abbrev pub answeredBy : Bytes → Bytes → Answered
-answeredBy journal answers = record { journal = journal; answers = answers }
+abbrev pub journalAndAnswers : Bytes → Bytes → JournalAndAnswers
+journalAndAnswers journal answers = record { journal = journal; answers = answers }
 
 -- a refusal is answered by its number alone; an accepted command is copied into the free part
-abbrev pub answerAt : ℕ → Answer → ℕ → Bytes → Bytes → ℕ → Bytes → Answered
+abbrev pub answerAt : ℕ → Answer → ℕ → Bytes → Bytes → ℕ → Bytes → JournalAndAnswers
 answerAt number a free journal answers place c =
-    cond (eqb number 0) (answeredBy (paste journal free c (length c)) (withAnswer answers place a))
-    (answeredBy journal (withAnswer answers place (noEvent number)))
+    cond (eqb number 0) (journalAndAnswers (paste journal free c (length c)) (withAnswer answers place a))
+    (journalAndAnswers journal (withAnswer answers place (noEvent number)))
 
 -- whether the next input is an UNDO that reverts a command that was accepted, and its answer has room
 abbrev pub isReverted : ℕ → Bytes → Bytes → ℕ → Bool

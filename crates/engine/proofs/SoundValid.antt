@@ -1,4 +1,4 @@
--- The opened state is good, and a good state passes refusal 1's test.
+-- The opened state is sound, and a sound state passes refusal 1's test.
 use mathlib.Core.Path.{_≡_, refl, sym}
 use mathlib.Core.Bool.{true, true≢false}
 use mathlib.Core.List.{List}
@@ -9,14 +9,15 @@ use lib.ListN.{getD, replicate}
 use Rattle.hazards.specs.Lists.{all}
 use Rattle.hazards.specs.Draws.{streamLength}
 use Rattle.clocks.proofs.Sound.{Each, none, next}
-use Rattle.clocks.proofs.Cases.{either-way}
+use Rattle.hazards.proofs.Cases.{by-test}
 use Rattle.clocks.proofs.SoundValid.{sound-valid}
-use Rattle.engine.specs.State.{emptySlot, openedState, slotAt}
-use Rattle.engine.specs.Validation.{validSlot, validRequest, distinct, validQueue, validProgress, validState}
+use Rattle.engine.specs.State.{emptySlot, slotAt}
+use Rattle.engine.specs.Opening.{openedState}
+use Rattle.engine.specs.Validation.{validSlot, validRequest, distinct, validQueue, validShared, validState}
 use Rattle.engine.specs.declared.state.ClockSlot.{ClockSlot}
 use Rattle.engine.specs.declared.state.Request.{Request}
 use Rattle.engine.specs.declared.state.EngineState.{EngineState}
-use Rattle.engine.proofs.Good.{SoundSlot, GoodRequest, Good}
+use Rattle.engine.proofs.SoundState.{SoundSlot, SoundRequest, SoundState}
 
 -- ---- opening
 
@@ -29,9 +30,9 @@ getD-replicate zero i a = refl
 getD-replicate (suc n) zero a = refl
 getD-replicate (suc n) (suc i) a = getD-replicate n i a
 
-pub opened-good : (stream : List ℕ) (n : ℕ) → Good stream n openedState
+pub opened-sound : (stream : List ℕ) (n : ℕ) → SoundState stream n openedState
 unfolding openedState distinct
-opened-good stream n = record {
+opened-sound stream n = record {
   slots = refl;
   clocks = each-replicate 16 emptySlot (λ h. absurd (true≢false (sym h)));
   places = refl;
@@ -48,10 +49,10 @@ slots-valid : {slots : List ClockSlot} → Each SoundSlot slots → all validSlo
 unfolding all validSlot
 slots-valid none = refl
 slots-valid (next {x} s ss) =
-    either-way (x .present) (λ e. rw (e, sound-valid (x .clock) (s e), slots-valid ss)) (λ e. rw (e, slots-valid ss))
+    by-test (x .present) (λ e. rw (e, sound-valid (x .clock) (s e), slots-valid ss)) (λ e. rw (e, slots-valid ss))
 
 module _ (s : EngineState) where
-  request-valid : (r : Request) → GoodRequest (slotAt s) (s .progress .«request_count») r → validRequest s r ≡ true
+  request-valid : (r : Request) → SoundRequest (slotAt s) (s .shared .«request_count») r → validRequest s r ≡ true
   unfolding validRequest
   request-valid r g =
       rw (
@@ -60,18 +61,18 @@ module _ (s : EngineState) where
         g .named,
         eq-eqb (r .index) (r .index) refl,
         g .winner,
-        lt-ltb (r .index) (s .progress .«request_count») (g .index),
+        lt-ltb (r .index) (s .shared .«request_count») (g .index),
       )
 
-  requests-valid : {q : List Request} → Each (GoodRequest (slotAt s) (s .progress .«request_count»)) q → all (validRequest s) q ≡ true
+  requests-valid : {q : List Request} → Each (SoundRequest (slotAt s) (s .shared .«request_count»)) q → all (validRequest s) q ≡ true
   unfolding all
   requests-valid none = refl
   requests-valid (next {x} g gs) = rw (request-valid x g, requests-valid gs)
 
-  pub good-valid : (stream : List ℕ) (n : ℕ) → Good stream n s → validState stream n s ≡ true
-  unfolding validState validQueue validProgress
-  good-valid stream n g =
-      let p = s .progress in
+  pub sound-state-valid : (stream : List ℕ) (n : ℕ) → SoundState stream n s → validState stream n s ≡ true
+  unfolding validState validQueue validShared
+  sound-state-valid stream n g =
+      let p = s .shared in
       rw (
         slots-valid (g .clocks),
         le-leb (p .queued) 16 (g .queued),

@@ -1,8 +1,8 @@
--- `replay::replayed` meets its contract.
+-- `replay::replayed_state` meets its contract.
 use borrow.Author.Needs.{needs}
 use Rattle.engine.proofs.ExecuteLaws.{replay-state}
-use Rattle.engine.proofs.replay.replayed.Statement.{statement}
-use Rattle.engine.proofs.replay.replayed.Tie as tie
+use Rattle.engine.proofs.replay.replayed_state.Statement.{statement}
+use Rattle.engine.proofs.replay.replayed_state.Tie as tie
 
 replay-all-requires : tie.Need-replay-all-requires
 replay-all-requires c κs = search needs
@@ -14,8 +14,8 @@ returns c =
     λ s before last e.
     replay-state (a .stream .now) (a .journal-length) (m .replay-all .result) (m .replay-all .ensures .0) s before last e
 
-pub replayed-spec : {M : Type 1} → statement M
-replayed-spec =
+pub replayed-state-spec : {M : Type 1} → statement M
+replayed-state-spec =
     tie.close
     (tie.spec
     replay-all-requires

@@ -1,4 +1,4 @@
--- A good queue stays good where a slot changes: the clock names what it named before, or nothing more, or a new request.
+-- A sound queue stays sound where a slot changes: the clock names what it named before, or nothing more, or a new request.
 use mathlib.Core.Path.{_≡_, refl, sym, _∙_, ap, subst}
 use mathlib.Core.Logic.{_⊎_, inl, inr}
 use mathlib.Core.Bool.{Bool, true, false, not, cond, true≢false}
@@ -10,12 +10,12 @@ use lib.Dec.{eqb}
 use lib.ListN.{length, length-append}
 use Rattle.clocks.specs.declared.clocks.ScheduledEvent.{ScheduledEvent}
 use Rattle.clocks.specs.declared.clocks.Winner.{Winner}
-use Rattle.clocks.proofs.Cases.{either-way}
+use Rattle.hazards.proofs.Cases.{by-test}
 use Rattle.engine.specs.Queue.{keepIf, without, countFor}
 use Rattle.engine.specs.State.{emptySlot}
 use Rattle.engine.specs.declared.state.ClockSlot.{ClockSlot}
 use Rattle.engine.specs.declared.state.Request.{Request}
-use Rattle.engine.proofs.Good.{namesRequest, GoodRequest, GoodQueue}
+use Rattle.engine.proofs.SoundState.{namesRequest, SoundRequest, SoundQueue}
 use Rattle.engine.proofs.RequestLists.{In, isFor, in-keep, keep-sat, keep-append, keep-cons-true, keep-cons-false, keep-same, notFor}
 use Rattle.engine.proofs.RequestLists.{in-append}
 use Rattle.engine.proofs.RequestLists.{not-for-same, none-left, others-left}
@@ -27,8 +27,8 @@ one-or-none : (b : Bool) → cond b 1 0 ≤ 1
 one-or-none true = omega arith
 one-or-none false = omega arith
 
-module _ {slots : ℕ → ClockSlot} {count : ℕ} {q : List Request} (g : GoodQueue slots count q) where
-  pub request-of : (y : Request) → In y q → GoodRequest slots count y
+module _ {slots : ℕ → ClockSlot} {count : ℕ} {q : List Request} (g : SoundQueue slots count q) where
+  pub request-of : (y : Request) → In y q → SoundRequest slots count y
   request-of y i = each-in (g .requests) y i
 
   pub at-most-one : (k : ℕ) → countFor k q ≤ 1
@@ -67,7 +67,7 @@ pub record SameSchedule (a b : ClockSlot) : Type 0 where
 
 moved : {slots slots′ : ℕ → ClockSlot} {count count′ : ℕ} {r : Request} → SameSchedule (slots′ (r .clock)) (slots (r .clock))
     → count ≤ count′
-    → GoodRequest slots count r → GoodRequest slots′ count′ r
+    → SoundRequest slots count r → SoundRequest slots′ count′ r
 moved {r} e l g = record {
   clock = g .clock;
   present = e .present ∙ g .present;
@@ -83,10 +83,10 @@ same-slot e = record {
   winner = ap (λ (s : ClockSlot). s .clock .«current_winner») e;
 }
 
-module _ {slots slots′ : ℕ → ClockSlot} {count : ℕ} {q : List Request} (i : ℕ) (g : GoodQueue slots count q)
+module _ {slots slots′ : ℕ → ClockSlot} {count : ℕ} {q : List Request} (i : ℕ) (g : SoundQueue slots count q)
     (elsewhere : (j : ℕ) → (j ≡ i → ⊥) → slots′ j ≡ slots j) where
   -- the clock names what it named
-  pub queue-stays : SameSchedule (slots′ i) (slots i) → GoodQueue slots′ count q
+  pub queue-stays : SameSchedule (slots′ i) (slots i) → SoundQueue slots′ count q
   queue-stays e = record {
     requests = in-each q (λ y j. moved (everywhere (y .clock)) (omega arith) (request-of g y j));
     indices = g .indices;
@@ -94,7 +94,7 @@ module _ {slots slots′ : ℕ → ClockSlot} {count : ℕ} {q : List Request} (
   }
     where
       everywhere : (k : ℕ) → SameSchedule (slots′ k) (slots k)
-      everywhere k = either-way (eqb k i) (λ t. rw (eqb-true k i t) e) (λ t. same-slot (elsewhere k (eqb-false k i t)))
+      everywhere k = by-test (eqb k i) (λ t. rw (eqb-true k i t) e) (λ t. same-slot (elsewhere k (eqb-false k i t)))
 
       names : (k : ℕ) → namesRequest (slots′ k) ≡ namesRequest (slots k)
       names k = rw (everywhere k .present, everywhere k .event)
@@ -103,13 +103,13 @@ module _ {slots slots′ : ℕ → ClockSlot} {count : ℕ} {q : List Request} (
   other-clock y j e = true≢false (sym (keep-sat (notFor i) y q j) ∙ not-for-same i y e)
 
   -- the clock names nothing, and its request is gone
-  pub queue-drops : namesRequest (slots′ i) ≡ false → GoodQueue slots′ count (keepIf (notFor i) q)
+  pub queue-drops : namesRequest (slots′ i) ≡ false → SoundQueue slots′ count (keepIf (notFor i) q)
   queue-drops e = record {
     requests =
         in-each (keepIf (notFor i) q)
         (λ y j. moved (same-slot (elsewhere (y .clock) (other-clock y j))) (omega arith) (request-of g y (in-keep (notFor i) y q j)));
     indices = keep-distinct (notFor i) q (g .indices);
-    own = λ k. either-way (eqb k i) (λ t. here k (eqb-true k i t)) (λ t. there k (eqb-false k i t));
+    own = λ k. by-test (eqb k i) (λ t. here k (eqb-true k i t)) (λ t. there k (eqb-false k i t));
   }
     where
       here : (k : ℕ) → k ≡ i → countFor k (keepIf (notFor i) q) ≡ cond (namesRequest (slots′ k)) 1 0
@@ -119,16 +119,16 @@ module _ {slots slots′ : ℕ → ClockSlot} {count : ℕ} {q : List Request} (
       there k h = ap length (others-left k i q h) ∙ g .own k ∙ ap (λ (s : ClockSlot). cond (namesRequest s) 1 0) (sym (elsewhere k h))
 
   -- the clock named nothing, and names the next request, which is queued
-  pub queue-adds : namesRequest (slots i) ≡ false → (r : Request) → r .clock ≡ i → r .index ≡ count → GoodRequest slots′ (count + 1) r
-      → GoodQueue slots′ (count + 1) (q ++ (r ∷ []))
+  pub queue-adds : namesRequest (slots i) ≡ false → (r : Request) → r .clock ≡ i → r .index ≡ count → SoundRequest slots′ (count + 1) r
+      → SoundQueue slots′ (count + 1) (q ++ (r ∷ []))
   queue-adds e r c m new = record {
     requests = in-each (q ++ (r ∷ [])) (λ y j. each y (in-append y q r j));
     indices = distinct-more q r (g .indices) (not-there (r .index) q (λ y j h. let l = request-of g y j .index in omega arith));
-    own = λ k. either-way (eqb k i) (λ t. here k (eqb-true k i t)) (λ t. there k (eqb-false k i t));
+    own = λ k. by-test (eqb k i) (λ t. here k (eqb-true k i t)) (λ t. there k (eqb-false k i t));
   }
     where
-      each : (y : Request) → In y q ⊎ (y ≡ r) → GoodRequest slots′ (count + 1) y
-      each y (inr h) = subst (GoodRequest slots′ (count + 1)) (sym h) new
+      each : (y : Request) → In y q ⊎ (y ≡ r) → SoundRequest slots′ (count + 1) y
+      each y (inr h) = subst (SoundRequest slots′ (count + 1)) (sym h) new
       each y (inl j) =
           moved
           (same-slot (elsewhere (y .clock) (λ h. let z = counted i y q j h in let o = unnamed-none g i e in omega arith)))
@@ -153,13 +153,13 @@ module _ {slots slots′ : ℕ → ClockSlot} {count : ℕ} {q : List Request} (
           stays ∙ g .own k ∙ ap (λ (s : ClockSlot). cond (namesRequest s) 1 0) (sym (elsewhere k h))
 
 -- its old request is gone, and the next one is queued for it
-module _ {slots slots′ : ℕ → ClockSlot} {count : ℕ} {q : List Request} (i : ℕ) (g : GoodQueue slots count q)
+module _ {slots slots′ : ℕ → ClockSlot} {count : ℕ} {q : List Request} (i : ℕ) (g : SoundQueue slots count q)
     (elsewhere : (j : ℕ) → (j ≡ i → ⊥) → slots′ j ≡ slots j) where
   abbrev emptied : ℕ → ClockSlot
   emptied j = cond (eqb j i) emptySlot (slots j)
 
-  pub queue-replaces : (r : Request) → r .clock ≡ i → r .index ≡ count → GoodRequest slots′ (count + 1) r
-      → GoodQueue slots′ (count + 1) (keepIf (notFor i) q ++ (r ∷ []))
+  pub queue-replaces : (r : Request) → r .clock ≡ i → r .index ≡ count → SoundRequest slots′ (count + 1) r
+      → SoundQueue slots′ (count + 1) (keepIf (notFor i) q ++ (r ∷ []))
   queue-replaces r c m new =
       queue-adds {slots = emptied} i (queue-drops {slots′ = emptied} i g others gone)
       (λ j h. elsewhere j h ∙ sym (others j h)) gone r c m new

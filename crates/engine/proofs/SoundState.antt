@@ -23,7 +23,7 @@ namesRequest slot = slot .present && slot .clock .«scheduled_event_id» .presen
 
 -- a request of a queue, where slots holds the clocks and count is the requests made: its clock is present, names it and holds a winner,
 -- and its index was given
-pub record GoodRequest (slots : ℕ → ClockSlot) (count : ℕ) (r : Request) : Type 0 where
+pub record SoundRequest (slots : ℕ → ClockSlot) (count : ℕ) (r : Request) : Type 0 where
   pub clock : r .clock < 16
   pub present : slots (r .clock) .present ≡ true
   pub named : slots (r .clock) .clock .«scheduled_event_id» ≡ record { present = true; index = r .index }
@@ -31,17 +31,17 @@ pub record GoodRequest (slots : ℕ → ClockSlot) (count : ℕ) (r : Request) :
   pub index : r .index < count
 
 -- no index is there twice, and a clock has one request queued where it names one, and none elsewhere
-pub record GoodQueue (slots : ℕ → ClockSlot) (count : ℕ) (q : List Request) : Type 0 where
-  pub requests : Each (GoodRequest slots count) q
+pub record SoundQueue (slots : ℕ → ClockSlot) (count : ℕ) (q : List Request) : Type 0 where
+  pub requests : Each (SoundRequest slots count) q
   pub indices : distinct q ≡ true
   pub own : (k : ℕ) → countFor k q ≡ cond (namesRequest (slots k)) 1 0
 
-pub record Good (stream : List ℕ) (n : ℕ) (s : EngineState) : Type 0 where
+pub record SoundState (stream : List ℕ) (n : ℕ) (s : EngineState) : Type 0 where
   pub slots : length (s .slots) ≡ 16
   pub clocks : Each SoundSlot (s .slots)
-  pub places : length (s .progress .queue) ≡ 16
-  pub queued : s .progress .queued ≤ 16
-  pub queue : GoodQueue (slotAt s) (s .progress .«request_count») (queuedRequests (s .progress))
-  pub position : s .progress .position ≤ streamLength stream
-  pub applied : s .progress .«applied_length» ≤ n
-  pub count : s .progress .«request_count» ≤ s .progress .«applied_length»
+  pub places : length (s .shared .queue) ≡ 16
+  pub queued : s .shared .queued ≤ 16
+  pub queue : SoundQueue (slotAt s) (s .shared .«request_count») (queuedRequests (s .shared))
+  pub position : s .shared .position ≤ streamLength stream
+  pub applied : s .shared .«applied_length» ≤ n
+  pub count : s .shared .«request_count» ≤ s .shared .«applied_length»

@@ -1,9 +1,9 @@
--- `execute::apply_on` meets its contract.
+-- `execute::perform_and_record` meets its contract.
 use native.Mathlib.Omega.{arith}
 use borrow.Author.Needs.{needs}
 use Rattle.engine.proofs.ExecuteLaws.{applied-refused, applied-copied}
-use Rattle.engine.proofs.execute.apply_on.Statement.{statement}
-use Rattle.engine.proofs.execute.apply_on.Tie as tie
+use Rattle.engine.proofs.execute.perform_and_record.Statement.{statement}
+use Rattle.engine.proofs.execute.perform_and_record.Tie as tie
 
 perform-on-requires : tie.Need-perform-on-requires
 perform-on-requires c κs = c .before .before .before .pre .counts
@@ -15,7 +15,7 @@ returns : tie.Need-returns
 returns c =
     let m = c .before .before in
     let a = start m .args in
-    applied-refused (a .stream .now) (a .slot) (a .progress) (a .journal .now) (a .command .now) (m .perform-on .result)
+    applied-refused (a .stream .now) (a .slot) (a .shared) (a .journal .now) (a .command .now) (m .perform-on .result)
     (m .perform-on .ensures) (c .if1 .taken)
 
 sub-copy-into : tie.Need-sub-copy-into
@@ -37,12 +37,12 @@ returns-2 : tie.Need-returns-2
 returns-2 c =
     let m = c .before .before .before .before .before .before in
     let a = start m .args in
-    applied-copied (a .stream .now) (a .slot) (a .progress) (a .journal .now) (a .command .now) (m .perform-on .result)
+    applied-copied (a .stream .now) (a .slot) (a .shared) (a .journal .now) (a .command .now) (m .perform-on .result)
     (m .perform-on .ensures) (c .before .before .before .before .if1 .left) (c .before .before .copy-into .last .0)
     (c .before .before .copy-into .ensures)
 
-pub apply-on-spec : {M : Type 1} → statement M
-apply-on-spec =
+pub perform-and-record-spec : {M : Type 1} → statement M
+perform-and-record-spec =
     tie.close
     (tie.spec
     perform-on-requires
