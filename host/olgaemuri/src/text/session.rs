@@ -166,8 +166,7 @@ impl FromStr for SessionText {
 /// Without comments and names.
 impl From<&Session> for SessionText {
     fn from(session: &Session) -> Self {
-        let journal = session.chosen_journal_length();
-        let journal = journal.map(|length| Item::Journal(length as u64));
+        let journal = session.chosen_journal_length().map(Item::Journal);
         let thresholds = session.thresholds();
         let thresholds = (!thresholds.is_empty()).then(|| Item::Thresholds(thresholds.to_vec()));
         let inputs = session.inputs().into_iter().map(Item::from);

@@ -3,8 +3,8 @@
 use super::shown;
 use crate::cli::report::Report;
 use crate::cli::wording::{counted, told};
+use olgaemuri::Command;
 use olgaemuri::text::{Item, Line, Reader, Source, visible};
-use olgaemuri::{Command, SessionText};
 use std::io::{self, Write};
 use std::mem::replace;
 
@@ -21,10 +21,10 @@ pub struct Typed<'a> {
 }
 
 impl<'a> Typed<'a> {
-    pub fn new(text: SessionText, out: &'a mut dyn Write) -> Self {
-        let reader = Reader::after(&text, Source::named("typed").in_folder(""));
+    pub fn new(report: Report, out: &'a mut dyn Write) -> Self {
+        let reader = Reader::after(&report.text, Source::named("typed").in_folder(""));
         Self {
-            report: Report::new(text),
+            report,
             reader,
             count: 0,
             changed: false,
