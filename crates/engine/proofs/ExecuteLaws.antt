@@ -58,7 +58,7 @@ valid-within stream n s v =
       requests = leb-true (p .«request_count») (p .«applied_length») (u .1);
     }
 
--- ---- what is returned
+-- ---- what is left
 
 -- an answer that is a number and zero elsewhere, and the state
 abbrev pub onlyNumber : ℕ → EngineState → Executed

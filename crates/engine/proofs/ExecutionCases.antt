@@ -266,7 +266,7 @@ pub enqueue-applied : (p : SharedState) (r : Request) (t : Bool) → cond t (wit
 enqueue-applied p r true = refl
 enqueue-applied p r false = refl
 
--- the withAppliedBytes length fits once there is room
+-- the applied length fits once there is room
 pub applied-fits : (more n : ℕ) {before after : ℕ} → after ≡ before → leb (before + more) n ≡ true → n < 2 ^ 64 → after + more < 2 ^ 64
 applied-fits more n {before} e l h = omega (arith, leb-true (before + more) n l)
 

@@ -1,5 +1,5 @@
--- An accepted command of a batch run that the next input, an UNDO, reverts: after both, what is returned of the run goes on from the state and
--- the journal before it.
+-- An accepted command of a batch run that the next input, an UNDO, reverts: after both, what is left of the run goes on from the state
+-- and the journal before it.
 use mathlib.Core.Path.{_≡_, refl, sym, ap, _∙_}
 use mathlib.Core.Bool.{Bool, true, false, cond, _&&_}
 use Prim.Native.Nat.{ℕ, _+_, _*_, _<_, _≤_}

@@ -1,4 +1,4 @@
--- One turn of a batch run: what is returned of the run after it gives what the whole run gives.
+-- One turn of a batch run: what is left of the run after it gives what the whole run gives.
 use mathlib.Core.Path.{_≡_, refl, sym, _∙_, ap, subst}
 use mathlib.Core.Bool.{Bool, true, false, cond}
 use mathlib.Core.List.{[], _∷_}
@@ -113,7 +113,7 @@ module _ (bytes stream : Bytes) (n size : ℕ) (all : Ran) where
   abbrev E : Engine
   E = engineOf stream n
 
-  -- what is returned gives the whole; state and journal are reached from opening
+  -- what is left gives the whole; state and journal are reached from opening
   pub record Running (j answers result : Bytes) (s : EngineState) (count at : ℕ) : Type 0 where
     pub goes : runFrom (length bytes - count) stream s j answers count at (drop at bytes) ≡ all
     pub reached : Reached stream n s j

@@ -22,7 +22,8 @@ use Rattle.clocks.specs.declared.scheduling.Rescheduled.{Rescheduled}
 use Rattle.clocks.specs.declared.scheduling.Paused.{Paused}
 use Rattle.clocks.specs.declared.ticks.Ticks.{Ticks}
 use Rattle.engine.specs.Commands as commands
-use Rattle.engine.specs.Commands.{byteAt, clockOf, settingOf, createdClock, nowOf, censorOf, priorityOf, createFaults, causeFaults, setFaults, rescheduleFaults, pauseFaults}
+use Rattle.engine.specs.Commands.{byteAt, clockOf, settingOf, createdClock, nowOf, censorOf, priorityOf}
+use Rattle.engine.specs.Commands.{createFaults, causeFaults, setFaults, rescheduleFaults, pauseFaults}
 use Rattle.engine.specs.Refusals.{clockPresent, clockAbsent, queueEmpty, journalFull}
 use Rattle.engine.specs.Queue.{nextRequest, without, isQueued}
 use Rattle.engine.specs.Engine.{Performed, rejected, performed}

@@ -1,4 +1,5 @@
--- What the code's answers mean: the outcome of a command on a slot; and what the code needs of the shared state so that its counts do not wrap.
+-- What the code's answers mean: the outcome of a command on a slot; and what the code needs of the shared state so that its counts do not
+-- wrap.
 use mathlib.Core.Bool.{cond}
 use Prim.Native.Nat.{_≤_, _<_, _^_}
 use lib.Dec.{eqb}

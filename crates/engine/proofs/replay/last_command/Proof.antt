@@ -1,4 +1,5 @@
--- `replay::last_command` meets its contract: at each turn, what is left of a replay that ends is known from the place after the last command.
+-- `replay::last_command` meets its contract: at each turn, what is left of a replay that ends is known from the place after the last
+-- command.
 use mathlib.Core.Path.{_≡_, sym, ap, _∙_}
 use mathlib.Core.List.{List}
 use Prim.Native.Nat.{ℕ, _-_, _<_, _≤_}
