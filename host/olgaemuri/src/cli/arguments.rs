@@ -9,6 +9,20 @@ pub struct Known {
     pub takes_value: bool,
 }
 
+impl Known {
+    /// An option without a value.
+    pub const fn flag(name: &'static str) -> Self {
+        let takes_value = false;
+        Self { name, takes_value }
+    }
+
+    /// An option with a value.
+    pub const fn valued(name: &'static str) -> Self {
+        let takes_value = true;
+        Self { name, takes_value }
+    }
+}
+
 #[derive(Debug, Default, PartialEq)]
 pub struct Arguments {
     pub files: Vec<String>,

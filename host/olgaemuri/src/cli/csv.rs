@@ -48,7 +48,7 @@ fn cells(row: &Row, names: &Names) -> [String; 18] {
 }
 
 /// In quotes where the cell holds a comma, a quote or the end of a line.
-fn quoted(cell: &str) -> String {
+pub fn quoted(cell: &str) -> String {
     if cell.contains([',', '"', '\n', '\r']) {
         format!("\"{}\"", cell.replace('"', "\"\""))
     } else {

@@ -2,8 +2,8 @@
 
 use olgaemuri::SessionText;
 use olgaemuri::text::Source;
-use std::fs;
-use std::io::{self, Read, Write};
+use std::fs::{self, File};
+use std::io::{self, BufWriter, Read, Write};
 
 pub fn read(file: &str) -> Result<Vec<u8>, String> {
     let bytes = if file == "-" {
@@ -15,18 +15,35 @@ pub fn read(file: &str) -> Result<Vec<u8>, String> {
     bytes.map_err(|error| format!("cannot read {}: {error}", called(file)))
 }
 
-/// Writes to a file or to standard output. A reader that has gone away is no failure.
+/// Writes to a file or to standard output.
 pub fn write(file: &str, bytes: &[u8]) -> Result<(), String> {
-    let written = if file == "-" {
-        let mut out = io::stdout().lock();
-        out.write_all(bytes).and_then(|()| out.flush())
-    } else {
-        fs::write(file, bytes)
-    };
-    match written {
-        Err(error) if file == "-" && error.kind() == io::ErrorKind::BrokenPipe => Ok(()),
-        written => written.map_err(|error| format!("cannot write {}: {error}", called(file))),
+    write_by(file, |out| out.write_all(bytes))
+}
+
+/// Has something written, part after part. A reader of standard output that has gone away is no failure.
+pub fn write_by(
+    file: &str,
+    parts: impl FnOnce(&mut dyn Write) -> io::Result<()>,
+) -> Result<(), String> {
+    if file != "-" {
+        let written = File::create(file).and_then(|out| buffered(out, parts));
+        return written.map_err(|error| format!("cannot write {file}: {error}"));
     }
+    match buffered(io::stdout().lock(), parts) {
+        Err(error) if error.kind() != io::ErrorKind::BrokenPipe => {
+            Err(format!("cannot write standard output: {error}"))
+        }
+        _ => Ok(()),
+    }
+}
+
+fn buffered(
+    out: impl Write,
+    parts: impl FnOnce(&mut dyn Write) -> io::Result<()>,
+) -> io::Result<()> {
+    let mut out = BufWriter::with_capacity(1 << 16, out);
+    parts(&mut out)?;
+    out.flush()
 }
 
 /// The session in a file, in text or in bytes.

@@ -1,0 +1,152 @@
+//! A summary as table, CSV and JSON.
+
+use super::summary::{Line, Summary};
+use crate::cli::csv::quoted;
+use crate::cli::json::{number, object, string};
+use crate::cli::wording::{meaning, rounded};
+use olgaemuri::text::float_text;
+use olgaemuri::{NO_CAUSE, Refusal};
+
+/// The quantiles that are shown, of a hundred; the first is the least time.
+pub const SHARES: [u64; 6] = [0, 5, 25, 50, 75, 95];
+
+const TIMES: [&str; 8] = ["mean", "min", "p5", "p25", "p50", "p75", "p95", "max"];
+
+/// Mean, least, quantiles, greatest.
+fn times(line: &Line) -> [f64; 8] {
+    let [least, p5, p25, p50, p75, p95] = line.times.quantiles(SHARES);
+    let (mean, most) = (line.times.mean(), line.times.most());
+    [mean, least, p5, p25, p50, p75, p95, most]
+}
+
+pub fn summary_text(summary: &Summary) -> String {
+    let mut rows = vec![
+        ["machine", "cause", "count", "runs"]
+            .map(str::to_string)
+            .to_vec(),
+    ];
+    rows[0].extend(TIMES.map(str::to_string));
+    for line in summary.lines.values() {
+        let counts = [line.times.count(), line.runs].map(|count| count.to_string());
+        let names = [line.machine_name.clone(), line.cause_name.clone()];
+        rows.push([names, counts].concat());
+        rows.last_mut()
+            .expect("one was pushed")
+            .extend(times(line).map(rounded));
+    }
+    let table = if summary.lines.is_empty() {
+        "No breakdowns.\n".to_string()
+    } else {
+        aligned(&rows)
+    };
+    format!("{}\n{table}{}", head(summary), refused(summary))
+}
+
+fn head(summary: &Summary) -> String {
+    match summary.runs {
+        0 => "No runs.\n".to_string(),
+        1 => format!("1 run, stream {}.\n", summary.first),
+        runs => format!(
+            "{runs} runs, streams {} to {}.\n",
+            summary.first,
+            summary.first + (runs - 1)
+        ),
+    }
+}
+
+/// What was refused, a line for each number.
+fn refused(summary: &Summary) -> String {
+    let line = |(number, (commands, runs)): (&u8, &(u64, u64))| {
+        let why = Refusal::from_number(*number).map_or_else(String::new, meaning);
+        format!("  by {number}, in {runs} runs: {commands} ({why})\n")
+    };
+    let lines: String = summary.refusals.iter().map(line).collect();
+    if lines.is_empty() {
+        lines
+    } else {
+        format!("\nRefused commands:\n{lines}")
+    }
+}
+
+/// Rows below their heads, numbers to the right; the first two columns are names.
+fn aligned(rows: &[Vec<String>]) -> String {
+    let width = |place: usize| rows.iter().map(|row| row[place].chars().count()).max();
+    let widths: Vec<usize> = (0..rows[0].len()).filter_map(width).collect();
+    let line = |row: &Vec<String>| {
+        let cells = row.iter().zip(&widths).enumerate();
+        let cells = cells.map(|(place, (cell, width))| {
+            if place < 2 {
+                format!("{cell:<width$}")
+            } else {
+                format!("{cell:>width$}")
+            }
+        });
+        cells
+            .collect::<Vec<String>>()
+            .join("  ")
+            .trim_end()
+            .to_string()
+            + "\n"
+    };
+    let rule: Vec<String> = widths.iter().map(|width| "-".repeat(*width)).collect();
+    let rest = rows[1..].iter().map(line);
+    [line(&rows[0]), line(&rule)]
+        .into_iter()
+        .chain(rest)
+        .collect()
+}
+
+pub fn summary_csv(summary: &Summary) -> String {
+    let head = "machine,machine_name,cause,cause_name,censored,count,runs,";
+    let line = |((machine, cause), line): (&(u8, u32), &Line)| {
+        let (machine_name, cause_name) = (quoted(&line.machine_name), quoted(&line.cause_name));
+        let (count, runs, censored) = (line.times.count(), line.runs, u8::from(*cause == NO_CAUSE));
+        let times = times(line).map(float_text).join(",");
+        format!("{machine},{machine_name},{cause},{cause_name},{censored},{count},{runs},{times}\n")
+    };
+    let lines = summary.lines.iter().map(line);
+    let head = format!("{head}{}\n", TIMES.join(","));
+    std::iter::once(head).chain(lines).collect()
+}
+
+pub fn summary_json(summary: &Summary) -> String {
+    let refusal = |(number, (commands, runs)): (&u8, &(u64, u64))| {
+        let counts = [
+            ("number", u64::from(*number)),
+            ("commands", *commands),
+            ("runs", *runs),
+        ];
+        object(&counts.map(|(name, count)| (name, count.to_string())))
+    };
+    let refusals: Vec<String> = summary.refusals.iter().map(refusal).collect();
+    let lines: Vec<String> = summary.lines.iter().map(line_object).collect();
+    format!(
+        "{{\n  \"first_stream\": {},\n  \"runs\": {},\n  \"refusals\": {},\n  \"summary\": {}\n}}\n",
+        summary.first,
+        summary.runs,
+        array(&refusals),
+        array(&lines)
+    )
+}
+
+fn line_object(((machine, cause), line): (&(u8, u32), &Line)) -> String {
+    let mut fields = vec![
+        ("machine", machine.to_string()),
+        ("machine_name", string(&line.machine_name)),
+        ("cause", cause.to_string()),
+        ("cause_name", string(&line.cause_name)),
+        ("censored", (*cause == NO_CAUSE).to_string()),
+        ("count", line.times.count().to_string()),
+        ("runs", line.runs.to_string()),
+    ];
+    fields.extend(TIMES.into_iter().zip(times(line).map(number)));
+    object(&fields)
+}
+
+/// An array with an element on each line.
+fn array(elements: &[String]) -> String {
+    if elements.is_empty() {
+        return "[]".to_string();
+    }
+    format!("[\n    {}\n  ]", elements.join(",\n    "))
+}
