@@ -173,7 +173,9 @@ impl Session {
     pub fn run(&self) -> &Outcome {
         self.outcome.get_or_init(|| {
             let stream = thresholds_to_bytes(&self.thresholds);
-            Outcome::of(&self.commands, &stream, self.journal_length())
+            // the applied commands are some of the list, so more room is never needed
+            let journal_length = self.journal_length().min(self.commands.len());
+            Outcome::of(&self.commands, &stream, journal_length)
         })
     }
 

@@ -160,6 +160,9 @@ fn by_14_a_journal_that_is_full() {
     refuses(&exact, Command::Deliver, Refusal::JournalFull);
     let short = Session::new([2.0]).with_journal_length(32);
     refuses(&short, create(Policy::Restart), Refusal::JournalFull);
+    // more than the list can fill is never needed
+    let longest = row_9().with_journal_length(usize::MAX);
+    assert!(longest.run().answers().all(Answer::is_accepted));
     // what UNDO frees serves again
     let mut session = exact;
     session.undo();

@@ -1,4 +1,4 @@
-//! `states SEED COUNT`: the fixed sessions and COUNT random ones, command by command through the proved engine and through the unchanged
+//! `states [SEED [COUNT]]`: the fixed sessions and COUNT random ones, command by command through the proved engine and through the unchanged
 //! Rust behind document 01's rules. After each command the answer, the journal, the applied commands and every field of the state are
 //! compared; beside each, the same is done from a state or a journal that was tampered with. Ends with 1 at the first difference.
 
@@ -41,11 +41,10 @@ impl Display for Tally {
 }
 
 fn main() -> ExitCode {
-    let mut words = env::args()
-        .skip(1)
-        .map(|w| w.parse::<u64>().expect("a number"));
-    let seed = words.next().unwrap_or(1);
-    let count = words.next().unwrap_or(1000);
+    let Some((seed, count)) = seed_and_count(env::args().skip(1)) else {
+        eprintln!("usage: states [SEED [COUNT]]");
+        return ExitCode::from(2);
+    };
     let fields = layout::fields();
     let (mut source, mut random) = (Random::new(seed), Random::new(!seed));
     let more = (0..count).map(|_| session(&mut source));
@@ -62,6 +61,17 @@ fn main() -> ExitCode {
     }
     println!("seed {seed}: the fixed sessions and {count} random ones, {tally}, no difference");
     ExitCode::SUCCESS
+}
+
+/// The two numbers, or 1 and 1000 where they are left out; none where a word is no number or there are more.
+fn seed_and_count(words: impl Iterator<Item = String>) -> Option<(u64, u64)> {
+    let numbers: Option<Vec<u64>> = words.map(|word| word.parse().ok()).collect();
+    match *numbers?.as_slice() {
+        [] => Some((1, 1000)),
+        [seed] => Some((seed, 1000)),
+        [seed, count] => Some((seed, count)),
+        _ => None,
+    }
 }
 
 /// A session's commands, each followed by an input to a tampered state.
@@ -131,4 +141,20 @@ fn refused(record: &[u8], journal: &[u8], stream: &[u8], input: &[u8]) -> Outcom
         return Ok(1);
     }
     Err(format!("refusal 1 is due, answered {answer:02x?}"))
+}
+
+#[cfg(test)]
+mod tests {
+    use super::seed_and_count;
+
+    #[test]
+    fn words_that_are_no_numbers() {
+        let read = |words: &str| seed_and_count(words.split_whitespace().map(str::to_string));
+        assert_eq!(read(""), Some((1, 1000)));
+        assert_eq!(read("7"), Some((7, 1000)));
+        assert_eq!(read("7 20"), Some((7, 20)));
+        for words in ["foo", "7 foo", "-1", "7 20 3"] {
+            assert_eq!(read(words), None, "{words}");
+        }
+    }
 }

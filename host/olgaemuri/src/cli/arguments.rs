@@ -2,24 +2,39 @@
 
 use olgaemuri::text::hint;
 
-/// An option of a subcommand, and whether a value follows.
+/// An option of a subcommand.
 #[derive(Clone, Copy)]
 pub struct Known {
-    pub name: &'static str,
-    pub takes_value: bool,
+    name: &'static str,
+    takes: Takes,
+}
+
+/// Whether a value follows an option.
+#[derive(Clone, Copy, PartialEq)]
+enum Takes {
+    Nothing,
+    Value,
+    /// A value behind `=`, or none.
+    Perhaps,
 }
 
 impl Known {
     /// An option without a value.
     pub const fn flag(name: &'static str) -> Self {
-        let takes_value = false;
-        Self { name, takes_value }
+        let takes = Takes::Nothing;
+        Self { name, takes }
     }
 
     /// An option with a value.
     pub const fn valued(name: &'static str) -> Self {
-        let takes_value = true;
-        Self { name, takes_value }
+        let takes = Takes::Value;
+        Self { name, takes }
+    }
+
+    /// An option that may have a value behind `=`.
+    pub const fn perhaps_valued(name: &'static str) -> Self {
+        let takes = Takes::Perhaps;
+        Self { name, takes }
     }
 }
 
@@ -60,14 +75,14 @@ impl Arguments {
             let names: Vec<&str> = known.iter().map(|option| option.name).collect();
             return Err(format!("unknown option `{name}`{}", hint(name, &names)));
         };
-        let value = match (option.takes_value, value) {
-            (true, Some(value)) => value,
-            (true, None) => words
+        let value = match (option.takes, value) {
+            (Takes::Value | Takes::Perhaps, Some(value)) => value,
+            (Takes::Value, None) => words
                 .next()
                 .cloned()
                 .ok_or(format!("a value must follow `{name}`"))?,
-            (false, None) => String::new(),
-            (false, Some(_)) => return Err(format!("`{name}` takes no value")),
+            (Takes::Nothing | Takes::Perhaps, None) => String::new(),
+            (Takes::Nothing, Some(_)) => return Err(format!("`{name}` takes no value")),
         };
         if self.value(option.name).is_some() {
             return Err(format!("`{name}` stands twice"));
@@ -90,15 +105,10 @@ impl Arguments {
 mod tests {
     use super::*;
 
-    const KNOWN: [Known; 2] = [
-        Known {
-            name: "--csv",
-            takes_value: false,
-        },
-        Known {
-            name: "--svg",
-            takes_value: true,
-        },
+    const KNOWN: [Known; 3] = [
+        Known::flag("--json"),
+        Known::valued("--svg"),
+        Known::perhaps_valued("--csv"),
     ];
 
     fn parse(words: &str) -> Result<Arguments, String> {
@@ -112,7 +122,9 @@ mod tests {
         assert_eq!(arguments.files, ["a", "-", "--b"]);
         assert_eq!(arguments.value("--svg"), Some("out"));
         assert!(arguments.has("--csv"));
+        assert_eq!(arguments.value("--csv"), Some(""));
         assert_eq!(parse("--svg=x").unwrap().value("--svg"), Some("x"));
+        assert_eq!(parse("--csv=x").unwrap().value("--csv"), Some("x"));
     }
 
     #[test]
@@ -122,7 +134,7 @@ mod tests {
             "unknown option `--cvs`; did you mean `--csv`?"
         );
         assert_eq!(parse("--svg").unwrap_err(), "a value must follow `--svg`");
-        assert_eq!(parse("--csv=1").unwrap_err(), "`--csv` takes no value");
+        assert_eq!(parse("--json=1").unwrap_err(), "`--json` takes no value");
         assert_eq!(parse("--csv --csv").unwrap_err(), "`--csv` stands twice");
     }
 }

@@ -1,13 +1,22 @@
 //! `olgaemuri compare`: the breakdowns of two sessions side by side.
 
-use super::arguments::Arguments;
+use super::arguments::{Arguments, Known};
 use super::events::{Event, breakdowns};
 use super::files::{called, write};
 use super::report::Report;
-use super::run::reported;
-use super::table::{Column, aligned, event_cells};
+use super::report_table::event_cells;
+use super::run::{reported, width};
+use super::table::{Column, aligned};
+use super::wording::counted;
 use super::{Failure, help};
+use olgaemuri::text::visible;
 use std::iter::repeat;
+
+pub const OPTIONS: [Known; 3] = [
+    Known::flag("--quiet"),
+    Known::valued("--width"),
+    Known::flag("--help"),
+];
 
 /// Exits with 1 where the lists differ.
 pub fn compare(arguments: &Arguments) -> Result<u8, Failure> {
@@ -23,10 +32,13 @@ pub fn compare(arguments: &Arguments) -> Result<u8, Failure> {
             help::COMPARE,
         ));
     }
+    let width = width(arguments).map_err(|message| Failure::usage(&message, help::COMPARE))?;
     let (left, right) = (reported(first)?, reported(second)?);
-    let (text, differences) = side_by_side(&left, &right);
+    let (text, differences) = side_by_side(&left, &right, width);
     let head = format!("left:  {}\nright: {}\n\n", called(first), called(second));
-    write("-", (head + &text).as_bytes())?;
+    if !arguments.has("--quiet") {
+        write("-", (visible(&head) + &text).as_bytes())?;
+    }
     Ok(u8::from(differences > 0))
 }
 
@@ -43,7 +55,7 @@ fn identity(event: &Event) -> (u8, u32, bool, u64, u128, &'static str) {
 }
 
 /// The two lists, what is to be said of them, and in how many places they differ.
-fn side_by_side(left: &Report, right: &Report) -> (String, usize) {
+fn side_by_side(left: &Report, right: &Report, width: Option<usize>) -> (String, usize) {
     let lists = [breakdowns(&left.events), breakdowns(&right.events)];
     let longest = lists[0].len().max(lists[1].len());
     let [one, other] = lists.map(|list| list.into_iter().map(Some).chain(repeat(None)));
@@ -58,14 +70,15 @@ fn side_by_side(left: &Report, right: &Report) -> (String, usize) {
         row.extend(cells(other.as_ref(), right));
         rows.push(row);
     }
-    let text = aligned(&columns(), &rows) + "\n" + &verdict(left, right, longest, differences);
+    let table = aligned(&columns(), &rows, width);
+    let text = table + "\n" + &verdict(left, right, longest, differences);
     (text, differences)
 }
 
 fn columns() -> Vec<Column> {
     let list = [
-        Column::Left("machine"),
-        Column::Left("cause"),
+        Column::Name("machine"),
+        Column::Name("cause"),
         Column::Right("at"),
         Column::Right("tick"),
         Column::Left("state"),
@@ -88,9 +101,11 @@ fn verdict(left: &Report, right: &Report, longest: usize, differences: usize) ->
         right.session.draws()
     );
     let lists = if differences == 0 {
-        format!("The lists of breakdowns are the same: {longest} events, to the last bit.\n")
+        let events = counted(longest, "event");
+        format!("The lists of breakdowns are the same: {events}, to the last bit.\n")
     } else {
-        format!("The lists of breakdowns differ in {differences} of {longest} places.\n")
+        let places = counted(longest, "place");
+        format!("The lists of breakdowns differ in {differences} of {places}.\n")
     };
     draws + &lists
 }

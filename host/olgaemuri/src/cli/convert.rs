@@ -1,23 +1,14 @@
 //! `olgaemuri convert`: sessions from text to bytes and back.
 
 use super::arguments::{Arguments, Known};
-use super::files::{called, load, read, same_file, source, write};
+use super::files::{called, load, read, same_file, same_folder, source, write, write_by};
 use super::{Failure, help};
 use olgaemuri::{Session, SessionText};
 
 pub const OPTIONS: [Known; 3] = [
-    Known {
-        name: "--from",
-        takes_value: true,
-    },
-    Known {
-        name: "--to",
-        takes_value: true,
-    },
-    Known {
-        name: "--help",
-        takes_value: false,
-    },
+    Known::valued("--from"),
+    Known::valued("--to"),
+    Known::flag("--help"),
 ];
 
 #[derive(Clone, Copy, Debug, PartialEq)]
@@ -65,13 +56,15 @@ pub fn convert(arguments: &Arguments) -> Result<u8, Failure> {
         ));
     }
     let from = arguments.value("--from").map(form).transpose()?;
-    let session = session(input, from)?;
-    let bytes = match to {
-        Form::Text => session.to_string().into_bytes(),
-        Form::Bytes => session.session().to_bytes(),
-        Form::Bare => session.commands(),
-    };
-    write(output, &bytes)?;
+    let mut session = session(input, from)?;
+    if !same_folder(input, output) {
+        session = session.self_contained();
+    }
+    match to {
+        Form::Text => write_by(output, |out| write!(out, "{session}"))?,
+        Form::Bytes => write(output, &session.session().to_bytes())?,
+        Form::Bare => write(output, &session.commands())?,
+    }
     Ok(0)
 }
 

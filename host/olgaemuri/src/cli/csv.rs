@@ -1,26 +1,73 @@
-//! The answers as comma-separated values (RFC 4180, lines ended by a line feed), floats with all their digits.
+//! Answers and events as comma-separated values (RFC 4180, lines ended by a line feed), floats with all their digits.
 
+use super::events::{Event, breakdowns};
 use super::report::{Report, Row};
-use super::wording::{input_word, meaning};
-use olgaemuri::text::{Names, float_text};
+use super::wording::{input_word, why};
+use olgaemuri::text::{Names, float_text, hint};
+use std::io::{self, Write};
 
-const HEAD: &str =
-    "no,line,command,machine,machine_name,now,number,refusal,event,censored,withdrawn,\
-    cause,cause_name,delta,ticks,applied,undone_by,text
-";
-
-pub fn report_csv(report: &Report) -> String {
-    let names = report.names();
-    let rows = report.rows().map(|row| {
-        let cells = cells(&row, names).map(|cell| quoted(&cell));
-        cells.join(",") + "\n"
-    });
-    std::iter::once(HEAD.to_string()).chain(rows).collect()
+/// What the lines are.
+#[derive(Clone, Copy)]
+pub enum Csv {
+    Answers,
+    Events,
+    Breakdowns,
 }
 
-fn cells(row: &Row, names: &Names) -> [String; 18] {
+impl Csv {
+    /// The list with this name, or what was expected. Without a name it is the answers.
+    pub fn named(name: &str) -> Result<Self, String> {
+        match name {
+            "" | "answers" => Ok(Self::Answers),
+            "events" => Ok(Self::Events),
+            "breakdowns" => Ok(Self::Breakdowns),
+            _ => {
+                let hint = hint(name, &["answers", "events", "breakdowns"]);
+                Err(format!(
+                    "expected answers, events or breakdowns, not `{name}`{hint}"
+                ))
+            }
+        }
+    }
+
+    pub fn write(self, report: &Report, out: &mut dyn Write) -> io::Result<()> {
+        match self {
+            Self::Answers => write_answers(report, out),
+            Self::Events => write_events(&report.events, report.names(), out),
+            Self::Breakdowns => write_events(&breakdowns(&report.events), report.names(), out),
+        }
+    }
+}
+
+const ANSWERS_HEAD: &str = "no,line,command,machine,machine_name,now,number,refusal,event,censored,withdrawn,\
+    cause,cause_name,delta,ticks,applied,undone_by,text";
+
+const EVENTS_HEAD: &str =
+    "no,machine,machine_name,cause,cause_name,censored,scheduled_at,time,ticks,state";
+
+fn write_answers(report: &Report, out: &mut dyn Write) -> io::Result<()> {
+    writeln!(out, "{ANSWERS_HEAD}")?;
+    let mut rows = report.rows();
+    rows.try_for_each(|row| write_cells(&answer_cells(&row, report.names()), out))
+}
+
+fn write_events(events: &[Event], names: &Names, out: &mut dyn Write) -> io::Result<()> {
+    writeln!(out, "{EVENTS_HEAD}")?;
+    let mut events = events.iter().zip(1..);
+    events.try_for_each(|(event, number)| write_cells(&event_cells(number, event, names), out))
+}
+
+fn write_cells(cells: &[String], out: &mut dyn Write) -> io::Result<()> {
+    let cells: Vec<String> = cells.iter().map(|cell| quoted(cell)).collect();
+    writeln!(out, "{}", cells.join(","))
+}
+
+fn flag(flag: bool) -> String {
+    u8::from(flag).to_string()
+}
+
+fn answer_cells(row: &Row, names: &Names) -> [String; 18] {
     let (step, answer) = (row.step, &row.step.answer);
-    let flag = |flag: bool| u8::from(flag).to_string();
     let event = |text: String| if answer.event { text } else { String::new() };
     let now = step.input.command().and_then(|command| command.now());
     [
@@ -33,7 +80,7 @@ fn cells(row: &Row, names: &Names) -> [String; 18] {
             .map_or(String::new(), |machine| names.machine(machine)),
         now.map_or(String::new(), float_text),
         answer.number().to_string(),
-        answer.refusal.map_or(String::new(), meaning),
+        why(step).unwrap_or_default(),
         flag(answer.event),
         flag(answer.censored),
         flag(answer.withdrawn),
@@ -44,6 +91,22 @@ fn cells(row: &Row, names: &Names) -> [String; 18] {
         flag(step.applied),
         row.undone_by.map_or(String::new(), |undo| undo.to_string()),
         step.input.to_string().replace('\n', " "),
+    ]
+}
+
+/// An event's cells behind a number.
+pub fn event_cells(number: u64, event: &Event, names: &Names) -> [String; 10] {
+    [
+        number.to_string(),
+        event.machine.to_string(),
+        names.machine(event.machine),
+        event.cause.to_string(),
+        names.cause(event.cause),
+        flag(event.censored),
+        float_text(event.scheduled_at),
+        float_text(event.time),
+        event.ticks.to_string(),
+        event.fate.word().to_string(),
     ]
 }
 

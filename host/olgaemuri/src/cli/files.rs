@@ -4,6 +4,7 @@ use olgaemuri::SessionText;
 use olgaemuri::text::Source;
 use std::fs::{self, File};
 use std::io::{self, BufWriter, Read, Write};
+use std::path::{Path, PathBuf};
 
 pub fn read(file: &str) -> Result<Vec<u8>, String> {
     let bytes = if file == "-" {
@@ -67,7 +68,17 @@ pub fn same_file(one: &str, other: &str) -> bool {
     path(one).is_some_and(|one| path(other) == Some(one))
 }
 
-/// How a file is called in messages.
+/// Whether a session in the one place finds the files that it names from the other. Where standard output goes is not known.
+pub fn same_folder(input: &str, output: &str) -> bool {
+    let folder = |file: &str| -> Option<PathBuf> {
+        let parent = Path::new(file).parent().filter(|_| file != "-");
+        let parent = parent.filter(|parent| !parent.as_os_str().is_empty());
+        fs::canonicalize(parent.unwrap_or(Path::new("."))).ok()
+    };
+    output != "-" && folder(input).is_some_and(|one| folder(output) == Some(one))
+}
+
+/// How a file that is read is called in messages.
 pub fn called(file: &str) -> &str {
     if file == "-" { "standard input" } else { file }
 }

@@ -3,8 +3,9 @@
 
 use super::events::{Event, breakdowns};
 use super::report::{Report, Row};
-use super::wording::{input_word, meaning};
+use super::wording::{input_word, why};
 use olgaemuri::text::{Names, float_text};
+use std::io::{self, Write};
 
 /// A string with its quotes.
 pub fn string(text: &str) -> String {
@@ -41,41 +42,46 @@ pub fn object(fields: &[(&str, String)]) -> String {
     format!("{{{}}}", fields.join(", "))
 }
 
-/// An array with an element on each line.
-fn array(elements: &[String]) -> String {
-    if elements.is_empty() {
-        return "[]".to_string();
+/// Writes the report as one object, element after element.
+pub fn write_json(report: &Report, out: &mut dyn Write) -> io::Result<()> {
+    let (names, outcome) = (report.names(), report.outcome());
+    let numbers = [
+        ("end", usize::from(outcome.end_number())),
+        ("accepted", report.accepted()),
+        ("refused", report.refused()),
+        ("applied", outcome.applied().len()),
+        ("draws", report.session.draws()),
+        ("thresholds", report.session.thresholds().len()),
+    ];
+    writeln!(out, "{{")?;
+    for (name, number) in numbers {
+        writeln!(out, "  \"{name}\": {number},")?;
     }
-    format!("[\n    {}\n  ]", elements.join(",\n    "))
+    let rows = report.rows().map(|row| row_object(&row, names));
+    write_array(out, "answers", rows)?;
+    writeln!(out, ",")?;
+    let events = report.events.iter().map(|event| event_object(event, names));
+    write_array(out, "events", events)?;
+    writeln!(out, ",")?;
+    let list = breakdowns(&report.events);
+    let list = list.iter().map(|event| event_object(event, names));
+    write_array(out, "breakdowns", list)?;
+    writeln!(out, "\n}}")
 }
 
-pub fn report_json(report: &Report) -> String {
-    let names = report.names();
-    let rows: Vec<String> = report.rows().map(|row| row_object(&row, names)).collect();
-    let events: Vec<String> = report
-        .events
-        .iter()
-        .map(|event| event_object(event, names))
-        .collect();
-    let list = breakdowns(&report.events);
-    let breakdowns: Vec<String> = list
-        .iter()
-        .map(|event| event_object(event, names))
-        .collect();
-    let outcome = report.outcome();
-    let fields = [
-        ("end", outcome.end_number().to_string()),
-        ("accepted", report.accepted().to_string()),
-        ("refused", report.refused().to_string()),
-        ("applied", outcome.applied().len().to_string()),
-        ("draws", report.session.draws().to_string()),
-        ("thresholds", report.session.thresholds().len().to_string()),
-        ("answers", array(&rows)),
-        ("events", array(&events)),
-        ("breakdowns", array(&breakdowns)),
-    ];
-    let fields = fields.map(|(name, value)| format!("  \"{name}\": {value}"));
-    format!("{{\n{}\n}}\n", fields.join(",\n"))
+/// An array with an element on each line.
+fn write_array(
+    out: &mut dyn Write,
+    name: &str,
+    elements: impl Iterator<Item = String>,
+) -> io::Result<()> {
+    write!(out, "  \"{name}\": [")?;
+    let mut any = false;
+    for element in elements {
+        write!(out, "{}\n    {element}", if any { "," } else { "" })?;
+        any = true;
+    }
+    write!(out, "{}]", if any { "\n  " } else { "" })
 }
 
 fn row_object(row: &Row, names: &Names) -> String {
@@ -101,10 +107,7 @@ fn row_object(row: &Row, names: &Names) -> String {
         ),
         ("now", maybe(now, number)),
         ("number", answer.number().to_string()),
-        (
-            "refusal",
-            maybe(answer.refusal, |refusal| string(&meaning(refusal))),
-        ),
+        ("refusal", maybe(why(step), |why| string(&why))),
         ("event", answer.event.to_string()),
         ("censored", answer.censored.to_string()),
         ("withdrawn", answer.withdrawn.to_string()),

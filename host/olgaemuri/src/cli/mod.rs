@@ -1,5 +1,5 @@
 //! The command line: which subcommand is meant, and the exit status. 0 is success, refused commands among it; 1 a comparison that
-//! found a difference; 2 a bad file or a bad command line.
+//! found a difference, or refused commands where that is asked for; 2 a bad file or a bad command line.
 
 mod arguments;
 mod compare;
@@ -11,18 +11,22 @@ mod help;
 mod interactive;
 mod json;
 mod numbers;
+mod out_of_range;
 mod progress;
 mod report;
+mod report_table;
 mod run;
 mod svg;
 mod sweep;
 mod table;
+mod terminal;
 mod thresholds;
 mod wording;
 
 use arguments::{Arguments, Known};
+use olgaemuri::text::visible;
 use std::ffi::OsString;
-use std::io::{IsTerminal, stdin};
+use std::io::{IsTerminal, Write, stderr, stdin};
 use std::path::Path;
 use std::process::ExitCode;
 
@@ -54,10 +58,7 @@ const SUBCOMMANDS: [&str; 8] = [
     "help",
 ];
 
-const HELP_ONLY: [Known; 1] = [Known {
-    name: "--help",
-    takes_value: false,
-}];
+const HELP_ONLY: [Known; 1] = [Known::flag("--help")];
 
 pub fn main(words: impl Iterator<Item = OsString>) -> ExitCode {
     let words: Result<Vec<String>, OsString> = words.map(OsString::into_string).collect();
@@ -67,7 +68,8 @@ pub fn main(words: impl Iterator<Item = OsString>) -> ExitCode {
     match status {
         Ok(status) => ExitCode::from(status),
         Err(Failure(message)) => {
-            eprintln!("{message}");
+            // where it cannot be told, the status is all that is left
+            let _ = writeln!(stderr(), "{}", visible(&message));
             ExitCode::from(2)
         }
     }
@@ -79,7 +81,7 @@ fn dispatch(words: &[String]) -> Result<u8, Failure> {
     };
     match first.as_str() {
         "run" => with(rest, &run::OPTIONS, help::RUN, run::run),
-        "compare" => with(rest, &HELP_ONLY, help::COMPARE, compare::compare),
+        "compare" => with(rest, &compare::OPTIONS, help::COMPARE, compare::compare),
         "convert" => with(rest, &convert::OPTIONS, help::CONVERT, convert::convert),
         "interactive" => with(
             rest,

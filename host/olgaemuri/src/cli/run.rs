@@ -1,60 +1,64 @@
 //! `olgaemuri run`: a session run, its answers printed.
 
 use super::arguments::{Arguments, Known};
-use super::csv::report_csv;
-use super::files::{called, load, same_file, write};
-use super::json::report_json;
+use super::csv::Csv;
+use super::files::{called, load, same_file, write, write_by};
+use super::json::write_json;
 use super::progress::watched;
 use super::report::Report;
+use super::report_table::write_report;
 use super::svg::picture;
-use super::table::report_text;
-use super::{Failure, help};
+use super::{Failure, help, terminal};
 use std::path::Path;
 
-pub const OPTIONS: [Known; 5] = [
-    Known {
-        name: "--csv",
-        takes_value: false,
-    },
-    Known {
-        name: "--json",
-        takes_value: false,
-    },
-    Known {
-        name: "--svg",
-        takes_value: true,
-    },
-    Known {
-        name: "--title",
-        takes_value: true,
-    },
-    Known {
-        name: "--help",
-        takes_value: false,
-    },
+pub const OPTIONS: [Known; 8] = [
+    Known::perhaps_valued("--csv"),
+    Known::flag("--json"),
+    Known::flag("--quiet"),
+    Known::flag("--strict"),
+    Known::valued("--svg"),
+    Known::valued("--title"),
+    Known::valued("--width"),
+    Known::flag("--help"),
 ];
 
+/// Exits with 1 where a command was refused and `--strict` asks for that.
 pub fn run(arguments: &Arguments) -> Result<u8, Failure> {
-    let file = session_file(arguments).map_err(|message| Failure::usage(message, help::RUN))?;
+    let usage = |message: String| Failure::usage(&message, help::RUN);
+    let file = session_file(arguments).map_err(|message| usage(message.to_string()))?;
+    let csv = arguments.value("--csv").map(Csv::named).transpose();
+    let (csv, width) = (csv.map_err(usage)?, width(arguments).map_err(usage)?);
     let report = reported(file)?;
-    let text = if arguments.has("--csv") {
-        report_csv(&report)
-    } else if arguments.has("--json") {
-        report_json(&report)
-    } else {
-        report_text(&report)
-    };
-    if arguments.value("--svg") != Some("-") {
-        write("-", text.as_bytes())?;
+    let picture_place = arguments.value("--svg");
+    if picture_place != Some("-") && !arguments.has("--quiet") {
+        write_by("-", |out| match csv {
+            Some(csv) => csv.write(&report, out),
+            None if arguments.has("--json") => write_json(&report, out),
+            None => write_report(&report, width, out),
+        })?;
     }
-    if let Some(out) = arguments.value("--svg") {
+    if let Some(place) = picture_place {
         let title = arguments
             .value("--title")
             .map_or_else(|| default_title(file), str::to_string);
-        write(out, picture(&report, &title).as_bytes())?;
+        write(place, picture(&report, &title).as_bytes())?;
     }
-    Ok(0)
+    let refused = arguments.has("--strict") && report.refused() > 0;
+    Ok(u8::from(refused))
 }
+
+/// The columns that a table may have: as asked for, or those of the terminal.
+pub fn width(arguments: &Arguments) -> Result<Option<usize>, String> {
+    let Some(word) = arguments.value("--width") else {
+        return Ok(terminal::width());
+    };
+    let width = word.parse().ok().filter(|width| *width >= NARROWEST);
+    let expected =
+        || format!("expected a whole number of columns, {NARROWEST} or more, not `{word}`");
+    width.map(Some).ok_or_else(expected)
+}
+
+const NARROWEST: usize = 40;
 
 /// The one file that is to be run, or what is wrong with the words.
 fn session_file(arguments: &Arguments) -> Result<&str, &'static str> {
@@ -62,8 +66,11 @@ fn session_file(arguments: &Arguments) -> Result<&str, &'static str> {
         return Err("`olgaemuri run` takes one FILE, or - for standard input");
     };
     let picture = arguments.value("--svg");
+    let forms = ["--csv", "--json", "--quiet"].map(|form| usize::from(arguments.has(form)));
     if arguments.has("--csv") && arguments.has("--json") {
         Err("`--csv` and `--json` do not go together")
+    } else if forms.iter().sum::<usize>() > 1 {
+        Err("`--quiet` prints no table: it does not go with `--csv` or `--json`")
     } else if arguments.has("--title") && picture.is_none() {
         Err("`--title` needs `--svg OUT`: it is the picture's")
     } else if picture.is_some_and(|out| same_file(file, out)) {

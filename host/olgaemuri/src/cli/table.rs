@@ -1,178 +1,154 @@
-//! Aligned tables, and the tables of a report.
+//! Aligned tables, written row after row.
 
-use super::events::{Event, breakdowns};
-use super::report::{Report, Row};
-use super::wording;
-use olgaemuri::text::Names;
+use olgaemuri::text::{columns, cut, visible};
+use std::io::{self, Write};
 
-/// A column's head; numbers stand to the right.
+/// A column's head. Numbers stand to the right; names may be cut where there is little room.
 #[derive(Clone, Copy)]
 pub enum Column {
     Left(&'static str),
     Right(&'static str),
+    Name(&'static str),
 }
+
+/// Letters that a name is cut to at most.
+const SHORTEST: usize = 6;
 
 impl Column {
     fn head(self) -> &'static str {
         match self {
-            Self::Left(head) | Self::Right(head) => head,
+            Self::Left(head) | Self::Right(head) | Self::Name(head) => head,
         }
     }
 
+    /// The cell in so many columns of the terminal.
     fn fit(self, cell: &str, width: usize) -> String {
+        let cell = cut(cell, width);
+        let blank = " ".repeat(width - columns(&cell));
         match self {
-            Self::Left(_) => format!("{cell:<width$}"),
-            Self::Right(_) => format!("{cell:>width$}"),
+            Self::Left(_) | Self::Name(_) => cell + &blank,
+            Self::Right(_) => blank + &cell,
         }
     }
 }
 
-/// Lines of cells below their heads, two spaces between columns.
-pub fn aligned(columns: &[Column], rows: &[Vec<String>]) -> String {
-    let heads: Vec<String> = columns
-        .iter()
-        .map(|column| column.head().to_string())
-        .collect();
-    let all = || std::iter::once(&heads).chain(rows);
-    let width = |place: usize| {
-        all()
-            .map(|row| row[place].chars().count())
-            .max()
-            .unwrap_or(0)
-    };
-    let widths: Vec<usize> = (0..columns.len()).map(width).collect();
-    let rule: Vec<String> = widths.iter().map(|width| "-".repeat(*width)).collect();
-    let line = |row: &Vec<String>| {
-        let cells = columns.iter().zip(row).zip(&widths);
-        let cells: Vec<String> = cells
-            .map(|((column, cell), width)| column.fit(cell, *width))
+/// A table whose columns are wide enough for all cells that were looked at.
+pub struct Table {
+    columns: Vec<Column>,
+    widths: Vec<usize>,
+}
+
+impl Table {
+    pub fn new(columns: &[Column]) -> Self {
+        let widths = columns.iter().map(|column| column.head().len());
+        Self {
+            columns: columns.to_vec(),
+            widths: widths.collect(),
+        }
+    }
+
+    /// Makes room for these cells.
+    pub fn look_at(&mut self, cells: &[String]) {
+        for (width, cell) in self.widths.iter_mut().zip(cells) {
+            *width = columns(&visible(cell)).max(*width);
+        }
+    }
+
+    /// How wide a line is, with two spaces between columns.
+    pub fn width(&self) -> usize {
+        self.widths.iter().sum::<usize>() + 2 * self.widths.len().saturating_sub(1)
+    }
+
+    /// Without the columns of which this is false.
+    pub fn only(&self, keep: impl Fn(usize) -> bool) -> Self {
+        let places = (0..self.columns.len()).filter(|place| keep(*place));
+        let (columns, widths) = places
+            .map(|place| (self.columns[place], self.widths[place]))
+            .unzip();
+        Self { columns, widths }
+    }
+
+    /// Cuts names, the longest first, until a line has so many columns, or as few as it can have.
+    pub fn narrow(&mut self, most: usize) {
+        while self.width() > most {
+            let names = self.columns.iter().zip(&mut self.widths);
+            let names = names.filter(|(column, _)| matches!(column, Column::Name(_)));
+            match names.map(|(_, width)| width).max() {
+                Some(width) if *width > SHORTEST => *width -= 1,
+                _ => break,
+            }
+        }
+    }
+
+    /// Writes the heads and a rule below them.
+    pub fn write_head(&self, out: &mut dyn Write) -> io::Result<()> {
+        let heads: Vec<String> = self
+            .columns
+            .iter()
+            .map(|column| column.head().to_string())
             .collect();
-        cells.join("  ").trim_end().to_string() + "\n"
-    };
-    let rows = rows.iter().map(line);
-    [line(&heads), line(&rule)]
-        .into_iter()
-        .chain(rows)
-        .collect()
-}
-
-/// Everything that `run` prints.
-pub fn report_text(report: &Report) -> String {
-    let rows: Vec<Vec<String>> = report
-        .rows()
-        .map(|row| row_cells(&row, report.names()))
-        .collect();
-    let mut text = aligned(&COLUMNS, &rows);
-    text.push('\n');
-    text.push_str(&summary(report));
-    text.push_str("\nBreakdowns, delivered and scheduled:\n\n");
-    text.push_str(&breakdown_table(
-        &breakdowns(&report.events),
-        report.names(),
-    ));
-    text
-}
-
-const COLUMNS: [Column; 11] = [
-    Column::Right("no"),
-    Column::Right("line"),
-    Column::Right("now"),
-    Column::Left("machine"),
-    Column::Left("command"),
-    Column::Left("operands"),
-    Column::Left("answer"),
-    Column::Left("cause"),
-    Column::Right("after"),
-    Column::Right("tick"),
-    Column::Left("note"),
-];
-
-fn row_cells(row: &Row, names: &Names) -> Vec<String> {
-    let (step, answer) = (row.step, &row.step.answer);
-    let now = step.input.command().and_then(|command| command.now());
-    let event = |text: String| if answer.event { text } else { String::new() };
-    vec![
-        row.number.to_string(),
-        row.line.to_string(),
-        now.map_or(String::new(), wording::rounded),
-        step.clock
-            .map_or(String::new(), |machine| names.machine(machine)),
-        wording::input_word(&step.input).to_string(),
-        wording::operands(&step.input, names),
-        wording::answer(row),
-        event(names.cause(answer.cause)),
-        event(wording::rounded(answer.delta)),
-        event(answer.ticks.to_string()),
-        wording::note(row),
-    ]
-}
-
-/// One line on how many commands were what, and the draws.
-fn summary(report: &Report) -> String {
-    let (given, accepted, refused) = (report.given(), report.accepted(), report.refused());
-    let undone = report.undone();
-    let (applied, draws) = (report.outcome().applied().len(), report.session.draws());
-    let thresholds = report.session.thresholds().len();
-    let mut text = format!(
-        "{given} commands: {accepted} accepted, {refused} refused; {undone} taken back, {applied} in force. \
-         Thresholds drawn: {draws} of {thresholds}.\n"
-    );
-    if report.outcome().end.is_some_and(wording::ends_run) {
-        let unread = report.unread();
-        text += &format!(
-            "The run ended at the last command shown: {unread} bytes from there on are no whole command.\n"
-        );
+        let rule: Vec<String> = self.widths.iter().map(|width| "-".repeat(*width)).collect();
+        self.write_row(out, &heads)?;
+        self.write_row(out, &rule)
     }
-    text
-}
 
-pub fn breakdown_table(events: &[Event], names: &Names) -> String {
-    let columns = [
-        Column::Right("no"),
-        Column::Left("machine"),
-        Column::Left("cause"),
-        Column::Right("at"),
-        Column::Right("tick"),
-        Column::Left("state"),
-    ];
-    let cells = |(event, number): (&Event, usize)| {
-        let mut cells = vec![number.to_string()];
-        cells.extend(event_cells(event, names));
-        cells
-    };
-    let rows: Vec<Vec<String>> = events.iter().zip(1..).map(cells).collect();
-    if rows.is_empty() {
-        "none\n".to_string()
-    } else {
-        aligned(&columns, &rows)
+    pub fn write_row(&self, out: &mut dyn Write, cells: &[String]) -> io::Result<()> {
+        let cells = self.columns.iter().zip(cells).zip(&self.widths);
+        let cells: Vec<String> = cells
+            .map(|((column, cell), width)| column.fit(&visible(cell), *width))
+            .collect();
+        writeln!(out, "{}", cells.join("  ").trim_end())
     }
 }
 
-/// Machine, cause, time, tick, state.
-pub fn event_cells(event: &Event, names: &Names) -> [String; 5] {
-    [
-        names.machine(event.machine),
-        names.cause(event.cause),
-        wording::rounded(event.time),
-        event.ticks.to_string(),
-        event.fate.word().to_string(),
-    ]
+/// A whole table in at most so many columns, where that is said.
+pub fn aligned(columns: &[Column], rows: &[Vec<String>], most: Option<usize>) -> String {
+    let mut table = Table::new(columns);
+    for row in rows {
+        table.look_at(row);
+    }
+    if let Some(most) = most {
+        table.narrow(most);
+    }
+    let mut out = Vec::new();
+    let written = table.write_head(&mut out);
+    let written = written.and_then(|()| {
+        rows.iter()
+            .try_for_each(|row| table.write_row(&mut out, row))
+    });
+    written.expect("memory can be written");
+    String::from_utf8(out).expect("only text was written")
 }
 
 #[cfg(test)]
 mod tests {
     use super::*;
 
+    fn rows() -> [Vec<String>; 2] {
+        let rows = [("1", "é", ""), ("10", "a longer name", "x")];
+        rows.map(|(a, b, c)| vec![a.to_string(), b.to_string(), c.to_string()])
+    }
+
+    const COLUMNS: [Column; 3] = [
+        Column::Right("no"),
+        Column::Name("name"),
+        Column::Left("note"),
+    ];
+
     #[test]
     fn columns_are_aligned() {
-        let columns = [
-            Column::Right("no"),
-            Column::Left("name"),
-            Column::Left("note"),
-        ];
-        let rows = [("1", "é", ""), ("10", "longer", "x")];
-        let rows = rows.map(|(a, b, c)| vec![a.to_string(), b.to_string(), c.to_string()]);
-        let expected = "no  name    note\n--  ------  ----\n 1  é\n10  longer  x\n";
-        assert_eq!(aligned(&columns, &rows), expected);
+        let expected =
+            "no  name           note\n--  -------------  ----\n 1  é\n10  a longer name  x\n";
+        assert_eq!(aligned(&COLUMNS, &rows(), None), expected);
+        assert_eq!(aligned(&COLUMNS, &rows(), Some(23)), expected);
+    }
+
+    #[test]
+    fn names_are_cut_where_there_is_little_room() {
+        let expected = "no  name      note\n--  --------  ----\n 1  é\n10  a longe…  x\n";
+        assert_eq!(aligned(&COLUMNS, &rows(), Some(18)), expected);
+        // no further than to six letters
+        let narrowest = aligned(&COLUMNS, &rows(), Some(1));
+        assert!(narrowest.ends_with("\n10  a lon…  x\n"), "{narrowest}");
     }
 }

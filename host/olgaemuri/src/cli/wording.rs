@@ -1,8 +1,9 @@
 //! Commands and answers in a planner's words.
 
+use super::out_of_range::out_of_range;
 use super::report::{Report, Row};
-use olgaemuri::text::{Names, float_text};
-use olgaemuri::{Command, Hazard, Input, Pair, Refusal};
+use olgaemuri::text::{Names, columns, cut, float_text};
+use olgaemuri::{Command, Hazard, Input, Pair, Refusal, Step};
 
 /// A float for tables: short, and rounded where its digits are many. CSV and JSON have all of them.
 pub fn rounded(value: f64) -> String {
@@ -23,18 +24,25 @@ pub fn input_word(input: &Input) -> &'static str {
     input.command().map_or("raw", Command::word)
 }
 
-/// The operands but for machine and time, which have columns of their own; cut where they are long.
+/// The operands but for machine and time, which have columns of their own.
 pub fn operands(input: &Input, names: &Names) -> String {
-    const MOST: usize = 42;
-    let words = match input {
+    match input {
         Input::Command(command) => command_operands(command, names),
         Input::Raw(_) => input.to_string().replace("raw ", "").replace('\n', " "),
-    };
-    if words.chars().count() <= MOST {
-        return words;
     }
-    let kept: String = words.chars().take(MOST - 3).collect();
-    kept + "..."
+}
+
+/// Operands in a column, cut between two words where they are long.
+pub fn shortened(operands: &str) -> String {
+    const MOST: usize = 42;
+    if columns(operands) <= MOST {
+        return operands.to_string();
+    }
+    let kept = cut(operands, MOST);
+    match kept.rsplit_once(' ') {
+        Some((words, _)) => format!("{words} …"),
+        None => kept,
+    }
 }
 
 fn command_operands(command: &Command, names: &Names) -> String {
@@ -98,10 +106,25 @@ pub fn meaning(refusal: Refusal) -> String {
     refusal.meaning().replace("clock", "machine")
 }
 
+/// Why a step was refused, if it was: what its refusal means, or for 5 which operands are out of range.
+pub fn why(step: &Step) -> Option<String> {
+    let refusal = step.answer.refusal?;
+    let command = step.input.command();
+    let command = command.filter(|_| refusal == Refusal::OutOfRange);
+    let operands = command.map(out_of_range).filter(|words| !words.is_empty());
+    Some(operands.unwrap_or_else(|| meaning(refusal)))
+}
+
+/// So many of a thing.
+pub fn counted(count: usize, thing: &str) -> String {
+    let ending = if count == 1 { "" } else { "s" };
+    format!("{count} {thing}{ending}")
+}
+
 /// What else there is to say: why a command was refused, or that it was undone.
 pub fn note(row: &Row) -> String {
-    match (row.step.answer.refusal, row.undone_by) {
-        (Some(refusal), _) => meaning(refusal),
+    match (why(row.step), row.undone_by) {
+        (Some(why), _) => why,
         (None, Some(undo)) => format!("undone by {undo}"),
         (None, None) => String::new(),
     }
@@ -115,8 +138,8 @@ pub fn ends_run(refusal: Refusal) -> bool {
 /// A row's answer as a sentence.
 pub fn told(report: &Report, row: &Row) -> String {
     let answer = &row.step.answer;
-    if let Some(refusal) = answer.refusal {
-        return format!("refused by {}: {}", refusal.number(), meaning(refusal));
+    if let Some(why) = why(row.step) {
+        return format!("refused by {}: {why}", answer.number());
     }
     if let Some(undone) = row.undoes {
         return format!("took back: {}", report.row(undone).step.input);

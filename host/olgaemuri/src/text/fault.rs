@@ -1,5 +1,6 @@
 //! What is wrong with a line: where, and what was expected.
 
+use super::visible::{columns, ends, visible};
 use std::error::Error;
 use std::fmt;
 
@@ -26,9 +27,12 @@ pub(crate) struct Misplaced {
     pub message: String,
 }
 
+/// Characters of a message; of a longer one, which has a long word in it, both ends are kept.
+const LONGEST_MESSAGE: usize = 400;
+
 impl Misplaced {
     pub fn new(column: usize, message: impl Into<String>) -> Self {
-        let message = message.into();
+        let message = ends(&message.into(), LONGEST_MESSAGE);
         Self { column, message }
     }
 
@@ -44,15 +48,41 @@ impl Misplaced {
     }
 }
 
+/// Where and what; below it the line, so far as it stands near, and a caret. Control characters are replaced.
 impl fmt::Display for Fault {
     fn fmt(&self, f: &mut fmt::Formatter) -> fmt::Result {
-        writeln!(
+        let (file, message) = (visible(&self.file), visible(&self.message));
+        let (line, column) = (self.line, self.column);
+        let (before, behind) = self.near();
+        let caret = " ".repeat(columns(&before));
+        write!(
             f,
-            "{}:{}:{}: {}",
-            self.file, self.line, self.column, self.message
-        )?;
-        writeln!(f, "    {}", self.source.trim_end().replace('\t', " "))?;
-        write!(f, "    {}^", " ".repeat(self.column - 1))
+            "{file}:{line}:{column}: {message}\n    {before}{behind}\n    {caret}^"
+        )
+    }
+}
+
+/// Characters of a line that are shown before a fault, and from it on.
+const SHOWN: usize = 160;
+
+impl Fault {
+    /// The line before the fault and from it on, so far as they are shown.
+    fn near(&self) -> (String, String) {
+        let source = self.source.trim_end();
+        let before = self.column.saturating_sub(1);
+        let left_out = before.saturating_sub(SHOWN);
+        let mut near = source.chars().skip(left_out);
+        let mut front: String = near.by_ref().take(before - left_out).collect();
+        let mut back: String = near.by_ref().take(SHOWN).collect();
+        // a fault may lie past the line's end
+        let missing = before - left_out - front.chars().count();
+        if left_out > 0 {
+            front.insert(0, '…');
+        }
+        if near.next().is_some() {
+            back.push('…');
+        }
+        (visible(&front) + &" ".repeat(missing), visible(&back))
     }
 }
 
@@ -94,6 +124,7 @@ impl fmt::Display for TextError {
         }
         match self.faults.len().saturating_sub(MOST_SHOWN) {
             0 => Ok(()),
+            1 => write!(f, "\nand 1 more bad line"),
             more => write!(f, "\nand {more} more bad lines"),
         }
     }

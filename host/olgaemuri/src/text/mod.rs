@@ -14,6 +14,7 @@ mod parse;
 mod retain;
 mod session;
 mod suggest;
+mod visible;
 mod words;
 mod write;
 
@@ -30,5 +31,6 @@ pub use number::{float_text, parse_float};
 pub use parse::{Reader, line_words};
 pub use session::SessionText;
 pub use suggest::{closest, hint, hint_or};
+pub use visible::{columns, cut, visible};
 
 pub(crate) use parse::MAX_JOURNAL;

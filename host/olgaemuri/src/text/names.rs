@@ -4,12 +4,22 @@ use super::words::quoted;
 use crate::command::NO_CAUSE;
 use std::collections::BTreeMap;
 
-/// Names by number. A number has one name and a name one number.
+/// Names of machines and causes. A number has one name and a name one number.
 #[derive(Clone, Debug, Default, PartialEq)]
 pub struct Names {
-    machines: BTreeMap<u32, String>,
-    causes: BTreeMap<u32, String>,
+    machines: Table,
+    causes: Table,
 }
+
+/// Names by number and numbers by name.
+#[derive(Clone, Debug, Default, PartialEq)]
+struct Table {
+    names: BTreeMap<u32, String>,
+    numbers: BTreeMap<String, u32>,
+}
+
+/// Among more names nothing like a wrong one is looked for.
+const MOST_COMPARED: usize = 1000;
 
 /// What a name is given to.
 #[derive(Clone, Copy, Debug, PartialEq, Eq)]
@@ -38,7 +48,7 @@ impl Named {
 }
 
 impl Names {
-    fn table(&self, named: Named) -> &BTreeMap<u32, String> {
+    fn table(&self, named: Named) -> &Table {
         match named {
             Named::Machine => &self.machines,
             Named::Cause => &self.causes,
@@ -48,7 +58,7 @@ impl Names {
     /// Gives a name, or says what stands against it.
     pub(crate) fn add(&mut self, named: Named, number: u32, name: &str) -> Result<(), String> {
         let word = named.word();
-        if let Some(other) = self.table(named).get(&number) {
+        if let Some(other) = self.given(named, number) {
             return Err(format!(
                 "{word} {number} is named {} already",
                 quoted(other)
@@ -64,26 +74,31 @@ impl Names {
             Named::Machine => &mut self.machines,
             Named::Cause => &mut self.causes,
         };
-        table.insert(number, name.to_string());
+        table.names.insert(number, name.to_string());
+        table.numbers.insert(name.to_string(), number);
         Ok(())
     }
 
     /// The number that has this name.
     #[must_use]
     pub fn number(&self, named: Named, name: &str) -> Option<u32> {
-        let mut pairs = self.table(named).iter();
-        pairs.find(|pair| pair.1 == name).map(|pair| *pair.0)
+        self.table(named).numbers.get(name).copied()
     }
 
-    /// All names of a kind, for suggestions.
-    pub(crate) fn all(&self, named: Named) -> Vec<&str> {
-        self.table(named).values().map(String::as_str).collect()
+    /// The names of a kind among which a wrong one may be meant: all, or none where they are very many.
+    pub(crate) fn to_compare(&self, named: Named) -> Vec<&str> {
+        let names = &self.table(named).names;
+        let few = Some(names).filter(|names| names.len() <= MOST_COMPARED);
+        few.into_iter()
+            .flat_map(BTreeMap::values)
+            .map(String::as_str)
+            .collect()
     }
 
     /// The name as given.
     #[must_use]
     pub fn given(&self, named: Named, number: u32) -> Option<&str> {
-        self.table(named).get(&number).map(String::as_str)
+        self.table(named).names.get(&number).map(String::as_str)
     }
 
     /// The name, or `machine 3`.

@@ -122,7 +122,7 @@ impl<'a> Operands<'a> {
             Named::Cause => self.by_name.cause = true,
         }
         self.names.number(named, &name).ok_or_else(|| {
-            let hint = hint(&name, &self.names.all(named));
+            let hint = hint(&name, &self.names.to_compare(named));
             Misplaced::new(
                 word.column,
                 format!("no {} is named `{name}` above{hint}", named.word()),

@@ -153,7 +153,7 @@ impl Reader {
             ))
         })?;
         let mut values = Vec::new();
-        for (index, line) in text.lines().enumerate() {
+        for (index, line) in without_mark(&text).lines().enumerate() {
             let found = split(line)
                 .and_then(|words| words.words.iter().map(float).collect::<Result<Vec<_>, _>>());
             let place = path.display().to_string();

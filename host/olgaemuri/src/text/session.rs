@@ -142,14 +142,13 @@ impl SessionText {
 
     /// The same session without reference to files of thresholds: their values stand in it.
     #[must_use]
-    pub fn self_contained(&self) -> Self {
-        let mut session = self.clone();
-        for line in &mut session.lines {
+    pub fn self_contained(mut self) -> Self {
+        for line in &mut self.lines {
             if let Some(Item::ThresholdsFrom(_, values)) = &mut line.item {
                 line.item = Some(Item::Thresholds(std::mem::take(values)));
             }
         }
-        session
+        self
     }
 }
 

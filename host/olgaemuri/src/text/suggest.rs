@@ -1,8 +1,14 @@
 //! The word that was probably meant.
 
+/// Words of more bytes are no slips of a known one.
+const LONGEST: usize = 100;
+
 /// The known word nearest to this one, where it is near enough to be a slip or a beginning.
 #[must_use]
 pub fn closest<'a>(word: &str, known: &[&'a str]) -> Option<&'a str> {
+    if word.len() > LONGEST {
+        return None;
+    }
     let word = word.to_lowercase();
     let begun = known
         .iter()
@@ -10,6 +16,7 @@ pub fn closest<'a>(word: &str, known: &[&'a str]) -> Option<&'a str> {
     let limit = 1 + word.chars().count() / 4;
     let near = known
         .iter()
+        .filter(|k| k.len() <= 2 * LONGEST)
         .map(|k| (distance(&word, k), *k))
         .filter(|pair| pair.0 <= limit)
         .min_by_key(|pair| pair.0);

@@ -1,6 +1,7 @@
 //! `olgaemuri convert`: text to bytes to text, and bytes that are no command.
 
-use super::program::{example, olgaemuri};
+use super::program::{example, olgaemuri, scratch};
+use std::fs;
 
 fn convert(words: &[&str], input: &[u8]) -> Vec<u8> {
     let words: Vec<&str> = ["convert", "-"].iter().chain(words).copied().collect();
@@ -81,4 +82,65 @@ fn bad_bytes_are_told() {
     assert_eq!(olgaemuri(&["convert", "-"], b"").status, 2);
     assert_eq!(olgaemuri(&["convert", "-", "--to", "xml"], b"").status, 2);
     assert_eq!(olgaemuri(&["convert", "--to", "text"], b"").status, 2);
+}
+
+#[test]
+fn operands_stay_names_where_they_are_written_so() {
+    let text = "machine 2 \"press \\\"2\\\"\"  # the old one\ncause 1 \"seal\"\n\
+        remove machine=\"press \\\"2\\\"\" cause=\"seal\"  # by name\nremove machine=2 cause=\"seal\"\n\
+        remove machine=2 cause=1  # by number\nraw 09\n";
+    let back = convert(&["--to", "text"], text.as_bytes());
+    assert_eq!(String::from_utf8(back).unwrap(), text);
+}
+
+/// A session that names a file of thresholds beside it, in a folder of its own; and that folder.
+fn with_thresholds(folder: &str) -> (String, String) {
+    let folder = scratch(folder);
+    fs::create_dir_all(folder.join("other")).unwrap();
+    fs::write(folder.join("shop.thresholds"), "3 4 # recorded\n").unwrap();
+    let session = folder.join("shop.session");
+    fs::write(
+        &session,
+        "thresholds from \"shop.thresholds\"  # kept\nundo\n",
+    )
+    .unwrap();
+    let path = |path: std::path::PathBuf| path.to_str().unwrap().to_string();
+    (path(session), path(folder))
+}
+
+#[test]
+fn thresholds_of_a_file_are_found_from_another_folder() {
+    let (session, folder) = with_thresholds("from");
+    let copies = [
+        (
+            "shop-2.session",
+            "thresholds from \"shop.thresholds\"  # kept\nundo\n",
+        ),
+        ("other/shop.session", "thresholds 3 4  # kept\nundo\n"),
+    ];
+    for (copy, expected) in copies {
+        let copy = format!("{folder}/{copy}");
+        let ran = olgaemuri(&["convert", "--to", "text", &session, &copy], b"");
+        assert_eq!((ran.status, ran.err.as_str()), (0, ""));
+        assert_eq!(fs::read_to_string(&copy).unwrap(), expected);
+        assert_eq!(olgaemuri(&["run", &copy], b"").status, 0);
+    }
+    // standard output may go anywhere
+    let ran = olgaemuri(&["convert", "--to", "text", &session], b"");
+    assert_eq!(ran.text(), copies[1].1);
+    fs::remove_dir_all(folder).unwrap();
+}
+
+#[test]
+fn a_file_of_thresholds_may_begin_with_a_byte_order_mark() {
+    let (session, folder) = with_thresholds("mark");
+    fs::write(format!("{folder}/shop.thresholds"), "\u{feff}3 4\n").unwrap();
+    let ran = olgaemuri(&["run", &session], b"");
+    assert_eq!((ran.status, ran.err.as_str()), (0, ""));
+    assert!(
+        ran.text().contains("Thresholds drawn: 0 of 2."),
+        "{}",
+        ran.text()
+    );
+    fs::remove_dir_all(folder).unwrap();
 }

@@ -185,3 +185,52 @@ fn odd_names_and_no_machine_at_all() {
         set machine=0 cause=1 now=0 hazard=constant rate=1e-300\nreschedule machine=0 now=0\n";
     assert_eq!(check(odd.as_bytes(), "odd").len(), 1);
 }
+
+/// The height and the words of the texts of a class.
+fn texts(picture: &Element, class: &str) -> Vec<(f64, String)> {
+    let found = picture.with_class(class).into_iter();
+    let of = |text: &Element| (text.attributes["y"].parse().unwrap(), text.text.clone());
+    found.map(of).collect()
+}
+
+#[test]
+fn the_label_of_the_last_command_stands_below_the_subtitle() {
+    let session = b"thresholds 2 1\ncreate machine=0 policy=retain scale=10\n\
+        set machine=0 cause=1 now=0 hazard=constant rate=0.5\nreschedule machine=0 now=0\n";
+    let (_, picture) = run(session, "label");
+    let subtitle = texts(&picture, "sub")[0].0;
+    let labels = texts(&picture, "time");
+    let label = labels
+        .iter()
+        .find(|label| label.1.starts_with("last command"))
+        .unwrap();
+    // letters of 12 pixels
+    assert!(label.0 - 12.0 > subtitle + 3.0, "{label:?} {subtitle}");
+}
+
+#[test]
+fn long_names_of_machines_can_be_told_apart() {
+    let named = |letters: usize| -> Vec<String> {
+        let front = "x".repeat(letters);
+        let lines = (0..4)
+            .map(|n| format!("machine {n} \"{front} {n}\"\ncreate machine={n} policy=retain\n"));
+        let (_, picture) = run(
+            lines.collect::<String>().as_bytes(),
+            &format!("names-{letters}"),
+        );
+        texts(&picture, "name")
+            .into_iter()
+            .map(|name| name.1)
+            .collect()
+    };
+    // names of usual length stand whole
+    let front = "x".repeat(24);
+    assert_eq!(named(24), [0, 1, 2, 3].map(|n| format!("{front} {n}")));
+    let mut names = named(200);
+    assert!(
+        names.iter().all(|name| name.chars().count() <= 40),
+        "{names:?}"
+    );
+    names.dedup();
+    assert_eq!(names.len(), 4, "{names:?}");
+}

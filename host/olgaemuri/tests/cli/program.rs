@@ -20,8 +20,28 @@ impl Ran {
 
 /// Runs the program in the repository's root with these words and this input.
 pub fn olgaemuri(words: &[&str], input: &[u8]) -> Ran {
-    let mut child = Command::new(env!("CARGO_BIN_EXE_olgaemuri"))
-        .args(words)
+    let mut program = Command::new(PROGRAM);
+    program.args(words);
+    ran(&mut program, input)
+}
+
+/// The same after a line of the shell, in which `"$@"` is the program with its words.
+pub fn by_shell(line: &str, words: &[&str], input: &[u8]) -> Ran {
+    let mut shell = Command::new("sh");
+    shell.args(["-c", line, "sh", PROGRAM]).args(words);
+    ran(&mut shell, input)
+}
+
+/// The same with so many mebibytes of memory at most.
+pub fn with_memory(most: usize, words: &[&str], input: &[u8]) -> Ran {
+    let line = format!("ulimit -v {}; exec \"$@\"", 1024 * most);
+    by_shell(&line, words, input)
+}
+
+const PROGRAM: &str = env!("CARGO_BIN_EXE_olgaemuri");
+
+fn ran(command: &mut Command, input: &[u8]) -> Ran {
+    let mut child = command
         .current_dir(root())
         .stdin(Stdio::piped())
         .stdout(Stdio::piped())
@@ -29,12 +49,13 @@ pub fn olgaemuri(words: &[&str], input: &[u8]) -> Ran {
         .spawn()
         .unwrap();
     let mut pipe = child.stdin.take().unwrap();
+    let input = input.to_vec();
     // a program that reads no input may have gone by now
-    let _ = pipe.write_all(input);
-    drop(pipe);
+    let writer = std::thread::spawn(move || drop(pipe.write_all(&input)));
     let output = child.wait_with_output().unwrap();
+    writer.join().unwrap();
     Ran {
-        status: output.status.code().unwrap(),
+        status: output.status.code().unwrap_or(-1),
         out: output.stdout,
         err: String::from_utf8(output.stderr).unwrap(),
     }

@@ -2,6 +2,7 @@
 
 use crate::cli::Failure;
 use crate::cli::files::write;
+use crate::cli::report_table::wrapped;
 use crate::cli::wording::meaning;
 use olgaemuri::text::hint_or;
 
@@ -67,9 +68,10 @@ fn on_word(word: &str) -> Result<String, Failure> {
 /// Every refusal with its number.
 fn refusals() -> String {
     let head = "A refused command changes nothing. The numbers are document 01's.\n\n".to_string();
-    let lines = olgaemuri::Refusal::ALL
-        .iter()
-        .map(|refusal| format!("  {:2}  {}\n", refusal.number(), meaning(*refusal)));
+    let lines = olgaemuri::Refusal::ALL.iter().map(|refusal| {
+        let lines = wrapped(&meaning(*refusal), 74).join("\n      ");
+        format!("  {:2}  {lines}\n", refusal.number())
+    });
     std::iter::once(head).chain(lines).collect()
 }
 

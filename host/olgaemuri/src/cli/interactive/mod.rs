@@ -10,7 +10,7 @@ use super::files::load;
 use super::report::Report;
 use super::{Failure, help};
 use olgaemuri::SessionText;
-use olgaemuri::text::{hint_or, line_words};
+use olgaemuri::text::{cut, hint_or, line_words};
 use std::io::{self, BufRead, IsTerminal, Write, stderr, stdin, stdout};
 use typed::Typed;
 
@@ -156,7 +156,7 @@ impl Talk<'_> {
 fn unknown(typed: &mut Typed, word: &str) -> io::Result<()> {
     let known: Vec<&str> = known_words().collect();
     let hint = hint_or(word, &known, "; `help` tells what can be typed");
-    typed.say(&format!("unknown word `{word}`{hint}"))
+    typed.say(&format!("unknown word `{}`{hint}", cut(word, 60)))
 }
 
 fn help_on(typed: &mut Typed, word: &str) -> io::Result<()> {

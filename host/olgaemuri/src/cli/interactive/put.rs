@@ -15,7 +15,7 @@ impl Typed<'_> {
         };
         let is_session = word == "save";
         let text = if is_session {
-            self.report.text.self_contained().to_string()
+            self.report.text.clone().self_contained().to_string()
         } else {
             picture(&self.report, "olgaemuri")
         };

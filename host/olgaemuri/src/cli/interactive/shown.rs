@@ -1,7 +1,8 @@
 //! What is shown of a session while it is typed.
 
 use crate::cli::report::Report;
-use crate::cli::table::{Column, aligned, breakdown_table};
+use crate::cli::report_table::breakdown_table;
+use crate::cli::table::{Column, aligned};
 use crate::cli::wording::told;
 
 /// What lines did: the answers behind this many rows, with the commands where these are done again; or that they were noted, where
@@ -49,6 +50,7 @@ pub fn list(report: &Report) -> String {
     let commands = aligned(
         &[Column::Right("no"), Column::Left("command in force")],
         &rows,
+        None,
     );
     let events: Vec<_> = report
         .outcome()
@@ -56,7 +58,7 @@ pub fn list(report: &Report) -> String {
         .into_iter()
         .map(Into::into)
         .collect();
-    let events = breakdown_table(&events, report.names());
+    let events = breakdown_table(&events, report.names(), None);
     format!(
         "{commands}\nScheduled, in the order of delivery:\n\n{events}\n{}",
         draws(report)

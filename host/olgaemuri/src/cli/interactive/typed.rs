@@ -3,7 +3,7 @@
 use super::shown;
 use crate::cli::report::Report;
 use crate::cli::wording::told;
-use olgaemuri::text::{Item, Line, Reader, Source};
+use olgaemuri::text::{Item, Line, Reader, Source, visible};
 use olgaemuri::{Command, SessionText};
 use std::io::{self, Write};
 use std::mem::replace;
@@ -33,8 +33,9 @@ impl<'a> Typed<'a> {
         }
     }
 
+    /// Says something in a line or several. Control characters in it are not obeyed.
     pub fn say(&mut self, words: &str) -> io::Result<()> {
-        writeln!(self.out, "{words}")
+        writeln!(self.out, "{}", visible(words))
     }
 
     pub fn status(&mut self) -> io::Result<()> {

@@ -9,6 +9,7 @@ mod timeline;
 pub mod xml;
 
 use super::report::Report;
+use super::wording::counted;
 use timeline::{Timeline, WIDTH};
 use xml::{escaped, place};
 
@@ -36,8 +37,7 @@ pub fn picture(report: &Report, title: &str) -> String {
 
 fn summary(report: &Report) -> String {
     let (applied, draws) = (report.outcome().applied().len(), report.session.draws());
+    let (applied, draws) = (counted(applied, "command"), counted(draws, "threshold"));
     let undone = report.undone();
-    format!(
-        "{applied} commands in force, {undone} taken back and not drawn; {draws} thresholds drawn"
-    )
+    format!("{applied} in force, {undone} taken back and not drawn; {draws} drawn")
 }

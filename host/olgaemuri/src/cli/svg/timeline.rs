@@ -8,21 +8,24 @@ use super::xml::{escaped, line, rectangle, text};
 use crate::cli::events::{Event, Fate};
 use crate::cli::report::Report;
 use crate::cli::wording::rounded;
-use olgaemuri::text::Names;
+use olgaemuri::text::{Names, columns, cut};
 use std::collections::BTreeMap;
 
 pub const WIDTH: f64 = 1200.0;
-const LEFT: f64 = 190.0;
 const RIGHT: f64 = 50.0;
 const MARGIN: f64 = 24.0;
-const TOP: f64 = 64.0;
+const TOP: f64 = 80.0;
 const LANE: f64 = 58.0;
 
 /// Room for the label of an event.
 const LABEL: f64 = 36.0;
 
-/// Letters of a machine's name that there is room for.
+/// Letters of a machine's name that there is room for in any picture, and at most.
 const LETTERS: usize = 17;
+const MOST_LETTERS: usize = 36;
+
+/// Room for a letter of a name.
+const LETTER: f64 = 9.8;
 
 pub struct Timeline<'a> {
     report: &'a Report,
@@ -31,6 +34,8 @@ pub struct Timeline<'a> {
     palette: Palette,
     /// The time of the last command.
     last: f64,
+    /// Where the names of the machines end.
+    left: f64,
     /// The height of each machine's lane, at its middle.
     lanes: BTreeMap<u8, f64>,
     bottom: f64,
@@ -41,17 +46,23 @@ impl<'a> Timeline<'a> {
         let clocks = &report.outcome().clocks;
         let last = last_command_time(report.outcome());
         let end = end_time(&report.events, last);
+        let names = clocks
+            .iter()
+            .map(|clock| lane_name(clock.number, report.names()));
+        let letters = names.map(|name| columns(&name)).max().unwrap_or(0);
+        let left = 23.4 + LETTER * letters.max(LETTERS) as f64;
         let centres = (0..16).map(|lane| TOP + LANE * (f64::from(lane) + 0.5));
         Self {
             report,
             names: report.names(),
             axis: Axis {
                 end,
-                left: LEFT,
-                width: WIDTH - LEFT - RIGHT,
+                left,
+                width: WIDTH - left - RIGHT,
             },
             palette: Palette::new(&report.events),
             last,
+            left,
             lanes: clocks
                 .iter()
                 .map(|clock| clock.number)
@@ -112,11 +123,11 @@ impl<'a> Timeline<'a> {
         );
         let name = text(
             "name",
-            LEFT - 14.0,
+            self.left - 14.0,
             centre + 1.0,
-            &cut(&self.names.machine(machine)),
+            &lane_name(machine, self.names),
         );
-        back + &name + &text("count", LEFT - 14.0, centre + 16.0, &counts)
+        back + &name + &text("count", self.left - 14.0, centre + 16.0, &counts)
     }
 
     fn axis_mark(&self, time: f64) -> String {
@@ -128,8 +139,13 @@ impl<'a> Timeline<'a> {
 
     fn base(&self) -> String {
         let bottom = self.bottom;
-        let word = text("time", LEFT + self.axis.width / 2.0, bottom + 38.0, "time");
-        line("axis", (LEFT, bottom), (WIDTH - RIGHT, bottom)) + &word
+        let word = text(
+            "time",
+            self.left + self.axis.width / 2.0,
+            bottom + 38.0,
+            "time",
+        );
+        line("axis", (self.left, bottom), (WIDTH - RIGHT, bottom)) + &word
     }
 
     /// The time of the last command, and a veil over what lies after it and has not come yet.
@@ -212,10 +228,12 @@ fn short(time: f64, end: f64) -> String {
     })
 }
 
-/// A name that fits beside its lane.
-fn cut(name: &str) -> String {
-    if name.chars().count() <= LETTERS {
-        return name.to_string();
+/// A name that fits beside its lane. One that is cut is followed by the machine's number, so that no two look alike.
+fn lane_name(machine: u8, names: &Names) -> String {
+    let name = names.machine(machine);
+    if columns(&name) <= MOST_LETTERS {
+        return name;
     }
-    name.chars().take(LETTERS - 1).chain(['\u{2026}']).collect()
+    let number = format!(" ({machine})");
+    cut(&name, MOST_LETTERS - number.len()) + &number
 }

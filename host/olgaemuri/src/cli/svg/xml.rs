@@ -1,16 +1,17 @@
 //! Pieces of XML.
 
-/// Text between tags or in quotes. Characters that XML 1.0 does not have become the replacement character.
+use olgaemuri::text::visible;
+
+/// Text between tags or in quotes. Control characters, and characters that XML 1.0 does not have, become the replacement character.
 pub fn escaped(text: &str) -> String {
     let mut out = String::new();
-    for c in text.chars() {
+    for c in visible(text).chars() {
         match c {
             '&' => out.push_str("&amp;"),
             '<' => out.push_str("&lt;"),
             '>' => out.push_str("&gt;"),
             '"' => out.push_str("&quot;"),
-            '\t' => out.push(c),
-            c if c < ' ' || matches!(c, '\u{fffe}' | '\u{ffff}') => out.push('\u{fffd}'),
+            '\n' | '\u{fffe}' | '\u{ffff}' => out.push('\u{fffd}'),
             c => out.push(c),
         }
     }

@@ -13,7 +13,7 @@ mod times;
 
 use super::arguments::{Arguments, Known};
 use super::files::{called, load, same_file, write, write_by};
-use super::{Failure, help};
+use super::{Failure, help, terminal};
 use bar::Bar;
 use olgaemuri::SessionText;
 use parallel::in_order;
@@ -215,7 +215,7 @@ fn present(arguments: &Arguments, summary: &Summary, printed: bool) -> Result<u8
         } else if arguments.has("--json") {
             shown::summary_json(summary)
         } else {
-            shown::summary_text(summary)
+            shown::summary_text(summary, terminal::width())
         };
         write("-", text.as_bytes())?;
     }

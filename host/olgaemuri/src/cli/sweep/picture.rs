@@ -6,12 +6,16 @@ use super::summary::{Line, Summary};
 use crate::cli::svg::axis::Axis;
 use crate::cli::svg::xml::{escaped, line, place, rectangle, text};
 use crate::cli::wording::rounded;
+use olgaemuri::text::cut;
 
 const WIDTH: f64 = 1200.0;
 const LEFT: f64 = 330.0;
 const RIGHT: f64 = 50.0;
 const TOP: f64 = 74.0;
 const LANE: f64 = 34.0;
+
+/// Letters that there is room for beside a lane.
+const LETTERS: usize = 36;
 
 const STYLE: &str =
     "text { font-family: 'DejaVu Sans', Verdana, 'Segoe UI', sans-serif; fill: #222222; }
@@ -101,7 +105,7 @@ fn lane(of: &Line, axis: &Axis, y: f64) -> String {
     );
     let [x, centre] = [axis.x(mean), y].map(place);
     let parts = [
-        text("name", LEFT - 14.0, y, &cut(&words)),
+        text("name", LEFT - 14.0, y, &cut(&words, LETTERS)),
         text(
             "count",
             LEFT - 14.0,
@@ -118,17 +122,4 @@ fn lane(of: &Line, axis: &Axis, y: f64) -> String {
         escaped(&title),
         parts.concat()
     )
-}
-
-/// Words that fit beside a lane.
-fn cut(words: &str) -> String {
-    const LETTERS: usize = 36;
-    if words.chars().count() <= LETTERS {
-        return words.to_string();
-    }
-    words
-        .chars()
-        .take(LETTERS - 1)
-        .chain(['\u{2026}'])
-        .collect()
 }

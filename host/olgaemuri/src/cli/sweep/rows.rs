@@ -1,9 +1,9 @@
 //! A sweep's rows: the breakdowns of each run as CSV. A run without any has a row for itself, so that every run is seen.
 
 use super::summary::Refusals;
-use crate::cli::csv::quoted;
+use crate::cli::csv::{event_cells, quoted};
 use crate::cli::events::Event;
-use olgaemuri::text::{Names, float_text};
+use olgaemuri::text::Names;
 
 pub const HEAD: &str =
     "stream,machine,machine_name,cause,cause_name,censored,scheduled_at,time,ticks,state,refusals";
@@ -14,27 +14,14 @@ pub const CELLS: usize = 11;
 /// The rows of a run.
 pub fn rows(stream: u64, breakdowns: &[Event], refusals: &Refusals, names: &Names) -> String {
     let refusals = refusals_cell(refusals);
-    let row = |cells: String| format!("{stream},{cells},{refusals}\n");
     if breakdowns.is_empty() {
-        return row(",".repeat(CELLS - 3));
+        return format!("{stream}{}{refusals}\n", ",".repeat(CELLS - 1));
     }
-    let cells = |event: &Event| row(event_cells(event, names));
-    breakdowns.iter().map(cells).collect()
-}
-
-fn event_cells(event: &Event, names: &Names) -> String {
-    let cells = [
-        event.machine.to_string(),
-        quoted(&names.machine(event.machine)),
-        event.cause.to_string(),
-        quoted(&names.cause(event.cause)),
-        u8::from(event.censored).to_string(),
-        float_text(event.scheduled_at),
-        float_text(event.time),
-        event.ticks.to_string(),
-        event.fate.word().to_string(),
-    ];
-    cells.join(",")
+    let row = |event: &Event| {
+        let cells = event_cells(stream, event, names).map(|cell| quoted(&cell));
+        format!("{},{refusals}\n", cells.join(","))
+    };
+    breakdowns.iter().map(row).collect()
 }
 
 /// `9:1 15:2`: one command refused by 9, two by 15.

@@ -3,6 +3,7 @@
 use super::summary::{Line, Summary};
 use crate::cli::csv::quoted;
 use crate::cli::json::{number, object, string};
+use crate::cli::table::{Column, aligned};
 use crate::cli::wording::{meaning, rounded};
 use olgaemuri::text::float_text;
 use olgaemuri::{NO_CAUSE, Refusal};
@@ -19,27 +20,37 @@ fn times(line: &Line) -> [f64; 8] {
     [mean, least, p5, p25, p50, p75, p95, most]
 }
 
-pub fn summary_text(summary: &Summary) -> String {
-    let mut rows = vec![
-        ["machine", "cause", "count", "runs"]
-            .map(str::to_string)
-            .to_vec(),
-    ];
-    rows[0].extend(TIMES.map(str::to_string));
-    for line in summary.lines.values() {
-        let counts = [line.times.count(), line.runs].map(|count| count.to_string());
-        let names = [line.machine_name.clone(), line.cause_name.clone()];
-        rows.push([names, counts].concat());
-        rows.last_mut()
-            .expect("one was pushed")
-            .extend(times(line).map(rounded));
-    }
-    let table = if summary.lines.is_empty() {
+const COLUMNS: [Column; 12] = [
+    Column::Name("machine"),
+    Column::Name("cause"),
+    Column::Right("count"),
+    Column::Right("runs"),
+    Column::Right(TIMES[0]),
+    Column::Right(TIMES[1]),
+    Column::Right(TIMES[2]),
+    Column::Right(TIMES[3]),
+    Column::Right(TIMES[4]),
+    Column::Right(TIMES[5]),
+    Column::Right(TIMES[6]),
+    Column::Right(TIMES[7]),
+];
+
+/// In at most so many columns, where that is said.
+pub fn summary_text(summary: &Summary, most: Option<usize>) -> String {
+    let rows: Vec<Vec<String>> = summary.lines.values().map(cells).collect();
+    let table = if rows.is_empty() {
         "No breakdowns.\n".to_string()
     } else {
-        aligned(&rows)
+        aligned(&COLUMNS, &rows, most)
     };
     format!("{}\n{table}{}", head(summary), refused(summary))
+}
+
+fn cells(line: &Line) -> Vec<String> {
+    let names = [line.machine_name.clone(), line.cause_name.clone()];
+    let counts = [line.times.count(), line.runs].map(|count| count.to_string());
+    let times = times(line).map(rounded);
+    names.into_iter().chain(counts).chain(times).collect()
 }
 
 fn head(summary: &Summary) -> String {
@@ -66,34 +77,6 @@ fn refused(summary: &Summary) -> String {
     } else {
         format!("\nRefused commands:\n{lines}")
     }
-}
-
-/// Rows below their heads, numbers to the right; the first two columns are names.
-fn aligned(rows: &[Vec<String>]) -> String {
-    let width = |place: usize| rows.iter().map(|row| row[place].chars().count()).max();
-    let widths: Vec<usize> = (0..rows[0].len()).filter_map(width).collect();
-    let line = |row: &Vec<String>| {
-        let cells = row.iter().zip(&widths).enumerate();
-        let cells = cells.map(|(place, (cell, width))| {
-            if place < 2 {
-                format!("{cell:<width$}")
-            } else {
-                format!("{cell:>width$}")
-            }
-        });
-        cells
-            .collect::<Vec<String>>()
-            .join("  ")
-            .trim_end()
-            .to_string()
-            + "\n"
-    };
-    let rule: Vec<String> = widths.iter().map(|width| "-".repeat(*width)).collect();
-    let rest = rows[1..].iter().map(line);
-    [line(&rows[0]), line(&rule)]
-        .into_iter()
-        .chain(rest)
-        .collect()
 }
 
 pub fn summary_csv(summary: &Summary) -> String {

@@ -1,0 +1,111 @@
+//! Inputs of unusual size, with little memory and in little time.
+
+use super::program::{Ran, olgaemuri, with_memory};
+use std::time::{Duration, Instant};
+
+/// Far more than the work takes, far less than it takes where every word is compared with every other.
+const PATIENCE: Duration = Duration::from_secs(15);
+
+fn in_time(work: impl FnOnce() -> Ran) -> Ran {
+    let begun = Instant::now();
+    let ran = work();
+    let took = begun.elapsed();
+    assert!(took < PATIENCE, "{took:?}");
+    ran
+}
+
+#[test]
+fn a_long_journal_takes_no_memory() {
+    let session = b"journal 1073741824\ncreate machine=0 policy=retain\nundo\n";
+    let ran = with_memory(100, &["run", "-"], session);
+    assert_eq!((ran.status, ran.err.as_str()), (0, ""));
+    assert!(
+        ran.text().contains("2 commands: 2 accepted"),
+        "{}",
+        ran.text()
+    );
+}
+
+#[test]
+fn a_long_word_is_told_of_shortly() {
+    let word = "x".repeat(10_000_000);
+    for line in [
+        word.clone(),
+        format!("pause machine=0 {word}=1"),
+        format!("pause machine=0 now={word}"),
+        format!("create machine=0 policy={word}"),
+        format!("pause machine=\"{word}\" now=1"),
+        format!("entity={word}"),
+    ] {
+        let line = format!("machine 0 \"press\"\n{line}\n");
+        let ran = in_time(|| with_memory(300, &["run", "-"], line.as_bytes()));
+        assert_eq!((ran.status, ran.text()), (2, ""));
+        assert!(ran.err.starts_with("standard input:2:"), "{:.100}", ran.err);
+        assert!(ran.err.len() < 2_000, "{} bytes", ran.err.len());
+        assert_eq!(ran.err.lines().count(), 3);
+    }
+    let ran = in_time(|| {
+        olgaemuri(
+            &["interactive"],
+            format!("{word}\nhelp {word}\n").as_bytes(),
+        )
+    });
+    assert!(
+        ran.status == 0 && ran.out.len() < 2_000,
+        "{}",
+        ran.out.len()
+    );
+}
+
+#[test]
+fn many_names() {
+    let count = 50_000;
+    let names: String = (0..count)
+        .map(|n| format!("cause {n} \"cause no. {n}\"\n"))
+        .collect();
+    let used: String = (0..count)
+        .map(|n| format!("remove machine=0 cause=\"cause no. {n}\"\n"))
+        .collect();
+    let ran = in_time(|| {
+        olgaemuri(
+            &["convert", "-", "--to", "bare"],
+            (names.clone() + &used).as_bytes(),
+        )
+    });
+    assert_eq!((ran.status, ran.out.len()), (0, 6 * count));
+    let wrong = names + &used.replace("no.", "on.");
+    let ran = in_time(|| olgaemuri(&["convert", "-", "--to", "bare"], wrong.as_bytes()));
+    assert_eq!(ran.status, 2);
+    assert!(ran.err.contains("and 49980 more bad lines"));
+}
+
+/// A long session of one press: mostly edits, with an undo now and then.
+fn long_session(commands: usize) -> String {
+    let mut text = String::from(
+        "machine 0 \"press 1\"\nthresholds 2 1\ncreate machine=0 policy=retain scale=10\n\
+        set machine=0 cause=1 now=0 hazard=constant rate=0.5\n",
+    );
+    for number in (0..commands).step_by(4) {
+        let hour = number / 8;
+        text += &format!(
+            "reschedule machine=0 now={hour}\npause machine=0 now={hour}.25\n\
+            remove machine=0 cause=7\nundo\n"
+        );
+    }
+    text
+}
+
+#[test]
+fn long_sessions_need_little_memory() {
+    let session = long_session(200_000);
+    for words in [
+        &["run", "-"][..],
+        &["run", "-", "--csv"],
+        &["run", "-", "--json"],
+        &["convert", "-", "--to", "text"],
+    ] {
+        let ran = with_memory(150, words, session.as_bytes());
+        assert_eq!((ran.status, ran.err.as_str()), (0, ""), "{words:?}");
+        assert!(ran.out.len() > 5_000_000);
+    }
+}

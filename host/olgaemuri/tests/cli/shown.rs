@@ -1,0 +1,219 @@
+//! What a reader of the terminal sees: widths, wide and odd letters, numbers of things, which operand is refused.
+
+use super::program::olgaemuri;
+
+fn run(words: &[&str], session: &str) -> String {
+    let words = [&["run", "-"], words].concat();
+    let ran = olgaemuri(&words, session.as_bytes());
+    assert_eq!((ran.status, ran.err.as_str()), (0, ""));
+    ran.text().to_string()
+}
+
+const ONE: &str = "thresholds 2\ncreate machine=0 policy=retain scale=10\n\
+    set machine=0 cause=1 now=0 hazard=constant rate=0.5\nreschedule machine=0 now=0\n";
+
+#[test]
+fn one_of_a_thing() {
+    let out = run(&[], "create machine=0 policy=retain\n");
+    assert!(out.contains("\n1 command: 1 accepted, 0 refused;"), "{out}");
+    let out = run(&[], "undo\nraw 09\n");
+    assert!(
+        out.contains(" 1 byte from there on is no whole command."),
+        "{out}"
+    );
+    let picture = run(
+        &["--svg", "-"],
+        "thresholds 1\ncreate machine=0 policy=retain\n",
+    );
+    assert!(
+        picture.contains(">1 command in force, 0 taken back and not drawn; 0 thresholds drawn<"),
+        "{picture}"
+    );
+    let session = "examples/press-shop.session";
+    let one = olgaemuri(&["compare", session, "-"], ONE.as_bytes());
+    assert!(
+        one.text().ends_with("differ in 12 of 12 places.\n"),
+        "{}",
+        one.text()
+    );
+    let ran = olgaemuri(&["run", "-"], "x\n".repeat(21).as_bytes());
+    assert!(ran.err.ends_with("and 1 more bad line\n"), "{}", ran.err);
+}
+
+#[test]
+fn one_event_is_the_same() {
+    let file = super::program::scratch("one-event.session");
+    std::fs::write(&file, ONE).unwrap();
+    let ran = olgaemuri(&["compare", file.to_str().unwrap(), "-"], ONE.as_bytes());
+    std::fs::remove_file(&file).unwrap();
+    assert!(
+        ran.text()
+            .ends_with("are the same: 1 event, to the last bit.\n"),
+        "{}",
+        ran.text()
+    );
+}
+
+/// The columns that a text takes on a terminal, for the letters of these tests.
+fn columns(text: &str) -> usize {
+    let wide = |c: char| ('\u{1100}'..'\u{ffff}').contains(&c) || c > '\u{1f000}';
+    let width = |c: char| match c {
+        '\u{300}'..'\u{370}' => 0,
+        '\u{2026}' => 1,
+        c if wide(c) => 2,
+        _ => 1,
+    };
+    text.chars().map(width).sum()
+}
+
+#[test]
+fn wide_letters_are_aligned() {
+    let named = ONE.to_string()
+        + "machine 0 \"プレス機\"\nmachine 1 \"e\u{301}toile\"\nmachine 2 \"🔧\"\nmachine 3 \"plain\"\n"
+        + "create machine=1 policy=retain\ncreate machine=2 policy=retain\ncreate machine=3 policy=retain\n";
+    let out = run(&[], &named);
+    let rows = out.lines().filter(|line| line.contains(" create "));
+    let places: Vec<usize> = rows
+        .map(|line| columns(line.split(" create ").next().unwrap()))
+        .collect();
+    assert_eq!(places.len(), 4, "{out}");
+    assert!(
+        places.iter().all(|place| *place == places[0]),
+        "{places:?}\n{out}"
+    );
+}
+
+#[test]
+fn control_characters_do_not_reach_the_terminal() {
+    let odd = "a\u{1b}[31m\u{7}\u{9b}\u{202e}b";
+    let session = format!("machine 0 \"{odd}\"\ncause 1 \"{odd}\"\n{ONE}pause machine=1 now=0\n");
+    let is_odd = |c: char| (c.is_control() && c != '\n') || c == '\u{202e}';
+    let out = run(&[], &session);
+    assert!(!out.contains(is_odd), "{out:?}");
+    let picture = run(&["--svg", "-"], &session);
+    assert!(!picture.contains(is_odd), "{picture:?}");
+    let typed = olgaemuri(
+        &["interactive"],
+        format!("{session}list\nsave no/such \u{1b}[31m\n").as_bytes(),
+    );
+    assert!(!typed.text().contains(is_odd), "{:?}", typed.text());
+    let bad = olgaemuri(
+        &["run", "-"],
+        format!("und{odd}\npause machine=\"{odd}\" now=1 {odd}=3\n").as_bytes(),
+    );
+    assert!(
+        bad.status == 2 && !bad.err.contains(is_odd),
+        "{:?}",
+        bad.err
+    );
+    let side_by_side = olgaemuri(
+        &["compare", "-", "examples/press-shop.session"],
+        session.as_bytes(),
+    );
+    assert!(!side_by_side.text().contains(is_odd));
+    // data stays as it is
+    let text = olgaemuri(&["convert", "-", "--to", "text"], session.as_bytes());
+    assert!(text.text().contains(odd));
+}
+
+#[test]
+fn tables_fit_the_width() {
+    let session = String::from_utf8(super::program::example("press-shop.session")).unwrap();
+    for width in [80, 100, 120, 159] {
+        let out = run(&["--width", &width.to_string()], &session);
+        let widest = out.lines().map(columns).max().unwrap();
+        assert!(widest <= width, "{widest} columns of {width}\n{out}");
+        // nothing is lost
+        let words = out.split_whitespace().collect::<Vec<&str>>().join(" ");
+        for part in [
+            "tool break: rate 0.06",
+            "undone by 34",
+            "52 commands: 51 accepted",
+        ] {
+            assert!(words.contains(part), "{part}\n{out}");
+        }
+    }
+    assert_eq!(run(&["--width", "400"], &session), run(&[], &session));
+    let ran = olgaemuri(&["run", "-", "--width", "x"], b"");
+    assert_eq!(ran.status, 2);
+    assert!(
+        ran.err
+            .starts_with("expected a whole number of columns, 40 or more, not `x`\n"),
+        "{}",
+        ran.err
+    );
+}
+
+#[test]
+fn help_fits_80_columns() {
+    for topic in [
+        "",
+        "run",
+        "compare",
+        "convert",
+        "interactive",
+        "thresholds",
+        "sweep",
+        "summary",
+        "format",
+        "answers",
+        "refusals",
+    ] {
+        let words: &[&str] = if topic.is_empty() {
+            &["help"]
+        } else {
+            &["help", topic]
+        };
+        let out = olgaemuri(words, b"");
+        let longest = out.text().lines().max_by_key(|line| columns(line)).unwrap();
+        assert!(columns(longest) <= 80, "{longest}");
+    }
+}
+
+#[test]
+fn refusal_5_names_the_operand() {
+    let cases = [
+        (
+            "create machine=1 policy=retain scale=inf",
+            "scale=inf: a scale is finite and at most 2^40 in size",
+        ),
+        ("pause machine=0 now=-1", "now=-1: a time is from 0 to 2^40"),
+        (
+            "pause machine=0 now=-0",
+            "now=-0: a time is from 0 to 2^40, and -0 is below 0",
+        ),
+        (
+            "reschedule machine=0 now=0 censor=2e12",
+            "censor=2000000000000: a time is from 0 to 2^40",
+        ),
+        (
+            "resume machine=0 now=0x7ff8000000000000 censor=-1",
+            "now=0x7ff8000000000000, censor=-1: a time is from 0 to 2^40",
+        ),
+        (
+            "set machine=0 cause=2 now=0 hazard=constant rate=-inf",
+            "rate=-inf: a rate is finite and at most 2^40 in size",
+        ),
+        (
+            "set machine=0 cause=2 now=0 hazard=gompertz eta=1e13",
+            "eta=10000000000000: a rate is finite and at most 2^40 in size",
+        ),
+        (
+            "set machine=0 cause=2 now=-3 hazard=piecewise pieces=1:1,2:inf then=inf",
+            "now=-3: a time is from 0 to 2^40; rate inf up to 2, then=inf: a rate is finite and at most 2^40 in size",
+        ),
+    ];
+    for (line, expected) in cases {
+        let out = run(&["--csv"], &format!("{ONE}{line}\n"));
+        let last = out.lines().last().unwrap();
+        assert!(
+            last.contains(",5,") && last.contains(expected),
+            "{expected}\n{last}"
+        );
+        let out = run(&[], &format!("{ONE}{line}\n"));
+        assert!(out.contains(expected), "{expected}\n{out}");
+        let typed = olgaemuri(&["interactive"], format!("{ONE}{line}\n").as_bytes());
+        let told = format!("refused by 5: {expected}; nothing has changed\n");
+        assert!(typed.text().contains(&told), "{told}\n{}", typed.text());
+    }
+}

@@ -1,0 +1,43 @@
+//! Standard output and standard error that cannot be written.
+
+use super::program::by_shell;
+
+const SESSION: &str = "examples/press-shop.session";
+
+#[test]
+fn standard_error_that_cannot_be_written() {
+    for words in [&["run", "no such file"][..], &["rnu"], &["run", "--cvs"]] {
+        let ran = by_shell("exec \"$@\" 2>/dev/full", words, b"");
+        assert_eq!(ran.status, 2, "{words:?}");
+        let ran = by_shell("exec \"$@\" 2>&-", words, b"");
+        assert_eq!(ran.status, 2, "{words:?}");
+    }
+}
+
+#[test]
+fn standard_output_that_cannot_be_written() {
+    let words: [&[&str]; 6] = [
+        &["run", SESSION],
+        &["run", SESSION, "--csv"],
+        &["run", SESSION, "--json"],
+        &["run", SESSION, "--svg", "-"],
+        &["compare", SESSION, SESSION],
+        &["convert", "--to", "text", SESSION],
+    ];
+    for words in words {
+        let ran = by_shell("exec \"$@\" >/dev/full", words, b"");
+        assert_eq!(ran.status, 2, "{words:?}");
+        assert!(
+            ran.err.starts_with("cannot write standard output: "),
+            "{}",
+            ran.err
+        );
+    }
+}
+
+#[test]
+fn a_reader_that_has_gone_away_is_no_failure() {
+    let ran = by_shell("\"$@\" | head -n 1", &["run", SESSION], b"");
+    assert_eq!((ran.status, ran.err.as_str()), (0, ""));
+    assert_eq!(ran.text().lines().count(), 1);
+}
