@@ -10,6 +10,7 @@ mod program;
 #[path = "../cli/xml.rs"]
 mod xml;
 
+mod document;
 mod parts;
 mod summaries;
 mod thresholds;

@@ -1,7 +1,7 @@
 //! A summary drawn: for each machine and cause a box from the first quarter of the times to the third, a line to 5 and 95 of a
 //! hundred, the median and the mean.
 
-use super::shown::SHARES;
+use super::shown::{SHARES, runs};
 use super::summary::{Line, Summary};
 use crate::cli::svg::axis::Axis;
 use crate::cli::svg::xml::{escaped, line, place, rectangle, text};
@@ -15,7 +15,7 @@ const TOP: f64 = 74.0;
 const LANE: f64 = 34.0;
 
 /// Letters that there is room for beside a lane.
-const LETTERS: usize = 36;
+const LETTERS: usize = 33;
 
 const STYLE: &str =
     "text { font-family: 'DejaVu Sans', Verdana, 'Segoe UI', sans-serif; fill: #222222; }
@@ -54,13 +54,13 @@ pub fn picture(summary: &Summary, title: &str) -> String {
         .collect();
     let base = line("axis", (LEFT, bottom), (WIDTH - RIGHT, bottom));
     let [width, height] = [WIDTH, bottom + 56.0].map(place);
-    let (title, runs) = (escaped(title), summary.runs);
+    let (title, runs) = (escaped(title), runs(summary.runs));
     format!(
         "<svg xmlns=\"http://www.w3.org/2000/svg\" width=\"{width}\" height=\"{height}\" \
          viewBox=\"0 0 {width} {height}\" role=\"img\">\n<title>{title}</title>\n<style>\n{STYLE}</style>\n\
          <rect width=\"{width}\" height=\"{height}\" fill=\"#fdfdfb\"/>\n\
          <text class=\"title\" x=\"24\" y=\"30\">{title}</text>\n\
-         <text class=\"sub\" x=\"24\" y=\"49\">{runs} runs. Line: 5 to 95 of a hundred times; box: 25 to 75; \
+         <text class=\"sub\" x=\"24\" y=\"49\">{runs}. Line: 5 to 95 of a hundred times; box: 25 to 75; \
          bar: median; dot: mean</text>\n{}{grid}{lanes}{base}{}</svg>\n",
         backs(summary.lines.len()),
         text("time", LEFT + axis.width / 2.0, bottom + 40.0, "time"),
@@ -97,21 +97,16 @@ fn lane(of: &Line, axis: &Axis, y: f64) -> String {
     let [_, p5, p25, p50, p75, p95] = times.map(|time| axis.x(time));
     let words = format!("{}: {}", of.machine_name, of.cause_name);
     let shown: Vec<String> = times[1..].iter().map(|time| rounded(*time)).collect();
-    let (count, runs) = (of.times.count(), of.runs);
+    let found = format!("{} in {}", of.times.count(), runs(of.runs));
     let title = format!(
-        "{words}: {count} in {runs} runs; mean {}; 5, 25, 50, 75, 95 of a hundred: {}",
+        "{words}: {found}; mean {}; 5, 25, 50, 75, 95 of a hundred: {}",
         rounded(mean),
         shown.join(", ")
     );
     let [x, centre] = [axis.x(mean), y].map(place);
     let parts = [
         text("name", LEFT - 14.0, y, &cut(&words, LETTERS)),
-        text(
-            "count",
-            LEFT - 14.0,
-            y + 13.0,
-            &format!("{count} in {runs} runs"),
-        ),
+        text("count", LEFT - 14.0, y + 13.0, &found),
         line("range", (p5, y), (p95, y)),
         rectangle("box", p25, y - 8.0, p75 - p25, 16.0),
         line("median", (p50, y - 8.0), (p50, y + 8.0)),

@@ -4,8 +4,8 @@ use super::summary::{Line, Summary};
 use crate::cli::csv::quoted;
 use crate::cli::json::{number, object, string};
 use crate::cli::table::{Column, aligned};
-use crate::cli::wording::{meaning, rounded};
-use olgaemuri::text::float_text;
+use crate::cli::wording::{counted, meaning};
+use olgaemuri::text::{columns, float_text};
 use olgaemuri::{NO_CAUSE, Refusal};
 
 /// The quantiles that are shown, of a hundred; the first is the least time.
@@ -35,13 +35,16 @@ const COLUMNS: [Column; 12] = [
     Column::Right(TIMES[7]),
 ];
 
-/// In at most so many columns, where that is said.
+/// Columns that are left out where there is little room: min, p25, p75, max.
+const SPARED: [usize; 4] = [5, 7, 9, 11];
+
+/// In at most so many columns of a terminal, where that is said and as far as it goes.
 pub fn summary_text(summary: &Summary, most: Option<usize>) -> String {
     let rows: Vec<Vec<String>> = summary.lines.values().map(cells).collect();
     let table = if rows.is_empty() {
         "No breakdowns.\n".to_string()
     } else {
-        aligned(&COLUMNS, &rows, most)
+        table(&rows, most)
     };
     format!("{}\n{table}{}", head(summary), refused(summary))
 }
@@ -49,27 +52,63 @@ pub fn summary_text(summary: &Summary, most: Option<usize>) -> String {
 fn cells(line: &Line) -> Vec<String> {
     let names = [line.machine_name.clone(), line.cause_name.clone()];
     let counts = [line.times.count(), line.runs].map(|count| count.to_string());
-    let times = times(line).map(rounded);
+    let times = times(line).map(short);
     names.into_iter().chain(counts).chain(times).collect()
 }
 
+fn table(rows: &[Vec<String>], most: Option<usize>) -> String {
+    let whole = aligned(&COLUMNS, rows, None);
+    let width = whole.lines().map(columns).max().unwrap_or(0);
+    if most.is_none_or(|most| width <= most) {
+        return whole;
+    }
+    let kept: Vec<usize> = (0..COLUMNS.len())
+        .filter(|place| !SPARED.contains(place))
+        .collect();
+    let heads: Vec<Column> = kept.iter().map(|place| COLUMNS[*place]).collect();
+    let cells = |row: &Vec<String>| kept.iter().map(|place| row[*place].clone()).collect();
+    let rows: Vec<Vec<String>> = rows.iter().map(cells).collect();
+    aligned(&heads, &rows, most)
+}
+
+/// A time with five digits, or the digits before its point.
+fn short(time: f64) -> String {
+    if time != 0.0 && !(1e-3..1e12).contains(&time) {
+        return format!("{time:.2e}");
+    }
+    let whole = (time as u64).to_string().len();
+    let text = format!("{time:.0$}", 5usize.saturating_sub(whole));
+    if text.contains('.') {
+        text.trim_end_matches('0').trim_end_matches('.').to_string()
+    } else {
+        text
+    }
+}
+
 fn head(summary: &Summary) -> String {
+    let first = summary.first;
     match summary.runs {
         0 => "No runs.\n".to_string(),
-        1 => format!("1 run, stream {}.\n", summary.first),
-        runs => format!(
-            "{runs} runs, streams {} to {}.\n",
-            summary.first,
-            summary.first + (runs - 1)
+        1 => format!("1 run, stream {first}.\n"),
+        count => format!(
+            "{}, streams {first} to {}.\n",
+            runs(count),
+            first + (count - 1)
         ),
     }
 }
 
+/// So many runs.
+pub fn runs(count: u64) -> String {
+    counted(usize::try_from(count).unwrap_or(usize::MAX), "run")
+}
+
 /// What was refused, a line for each number.
 fn refused(summary: &Summary) -> String {
-    let line = |(number, (commands, runs)): (&u8, &(u64, u64))| {
+    let line = |(number, (commands, in_runs)): (&u8, &(u64, u64))| {
         let why = Refusal::from_number(*number).map_or_else(String::new, meaning);
-        format!("  by {number}, in {runs} runs: {commands} ({why})\n")
+        let in_runs = runs(*in_runs);
+        format!("  by {number}, in {in_runs}: {commands} ({why})\n")
     };
     let lines: String = summary.refusals.iter().map(line).collect();
     if lines.is_empty() {
@@ -132,4 +171,38 @@ fn array(elements: &[String]) -> String {
         return "[]".to_string();
     }
     format!("[\n    {}\n  ]", elements.join(",\n    "))
+}
+
+#[cfg(test)]
+mod tests {
+    use super::*;
+
+    #[test]
+    fn times_are_short() {
+        for (time, text) in [
+            (0.0, "0"),
+            (160.0, "160"),
+            (159.98765, "159.99"),
+            (65.953142, "65.953"),
+            (0.0026123, "0.0026"),
+            (1.5, "1.5"),
+            (1234567.8, "1234568"),
+            (1.23456789e-7, "1.23e-7"),
+        ] {
+            assert_eq!(short(time), text);
+        }
+    }
+
+    #[test]
+    fn a_narrow_table_has_fewer_columns() {
+        let mut summary = Summary::default();
+        summary.run(0, &Vec::new());
+        let names = || ["a machine", "a cause"].map(str::to_string);
+        summary.breakdown((0, 1), 123.456, names);
+        let wide = summary_text(&summary, None);
+        assert_eq!(summary_text(&summary, Some(120)), wide);
+        let narrow = summary_text(&summary, Some(70));
+        let head = "machine    cause    count  runs    mean      p5     p50     p95";
+        assert!(narrow.contains(head), "{narrow}");
+    }
 }
