@@ -1,8 +1,8 @@
 //! Survival clocks with competing causes and an undo that gives every event back, run by the proved engine.
 //!
 //! A [`Session`] holds recorded thresholds and a list of [`Command`]s; [`Session::run`] gives them to the engine and returns an
-//! [`Outcome`]: every [`Answer`], the applied commands, the clocks with their pending events, the number of draws. What the
-//! engine refuses it refuses by a [`Refusal`], and nothing changes. [`Exponential`] draws thresholds from a seed. Bytes are laid out as in document 01, which
+//! [`Outcome`]: every [`Answer`], the applied commands, the clocks with their pending events. What the engine refuses it refuses by
+//! a [`Refusal`], and nothing changes. [`Exponential`] draws thresholds from a seed. Bytes are laid out as in document 01, which
 //! docs/SPECIFICATION.md in the repository sets out in full.
 
 #![forbid(unsafe_code)]

@@ -2,7 +2,7 @@
 
 use std::io;
 use std::ops::Range;
-use std::sync::mpsc::sync_channel;
+use std::sync::mpsc::{Receiver, sync_channel};
 use std::thread;
 
 /// Items that go from one thread to the other together.
@@ -24,25 +24,25 @@ pub fn in_order<T: Send>(
         let begin = numbers.start + place * CHUNK;
         begin..numbers.end.min(begin + CHUNK)
     };
+    let threads = threads.max(1);
     thread::scope(|scope| {
         let (chunk, work) = (&chunk, &work);
         // thread n does chunks n, n + threads, n + 2 threads, ...
-        let begun = (0..chunks).take(threads.max(1)).map(|first| {
+        let begun = (0..chunks).take(threads).map(|first| {
             let (done, waiting) = sync_channel(WAITING);
-            scope.spawn(move || {
-                let mut own = (first..chunks).step_by(threads.max(1));
+            let own = move || {
+                let mut own = (first..chunks).step_by(threads);
                 // a taker that is gone wants no more
                 own.try_for_each(|place| done.send(chunk(place).map(work).collect::<Vec<T>>()))
-            });
-            waiting
+            };
+            thread::Builder::new().spawn_scoped(scope, own)?;
+            Ok(waiting)
         });
-        let begun: Vec<_> = begun.collect();
-        let mut turns = begun.iter().cycle();
-        (0..chunks).try_for_each(|_| {
-            let results = turns.next().and_then(|thread| thread.recv().ok());
-            let mut results = results.into_iter().flatten();
-            results.try_for_each(&mut take)
-        })
+        let begun: Vec<Receiver<Vec<T>>> = begun.collect::<io::Result<_>>()?;
+        let turns = begun.iter().cycle().zip(0..chunks);
+        // a thread that failed sends no more, and its failure goes on from here
+        let results = turns.map_while(|(thread, _)| thread.recv().ok());
+        results.flatten().try_for_each(&mut take)
     })
 }
 
