@@ -81,6 +81,17 @@ fn the_table() {
 }
 
 #[test]
+fn the_picture() {
+    let title = "A press shop over two weeks, in hours, ten thousand times";
+    let words = WHOLE
+        .split(' ')
+        .chain(["10000", "--svg", "-", "--title", title]);
+    let drawn = olgaemuri(&words.collect::<Vec<&str>>(), b"").out;
+    assert!(drawn == crate::program::example("press-shop-sweep.svg"));
+    assert!(text().contains("(../examples/press-shop-sweep.svg)"));
+}
+
+#[test]
 fn the_heads_of_the_rows() {
     let printed = String::from_utf8(whole("1", "--rows -")).unwrap();
     let heads = printed.lines().next().unwrap();
