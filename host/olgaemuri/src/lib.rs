@@ -3,6 +3,7 @@
 //! A [`Session`] holds recorded thresholds and a list of [`Command`]s; [`Session::run`] gives them to the engine and returns an
 //! [`Outcome`]: every [`Answer`], the applied commands, the clocks with their pending events. [`Session::undo`] and
 //! [`Session::redo`] take steps back and do them again. What the engine refuses it refuses by a [`Refusal`], and nothing changes.
+//! [`Exponential`] draws thresholds from a seed.
 //!
 //! Sessions are read and written as text ([`SessionText`], or [`str::parse`] and [`ToString`] of a [`Session`]) and as bytes
 //! ([`Session::to_bytes`], [`Session::from_bytes`]); docs/SESSION-FORMAT.md has both formats. Commands and answers are laid out as
@@ -21,12 +22,15 @@ mod command;
 mod command_bytes;
 mod container;
 mod draws;
+mod exponential;
 mod fields;
 mod hazard;
 mod history;
 mod input;
 mod ledger;
+mod logarithm;
 mod outcome;
+mod philox;
 mod refusal;
 mod session;
 pub mod text;
@@ -38,6 +42,7 @@ pub use clock::{Cause, Clock};
 pub use command::{CLOCKS, Command, Entity, NO_CAUSE};
 pub use command_bytes::width;
 pub use container::BytesError;
+pub use exponential::Exponential;
 pub use hazard::{Hazard, MAX_PAIRS, Pair};
 pub use input::Input;
 pub use ledger::{Account, Pending};

@@ -100,6 +100,32 @@ impl Session {
         self
     }
 
+    /// The same list and journal length over other thresholds.
+    ///
+    /// ```
+    /// use olgaemuri::{Exponential, Session};
+    ///
+    /// let press = "create machine=0 policy=retain\nset machine=0 cause=1 now=0 hazard=constant rate=0.5\nreschedule machine=0 now=0\n";
+    /// let press: Session = press.parse()?;
+    /// let time = |stream| {
+    ///     let thresholds: Vec<f64> = Exponential::new(1, stream).take(1).collect();
+    ///     press.with_thresholds(thresholds).run().pending()[0].delta
+    /// };
+    /// let mean = (0..1000).map(time).sum::<f64>() / 1000.0;
+    /// assert!((1.8..2.2).contains(&mean));
+    /// # Ok::<(), olgaemuri::TextError>(())
+    /// ```
+    #[must_use]
+    pub fn with_thresholds(&self, thresholds: impl Into<Vec<f64>>) -> Self {
+        Self {
+            thresholds: thresholds.into(),
+            commands: self.commands.clone(),
+            journal_length: self.journal_length,
+            groups: self.groups.clone(),
+            ..Self::default()
+        }
+    }
+
     /// Adds thresholds behind those that are there. A command that was refused by 15 may be accepted then.
     pub fn push_thresholds(&mut self, thresholds: &[f64]) {
         self.changed();

@@ -94,7 +94,8 @@ fn answer_cells(row: &Row, names: &Names) -> [String; 18] {
     ]
 }
 
-fn event_cells(number: usize, event: &Event, names: &Names) -> [String; 10] {
+/// An event's cells behind a number.
+pub fn event_cells(number: u64, event: &Event, names: &Names) -> [String; 10] {
     [
         number.to_string(),
         event.machine.to_string(),
@@ -110,7 +111,7 @@ fn event_cells(number: usize, event: &Event, names: &Names) -> [String; 10] {
 }
 
 /// In quotes where the cell holds a comma, a quote or the end of a line.
-fn quoted(cell: &str) -> String {
+pub fn quoted(cell: &str) -> String {
     if cell.contains([',', '"', '\n', '\r']) {
         format!("\"{}\"", cell.replace('"', "\"\""))
     } else {

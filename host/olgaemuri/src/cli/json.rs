@@ -22,7 +22,7 @@ pub fn string(text: &str) -> String {
 }
 
 /// A finite float; null for another, which no answer has and no accepted command.
-fn number(value: f64) -> String {
+pub fn number(value: f64) -> String {
     if value.is_finite() {
         float_text(value)
     } else {
@@ -30,11 +30,11 @@ fn number(value: f64) -> String {
     }
 }
 
-fn maybe<T>(value: Option<T>, text: impl Fn(T) -> String) -> String {
+pub fn maybe<T>(value: Option<T>, text: impl Fn(T) -> String) -> String {
     value.map_or_else(|| "null".to_string(), text)
 }
 
-fn object(fields: &[(&str, String)]) -> String {
+pub fn object(fields: &[(&str, String)]) -> String {
     let fields: Vec<String> = fields
         .iter()
         .map(|(name, value)| format!("\"{name}\": {value}"))

@@ -10,14 +10,17 @@ mod files;
 mod help;
 mod interactive;
 mod json;
+mod numbers;
 mod out_of_range;
 mod progress;
 mod report;
 mod report_table;
 mod run;
 mod svg;
+mod sweep;
 mod table;
 mod terminal;
+mod thresholds;
 mod wording;
 
 use arguments::{Arguments, Known};
@@ -44,7 +47,16 @@ impl From<String> for Failure {
     }
 }
 
-const SUBCOMMANDS: [&str; 5] = ["run", "compare", "convert", "interactive", "help"];
+const SUBCOMMANDS: [&str; 8] = [
+    "run",
+    "compare",
+    "convert",
+    "interactive",
+    "thresholds",
+    "sweep",
+    "summary",
+    "help",
+];
 
 const HELP_ONLY: [Known; 1] = [Known::flag("--help")];
 
@@ -77,6 +89,14 @@ fn dispatch(words: &[String]) -> Result<u8, Failure> {
             help::INTERACTIVE,
             interactive::interactive,
         ),
+        "thresholds" => with(
+            rest,
+            &thresholds::OPTIONS,
+            help::THRESHOLDS,
+            thresholds::thresholds,
+        ),
+        "sweep" => with(rest, &sweep::OPTIONS, help::SWEEP, sweep::sweep),
+        "summary" => with(rest, &sweep::SUMMARY_OPTIONS, help::SUMMARY, sweep::summary),
         "help" | "--help" | "-h" => help::show(rest.first().map(String::as_str)),
         "--version" | "-V" => {
             files::write(

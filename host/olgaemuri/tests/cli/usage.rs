@@ -144,7 +144,7 @@ fn without_words_and_without_a_terminal_it_says_how_it_is_used() {
     assert_eq!(ran.status, 2);
     assert!(
         ran.err
-            .contains("usage: olgaemuri run|compare|convert|interactive|help")
+            .contains("usage: olgaemuri run|compare|convert|interactive|thresholds|sweep|")
     );
 }
 

@@ -187,7 +187,7 @@ fn rows_10_to_12() {
 
     let mut session = row_9();
     session.push(set(1, 0.5, 4.0));
-    assert_eq!((session.run().draws, results("11")), (2, vec!["draws 1.0"]));
+    assert_eq!((session.draws(), results("11")), (2, vec!["draws 1.0"]));
 
     let mut session = Session::new([2.0, 1.0]);
     session.extend([create(Policy::RetainResidual), set(1, 0.5, 0.0)]);

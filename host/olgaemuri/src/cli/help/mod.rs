@@ -16,16 +16,25 @@ pub const CONVERT: &str = include_str!("convert.txt");
 
 pub const INTERACTIVE: &str = include_str!("interactive.txt");
 
+pub const THRESHOLDS: &str = include_str!("thresholds.txt");
+
+pub const SWEEP: &str = include_str!("sweep.txt");
+
+pub const SUMMARY: &str = include_str!("summary.txt");
+
 pub const FORMAT: &str = include_str!("format.txt");
 
 pub const ANSWERS: &str = include_str!("answers.txt");
 
 /// The topics of `olgaemuri help`.
-const TOPICS: [(&str, &str); 6] = [
+const TOPICS: [(&str, &str); 9] = [
     ("run", RUN),
     ("compare", COMPARE),
     ("convert", CONVERT),
     ("interactive", INTERACTIVE),
+    ("thresholds", THRESHOLDS),
+    ("sweep", SWEEP),
+    ("summary", SUMMARY),
     ("format", FORMAT),
     ("answers", ANSWERS),
 ];
@@ -35,26 +44,25 @@ pub fn show(topic: Option<&str>) -> Result<u8, Failure> {
     let text = match topic {
         None => GENERAL.to_string(),
         Some("refusals") => refusals(),
-        Some(topic) => match lines_on(topic, &[FORMAT]) {
-            lines if lines.is_empty() => found(topic)?.to_string(),
-            lines => lines,
+        Some(topic) => match TOPICS.iter().find(|known| known.0 == topic) {
+            Some(known) => known.1.to_string(),
+            None => on_word(topic)?,
         },
     };
     write("-", text.as_bytes())?;
     Ok(0)
 }
 
-fn found(topic: &str) -> Result<&'static str, Failure> {
-    let found = TOPICS.iter().find(|known| known.0 == topic);
-    found.map(|known| known.1).ok_or_else(|| {
-        let names: Vec<&str> = TOPICS
-            .iter()
-            .map(|known| known.0)
-            .chain(["refusals"])
-            .collect();
-        let hint = hint_or(topic, &names, &format!("; there are {}", names.join(", ")));
-        Failure::from(format!("there is no help on `{topic}`{hint}"))
-    })
+/// What is said of a word of the format.
+fn on_word(word: &str) -> Result<String, Failure> {
+    let lines = lines_on(word, &[FORMAT]);
+    if !lines.is_empty() {
+        return Ok(lines);
+    }
+    let topics = TOPICS.iter().map(|known| known.0);
+    let names: Vec<&str> = topics.chain(["refusals"]).collect();
+    let hint = hint_or(word, &names, &format!("; there are {}", names.join(", ")));
+    Err(Failure::from(format!("there is no help on `{word}`{hint}")))
 }
 
 /// Every refusal with its number.

@@ -1,12 +1,12 @@
 //! A timeline for each machine, as a scalable picture. It shows what is in force after the whole list: undone commands have left
 //! no trace.
 
-mod axis;
+pub mod axis;
 mod legend;
 mod marks;
 mod spans;
 mod timeline;
-mod xml;
+pub mod xml;
 
 use super::report::Report;
 use super::wording::counted;

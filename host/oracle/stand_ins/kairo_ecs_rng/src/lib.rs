@@ -3,10 +3,10 @@
 
 #![forbid(unsafe_code)]
 
-#[rustfmt::skip]
-#[path = "../../../../../../shared/docs/src/crates/kairo-ecs-rng/src/competing_risks.rs"]
-pub mod competing_risks;
 mod stream;
+
+// the file, as host/oracle/unchanged.rs has found it
+include!(concat!(env!("OUT_DIR"), "/unchanged.rs"));
 
 pub use competing_risks::*;
 pub use stream::{DeterministicStream, THRESHOLD_BYTES};
