@@ -1,5 +1,5 @@
 -- What each method of a clock leaves alone, and what it does to its scheduled event, winner and active flag. The engine's queue rests on
--- these laws.
+-- those that it cites; docs/DEMANDS.md names the others for readers.
 use mathlib.Core.Path.{_≡_, refl, ap, sym}
 use mathlib.Core.Bool.{Bool, true, false, true≢false}
 use mathlib.Core.List.{List}

@@ -1,4 +1,5 @@
 -- Document 01, "Clocks": SurvivalClock of hazard_clock.rs as a record, and the methods new, remove_channel and compute_earliest_event.
+-- set_channel is in Setting; reschedule, pause, resume and on_event_dispatched are in Scheduling.
 use mathlib.Core.Bool.{Bool, false, cond}
 use mathlib.Core.List.{List, [], _∷_, _++_}
 use Prim.Native.Nat.{ℕ, _-_}

@@ -89,13 +89,13 @@ module _ (E : Engine) (R : LedgerFields E) (K : Queueing E) (n : ℕ) (L : Laws 
   ledger-holds : (u : Session E) (cs : List Bytes) (v : E .State) (b : Ledger) → AllWhole E cs → replay E (some (u .state)) cs ≡ some v
       → SoundState (u .state) → Holds (u .state) b → Holds v (ledgerOf E R u b cs)
   unfolding ledgerOf replay
-  ledger-holds u [] v b w e good h = let q : u .state ≡ v = cc in subst (λ (x : E .State). Holds x b) q h
-  ledger-holds u (c ∷ cs) v b w e good h =
+  ledger-holds u [] v b w e sound-now h = let q : u .state ≡ v = cc in subst (λ (x : E .State). Holds x b) q h
+  ledger-holds u (c ∷ cs) v b w e sound-now h =
       let f : First E (u .state) c cs v = first E (u .state) c cs v (w .0) e in
       let g = feed-one E n L u c (f .next) (f .answer) (w .0) (f .asked) (f .did) in
       let k : Holds (f .next) (recordCommand E R b c (f .answer)) =
-      holds-feed (u .state) (f .next) c (f .answer) b (w .0) h good (f .did) in
-      let kept : SoundState (f .next) = S .keeps (u .state) (f .next) c (f .answer) (w .0) good (f .did) in
+      holds-feed (u .state) (f .next) c (f .answer) b (w .0) h sound-now (f .did) in
+      let kept : SoundState (f .next) = S .keeps (u .state) (f .next) c (f .answer) (w .0) sound-now (f .did) in
       ledger-holds (feed E u c) cs v (recordReply E R b c (execute E (u .state) (u .journal) c .reply)) (w .1)
       (ap (λ (x : E .State). replay E (some x) cs) (g .0) ∙ f .rest) (subst SoundState (sym (g .0)) kept)
       (subst (λ (r : Reply (E .Answer)). Holds (feed E u c .state) (recordReply E R b c r)) (sym (g .2))

@@ -9,7 +9,7 @@ use lib.IntN.{ℤ}
 use lib.Signed.{leZ, ≤ℤ-refl}
 use lib.Ieee.{Float, binary64, isNan, toBits}
 use lib.Ieee.Bits.{is-true}
-use Rattle.hazards.specs.Checks.{kindNumber, ownRate}
+use Rattle.hazards.specs.Rates.{kindNumber, ownRate}
 use Rattle.hazards.specs.Ties.{tieNumber}
 use Rattle.hazards.specs.declared.rates.HazardRate.{HazardRate}
 use Rattle.hazards.specs.declared.rates.Intervals.{Intervals}

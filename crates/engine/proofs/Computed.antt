@@ -4,8 +4,8 @@ use Rattle.hazards.specs.Floats.{notBelowZero, zeroBits, inRange, isTime, isThr
 use Rattle.hazards.specs.Lists.{all, foldl, insertBy, sortBy}
 use Rattle.hazards.specs.Fields.{littleEndian, bytesOf, fieldAt, f64At, i32At}
 use Rattle.hazards.specs.Rates.{piecesBy, firstAfter, usedPairs, piecewiseHazard, hazardOfRate, hazardAt, piecewiseCumulative}
-use Rattle.hazards.specs.Rates.{cumulativeOfRate, cumulativeHazard, waitFrom, constantWait, waitOfRate, invertCumulativeHazard}
-use Rattle.hazards.specs.Checks.{ownRate, rangeFault, ascending, intervalsFault, choiceFault, hazardFaults}
+use Rattle.hazards.specs.Rates.{cumulativeOfRate, cumulativeHazard, waitFrom, constantWait, waitOfRate, invertCumulativeHazard, ownRate}
+use Rattle.hazards.specs.Checks.{rangeFault, ascending, intervalsFault, choiceFault, hazardFaults}
 use Rattle.hazards.specs.Draws.{drawAt}
 use Rattle.hazards.specs.Answers.{headBytes, answerBytes}
 use Rattle.hazards.specs.Ties.{candidateAfter, preferred, precedes, earlier, earliest}

@@ -26,7 +26,7 @@ use Rattle.engine.proofs.QueuePlaces.{with-queue-placed, with-queue-req
 use Rattle.engine.proofs.SoundSteps.{clock-sound, slot-here, slot-elsewhere, stored-sound}
 
 pub record Delivery (stream : List ℕ) (n : ℕ) (s t : EngineState) : Type 0 where
-  pub good : SoundState stream n t
+  pub state-sound : SoundState stream n t
   pub delivers : Delivers (engineOf stream n) (ledgerFieldsOf stream n) (queueingOf stream n) s t
 
 module _ (stream : List ℕ) (n : ℕ) (s : EngineState) (g : SoundState stream n s) (c : List ℕ)
@@ -57,7 +57,7 @@ module _ (stream : List ℕ) (n : ℕ) (s : EngineState) (g : SoundState stream 
       let h = with-queue-placed p (without (r .index) q) short in
       let requests : queuedRequests p′ ≡ without (r .index) q = with-queue-requests p (without (r .index) q) in
       record {
-        good =
+        state-sound =
             stored-sound stream n s g (r .clock) below slot p′
             (λ t. dispatched-sound (slotAt s (r .clock) .clock) (clock-sound stream n s g (r .clock) below (request .present)))
             (h .places) (h .queued)

@@ -95,7 +95,7 @@ module _ (stream : List ℕ) (n : ℕ) (s : EngineState) (c : List ℕ) where
         sound below present = clock-sound stream n s g (clockOf c) below present
 
     pub record Named (t : EngineState) (a : Answer) : Type 0 where
-      pub good : SoundState stream n t
+      pub state-sound : SoundState stream n t
       pub queues : Queues (engineOf stream n) (ledgerFieldsOf stream n) (queueingOf stream n) s t c a
 
     named-kept : Whole (engineOf stream n) c → (code c ≡ commands.deliver → ⊥) → (t : EngineState) (a : Answer)
@@ -106,7 +106,7 @@ module _ (stream : List ℕ) (n : ℕ) (s : EngineState) (c : List ℕ) where
         let did = subst (λ (j : ℕ). performOn stream n (slotAt s j) p c ≡ done (d .slot) (d .shared) a) i (d .did) in
         let stores = d .stores ∙ ap (λ (j : ℕ). withSlot s j (d .slot) (d .shared)) i in
         let step = named-step whole other (d .slot) (d .shared) a did in
-        subst (λ (u : EngineState). Named u a) (sym stores) (record { good = step .good; queues = step .queues })
+        subst (λ (u : EngineState). Named u a) (sym stores) (record { state-sound = step .state-sound; queues = step .queues })
 
     -- ---- DELIVER
 
@@ -130,8 +130,8 @@ module _ (stream : List ℕ) (n : ℕ) where
       → perform stream n s c ≡ performed t a
       → SoundState stream n t
   keeps s t c a whole g e =
-      by-test (eqb (code c) commands.deliver) (λ k. delivered-kept stream n s c g (eqb-true _ _ k) t a e .good)
-      (λ k. named-kept stream n s c g whole (eqb-false _ _ k) t a e .good)
+      by-test (eqb (code c) commands.deliver) (λ k. delivered-kept stream n s c g (eqb-true _ _ k) t a e .state-sound)
+      (λ k. named-kept stream n s c g whole (eqb-false _ _ k) t a e .state-sound)
 
   pub engine-sound : Sound (engineOf stream n) (SoundState stream n)
   engine-sound = record { opens = opened-sound stream n; keeps = keeps; passes = λ s g. sound-state-valid s stream n g }

@@ -35,7 +35,7 @@ use Rattle.engine.proofs.QueuePlaces.{Placed, queued-length, with-reque
 
 -- slot, shared state and answer after a command about the clock that it names: the state is sound, and the queue is what the answer says
 pub record Step (stream : List ℕ) (n : ℕ) (s : EngineState) (c : List ℕ) (slot : ClockSlot) (p′ : SharedState) (a : Answer) : Type 0 where
-  pub good : SoundState stream n (withSlot s (clockOf c) slot p′)
+  pub state-sound : SoundState stream n (withSlot s (clockOf c) slot p′)
   pub queues : Queues (engineOf stream n) (ledgerFieldsOf stream n) (queueingOf stream n) s (withSlot s (clockOf c) slot p′) c a
 
 module _ (stream : List ℕ) (n : ℕ) (s : EngineState) (g : SoundState stream n s) where
@@ -101,7 +101,7 @@ module _ (stream : List ℕ) (n : ℕ) (s : EngineState) (g : SoundState stream 
         let p′ = withAppliedBytes (length c) p in
         let none-here = unnamed-none (g .queue) i (rw absent) in
         record {
-          good =
+          state-sound =
               stored-sound i below (holding k) p′ (λ h. sound) (g .places) (g .queued)
               (subst (SoundQueue (slotAt (withSlot s i (holding k) p′)) (p .«request_count»)) (none-for i q none-here)
               (queue-drops i (g .queue) (slot-elsewhere i below (holding k) p′) (rw (slot-here i below (holding k) p′, e))))
@@ -115,7 +115,7 @@ module _ (stream : List ℕ) (n : ℕ) (s : EngineState) (g : SoundState stream 
     channels-step k position sound e within present =
         let p′ = withAppliedBytes (length c) (withPosition p position) in
         record {
-          good =
+          state-sound =
               stored-sound i below (holding k) p′ (λ h. sound) (g .places) (g .queued)
               (queue-stays i (g .queue) (slot-elsewhere i below (holding k) p′)
               (rw (slot-here i below (holding k) p′)
@@ -242,12 +242,12 @@ module _ (stream : List ℕ) (n : ℕ) (s : EngineState) (g : SoundState stream 
         by-test (r .event .present)
         (λ v.
         rw v (record {
-          good = requeued-sound (r .clock) e w sound present r (law .names v) (law .wins v);
+          state-sound = requeued-sound (r .clock) e w sound present r (law .names v) (law .wins v);
           queues = requeued-queues (r .clock) e w sound present r (law .names v) (law .wins v) _ refl refl refl refl;
         }))
         (λ v.
         rw v (record {
-          good = unqueued-sound (r .clock) e w sound present (law .names-nothing v);
+          state-sound = unqueued-sound (r .clock) e w sound present (law .names-nothing v);
           queues = unqueued-queues (r .clock) e w sound present _ refl refl;
         }))
 
@@ -256,7 +256,7 @@ module _ (stream : List ℕ) (n : ℕ) (s : EngineState) (g : SoundState stream 
         → k .«scheduled_event_id» ≡ notScheduled
         → Step stream n s c (holding k) (withAppliedBytes (length c) (withdraw p e)) (withdrawnAnswer (isWithdrawn p e))
     pause-step k e sound present w names = record {
-      good = unqueued-sound k e w sound present names;
+      state-sound = unqueued-sound k e w sound present names;
       queues = unqueued-queues k e w sound present _ refl refl;
     }
 

@@ -1,4 +1,5 @@
 -- Document 01, "Answer": the answer's fields for each reply, and what one input leaves: its answer, the state and the journal.
+-- The answer's own fields and bytes are in hazards' Answers, which the sampler shares.
 use mathlib.Core.List.{List}
 use Prim.Native.Nat.{ℕ}
 use Rattle.hazards.specs.Answers.{noEvent}

@@ -9,7 +9,7 @@ use lib.Signed.{leZ}
 use lib.ListN.{getD}
 use lib.Ieee.{Float, binary64, isNan, toBits}
 use Rattle.hazards.specs.Floats.{z}
-use Rattle.hazards.specs.Checks.{kindNumber, ownRate}
+use Rattle.hazards.specs.Rates.{kindNumber, ownRate}
 use Rattle.hazards.specs.Ties.{tieNumber}
 use Rattle.hazards.specs.declared.rates.HazardRate.{HazardRate}
 use Rattle.hazards.specs.declared.rates.Intervals.{Intervals}

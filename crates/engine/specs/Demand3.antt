@@ -1,6 +1,6 @@
 -- Demand 3, whole, of document 01's engine: what holds after any list of inputs, commands, UNDO and bytes that are no command among them,
 -- given to a newly opened engine over a threshold stream (document 01: tape) and a journal of n bytes; and what it says of a batch run. Its
--- definitions: Sessions (inputs, applied commands), Ledger, Journal, Run.
+-- definitions: Sessions (inputs, applied commands), Execute (one input), Replay (UNDO), Ledger, Journal, Run.
 use mathlib.Core.Logic.{_↔_}
 use mathlib.Core.Path.{_≡_}
 use mathlib.Core.Bool.{true}

@@ -1,4 +1,5 @@
 -- Document 01, "Journal and undo": what is written over the front of a part of the journal, and the part that the applied commands fill.
+-- UNDO is in Replay, the copy of an accepted command into the free part in Execute (write), the commands that stand in Sessions.
 use mathlib.Core.Bool.{cond}
 use mathlib.Core.List.{List, [], _++_}
 use Prim.Native.Nat.{ℕ, min}

@@ -1,5 +1,5 @@
 -- The definitions of the engine crate, in the order in which they build on each other. A file has the name of the module of src/ that it
--- defines; theorem.rt has Demand3 and Rows.
+-- defines, or is what several of them share; theorem.rt has Demand3 and Rows.
 
 -- commands and refusals
 pub mod Refusals

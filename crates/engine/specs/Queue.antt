@@ -1,4 +1,5 @@
 -- Document 01, "Queue and ticks": the order of requests, the one that is delivered next, and taking one out.
+-- What `schedule` puts in is requestOf in Execution and withRequest in State; ticks are in clocks' Ticks.
 use mathlib.Core.Bool.{Bool, true, false, not, cond}
 use mathlib.Core.List.{List, [], _∷_}
 use mathlib.Core.Option.{Option, none, some}

@@ -16,9 +16,9 @@ use clocks::clocks::ScheduledEvent;
 use clocks::clocks::SurvivalClock;
 use clocks::clocks::Winner;
 use clocks::clocks::policy_number;
-use hazards::checks::kind_number;
 use hazards::rates::HazardRate;
 use hazards::rates::Intervals;
+use hazards::rates::kind_number;
 use hazards::ties::tie_number;
 
 fn same_flag(a: bool, b: bool) -> bool
@@ -42,8 +42,8 @@ fn same_float(a: f64, b: f64) -> bool
 fn same_hazard(a: HazardRate, b: HazardRate) -> bool
     ensures { λ r. ⌜ r ≡ sameHazard a b ⌝ }
 {
-    let rate = hazards::checks::own_rate(a);
-    (kind_number(a) == kind_number(b)) & same_float(rate, hazards::checks::own_rate(b))
+    let rate = hazards::rates::own_rate(a);
+    (kind_number(a) == kind_number(b)) & same_float(rate, hazards::rates::own_rate(b))
 }
 
 fn same_floats<'a, 'b>(a: &'a [f64; 8], b: &'b [f64; 8]) -> bool

@@ -3,14 +3,14 @@ ghost use Prim.Native.Nat.{_≤_};
 use clocks::channels::HazardChannelState;
 use clocks::clocks::SurvivalClock;
 use clocks::clocks::policy_number;
-use hazards::checks::kind_number;
-use hazards::checks::own_rate;
 use hazards::fields::put_f64;
 use hazards::fields::put_u8;
 use hazards::fields::put_u32;
 use hazards::fields::put_u64;
 use hazards::rates::HazardRate;
 use hazards::rates::Intervals;
+use hazards::rates::kind_number;
+use hazards::rates::own_rate;
 use hazards::ties::tie_number;
 
 pub fn put_flag(out: &mut [u8], at: usize, flag: bool) {

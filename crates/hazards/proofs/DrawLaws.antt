@@ -68,12 +68,6 @@ module _ (stream : List ℕ) (position : ℕ) where
   abbrev pub drawNumber : ℕ
   drawNumber = drawAt stream position .number
 
-  -- a position within the stream is never refused by 1
-  pub within-not-past : position ≤ streamLength stream → drawNumber ≡ invalidState → ⊥
-  within-not-past l =
-      each-way (λ d. d .number ≡ invalidState → ⊥)
-      (λ h e. omega arith) (λ h e. omega arith) (λ h w e. omega arith) (λ h w e. omega arith)
-
   -- ---- an accepted draw
   pub accepted-moves : drawNumber ≡ 0 → drawAt stream position .position .next ≡ position + 1
   accepted-moves =

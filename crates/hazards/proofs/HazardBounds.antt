@@ -8,8 +8,7 @@ use lib.Dec.{T, lit≤}
 use lib.Ieee.{Float, binary64, add, sub, mul, lt, le}
 use Rattle.hazards.specs.Floats.{z, notBelowZero, inRange}
 use Rattle.hazards.specs.Rates.{Piece, piecewiseHazard, hazardOfRate, hazardAt, piecewiseCumulative, cumulativeOfRate}
-use Rattle.hazards.specs.Rates.{cumulativeHazard}
-use Rattle.hazards.specs.Checks.{ownRate}
+use Rattle.hazards.specs.Rates.{cumulativeHazard, ownRate}
 use Rattle.hazards.specs.declared.rates.HazardRate.{HazardRate}
 use Rattle.hazards.specs.declared.rates.HazardRate.the-variants.{Zero, Constant, Gompertz, Piecewise}
 use Rattle.hazards.specs.declared.rates.Intervals.{Intervals}

@@ -9,8 +9,8 @@ use lib.Ieee.{Float, lt, le}
 use lib.Ieee.Fits.{and-l, and-r}
 use Rattle.hazards.specs.Floats.{z, limit, inRange}
 use Rattle.hazards.specs.Lists.{all}
-use Rattle.hazards.specs.Rates.{Piece, firstAfter, usedPairs}
-use Rattle.hazards.specs.Checks.{ownRate, rangeFault, pairsFrom, zeroPair, ascending, intervalsFault}
+use Rattle.hazards.specs.Rates.{Piece, firstAfter, usedPairs, ownRate}
+use Rattle.hazards.specs.Checks.{rangeFault, pairsFrom, zeroPair, ascending, intervalsFault}
 use Rattle.hazards.specs.declared.rates.HazardRate.{HazardRate}
 use Rattle.hazards.specs.declared.rates.HazardRate.the-variants.{Zero, Constant, Gompertz, Piecewise}
 use Rattle.hazards.specs.declared.rates.Intervals.{Intervals}

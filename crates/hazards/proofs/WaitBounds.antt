@@ -11,9 +11,8 @@ use lib.Dec.{T, le→leb, nltb→le}
 use lib.Ieee.{Float, fin, binary64, up, down, add, sub, mul, div, lt, le, fits}
 use lib.Ieee.Fits.{and-l, cond-fits, sub-fits, div-fits}
 use Rattle.hazards.specs.Floats.{z, limit, notBelowZero, inRange}
-use Rattle.hazards.specs.Rates.{Piece, usedPairs, firstAfter, waitThrough, waitFrom, constantWait, waitOfRate}
-use Rattle.hazards.specs.Rates.{invertCumulativeHazard}
-use Rattle.hazards.specs.Checks.{ownRate}
+use Rattle.hazards.specs.Rates.{Piece, usedPairs, firstAfter, waitThrough, waitFrom, constantWait, waitOfRate, invertCumulativeHazard}
+use Rattle.hazards.specs.Rates.{ownRate}
 use Rattle.hazards.specs.declared.rates.HazardRate.{HazardRate}
 use Rattle.hazards.specs.declared.rates.HazardRate.the-variants.{Zero, Constant, Gompertz, Piecewise}
 use Rattle.hazards.specs.declared.rates.Intervals.{Intervals}

@@ -1,40 +1,18 @@
 -- Document 01, "A command comes in": what refusals 4 to 6 say of a hazard. 5 and 6 are stated of the hazard itself, so that they
 -- serve the fields of a command and a stored channel alike.
-use mathlib.Core.Bool.{Bool, true, false, not, cond, _&&_, _||_}
+use mathlib.Core.Bool.{Bool, true, false, not, _&&_, _||_}
 use mathlib.Core.List.{List, [], _∷_}
 use Prim.Native.Nat.{ℕ, _-_}
 use lib.Dec.{eqb, ltb}
 use lib.Ieee.{Float, lt, le}
 use Rattle.hazards.specs.Floats.{z, limit, zeroBits, inRange}
 use Rattle.hazards.specs.Lists.{all}
-use Rattle.hazards.specs.Rates.{Piece, piecesBy, pairAt, usedPairs}
+use Rattle.hazards.specs.Rates.{rateOfKind, Piece, piecesBy, pairAt, usedPairs}
 use Rattle.hazards.specs.declared.checks.HazardFields.{HazardFields}
 use Rattle.hazards.specs.declared.refusals.Faults.{Faults}
 use Rattle.hazards.specs.declared.rates.HazardRate.{HazardRate}
 use Rattle.hazards.specs.declared.rates.HazardRate.the-variants.{Zero, Constant, Gompertz, Piecewise}
 use Rattle.hazards.specs.declared.rates.Intervals.{Intervals}
-
--- ---- the kinds: 0 Zero, 1 Constant, 2 Gompertz, 3 PiecewiseConstant
-
--- a kind above 3 is refused by 4 before this is asked
-abbrev pub rateOfKind : ℕ → Float → HazardRate
-rateOfKind kind first =
-    cond (eqb kind 0) Zero
-    (cond (eqb kind 1) (Constant first) (cond (eqb kind 2) (Gompertz first) (Piecewise first)))
-
--- a kind's number
-abbrev pub kindNumber : HazardRate → ℕ
-kindNumber Zero = 0
-kindNumber (Constant rate) = 1
-kindNumber (Gompertz eta) = 2
-kindNumber (Piecewise trailing) = 3
-
--- the hazard's own rate, +0.0 for Zero
-unfoldable pub ownRate : HazardRate → Float
-ownRate Zero = z
-ownRate (Constant rate) = rate
-ownRate (Gompertz eta) = eta
-ownRate (Piecewise trailing) = trailing
 
 -- ---- refusals 5 and 6 of a hazard
 

@@ -3,6 +3,7 @@
 use mathlib.Core.Bool.{Bool, true, false, cond, _&&_}
 use mathlib.Core.List.{List, [], _∷_}
 use Prim.Native.Nat.{ℕ, zero, suc, min}
+use lib.Dec.{eqb}
 use lib.ListN.{getD, drop}
 use lib.Ieee.{Float, nan, binary64, add, sub, mul, div, lt, le}
 use Rattle.hazards.specs.Floats.{z, notBelowZero}
@@ -11,6 +12,28 @@ use Rattle.hazards.specs.declared.rates.HazardRate.the-variants.{Zero, C
 use Rattle.hazards.specs.declared.rates.Intervals.{Intervals}
 use Rattle.hazards.specs.declared.rates.Wait.{Wait}
 use Rattle.hazards.specs.declared.rates.Wait.the-variants.{After, Never}
+
+-- ---- the kinds: 0 Zero, 1 Constant, 2 Gompertz, 3 PiecewiseConstant
+
+-- the hazard of a kind and its first; a kind above 3 is refused by 4 before this is asked
+abbrev pub rateOfKind : ℕ → Float → HazardRate
+rateOfKind kind first =
+    cond (eqb kind 0) Zero
+    (cond (eqb kind 1) (Constant first) (cond (eqb kind 2) (Gompertz first) (Piecewise first)))
+
+-- a hazard's kind
+abbrev pub kindNumber : HazardRate → ℕ
+kindNumber Zero = 0
+kindNumber (Constant rate) = 1
+kindNumber (Gompertz eta) = 2
+kindNumber (Piecewise trailing) = 3
+
+-- the hazard's own rate, +0.0 for Zero
+unfoldable pub ownRate : HazardRate → Float
+ownRate Zero = z
+ownRate (Constant rate) = rate
+ownRate (Gompertz eta) = eta
+ownRate (Piecewise trailing) = trailing
 
 -- ---- a hazard curve in pieces
 

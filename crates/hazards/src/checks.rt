@@ -8,13 +8,14 @@ ghost use lib.Ieee.{Float, lt, le};
 ghost use Rattle.hazards.specs.Floats.{z, limit, zeroBits, inRange};
 ghost use Rattle.hazards.specs.Lists.{all};
 ghost use Rattle.hazards.specs.Rates.{intervalsFrom, usedPairs};
-ghost use Rattle.hazards.specs.Checks.{rateOfKind, kindNumber, ownRate, rangeFault, pairsFrom, zeroPair, ascending, unusedFault};
-ghost use Rattle.hazards.specs.Checks.{pairsFault, intervalsFault, hazardOf, intervalsOf, fieldsFrom, hazardFaults};
+ghost use Rattle.hazards.specs.Checks.{rangeFault, pairsFrom, zeroPair, ascending, unusedFault, pairsFault, intervalsFault, hazardOf};
+ghost use Rattle.hazards.specs.Checks.{intervalsOf, fieldsFrom, hazardFaults};
 use crate::floats::LIMIT;
 use crate::floats::in_range;
 use crate::floats::zero_bits;
 use crate::rates::HazardRate;
 use crate::rates::Intervals;
+use crate::rates::rate_of_kind;
 use crate::refusals::Faults;
 
 // The fields of a hazard as in SET.
@@ -24,18 +25,6 @@ pub struct HazardFields {
     pub count: u8,
     pub ends: [f64; 8],
     pub rates: [f64; 8],
-}
-
-// The hazard's own rate, +0.0 for Zero.
-pub fn own_rate(hazard: HazardRate) -> f64
-    ensures { λ r. ⌜ r ≡ ownRate hazard ⌝ }
-{
-    match hazard {
-        HazardRate::Zero => 0.0,
-        HazardRate::Constant(rate) => rate,
-        HazardRate::Gompertz(eta) => eta,
-        HazardRate::Piecewise(trailing) => trailing,
-    }
 }
 
 // The rates of the used pairs are in range, whatever their ends.
@@ -161,34 +150,6 @@ pub fn intervals_fault<'a>(
     }
 }
 
-// The hazard of a kind's number and its first field; a kind above 3 is refused by 4 before this is asked.
-pub fn rate_of_kind(kind: u8, first: f64) -> HazardRate
-    ensures { λ r. ⌜ r ≡ rateOfKind kind first ⌝ }
-{
-    if kind == 0 {
-        return HazardRate::Zero;
-    }
-    if kind == 1 {
-        return HazardRate::Constant(first);
-    }
-    if kind == 2 {
-        return HazardRate::Gompertz(first);
-    }
-    HazardRate::Piecewise(first)
-}
-
-// Document 01's number of a kind.
-pub fn kind_number(hazard: HazardRate) -> u8
-    ensures { λ r. ⌜ r ≡ kindNumber hazard ⌝ }
-{
-    match hazard {
-        HazardRate::Zero => 0,
-        HazardRate::Constant(_) => 1,
-        HazardRate::Gompertz(_) => 2,
-        HazardRate::Piecewise(_) => 3,
-    }
-}
-
 // Refusal 4 of a hazard's fields.
 pub(crate) fn choice_fault(kind: u8, first: f64) -> bool
     ensures { λ r. ⌜ r ≡ (ltb 3 kind || (eqb kind 0 && not (zeroBits first))) ⌝ }
@@ -223,7 +184,7 @@ pub fn hazard_faults<'a>(
 }
 
 impl HazardFields {
-    // The kind with its own rate.
+    // The hazard that the fields stand for.
     pub fn hazard(self) -> HazardRate
         ensures { λ r. ⌜ r ≡ hazardOf self ⌝ }
     {

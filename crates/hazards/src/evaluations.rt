@@ -72,7 +72,7 @@ pub fn evaluate_hazard_at<'a>(
     if number != 0 {
         return without_value(number);
     }
-    let hazard = crate::checks::rate_of_kind(kind, first);
+    let hazard = crate::rates::rate_of_kind(kind, first);
     let pairs = count as usize;
     valued(crate::rates::hazard_at(hazard, ends, rates, pairs, t))
 }
@@ -92,7 +92,7 @@ pub fn evaluate_cumulative_hazard<'a>(
     if number != 0 {
         return without_value(number);
     }
-    let hazard = crate::checks::rate_of_kind(kind, first);
+    let hazard = crate::rates::rate_of_kind(kind, first);
     let pairs = count as usize;
     valued(crate::rates::cumulative_hazard(hazard, ends, rates, pairs, t))
 }
@@ -115,7 +115,7 @@ pub fn evaluate_inversion<'a>(
     if number != 0 {
         return without_value(number);
     }
-    let hazard = crate::checks::rate_of_kind(kind, first);
+    let hazard = crate::rates::rate_of_kind(kind, first);
     let pairs = count as usize;
     wait_valued(crate::rates::invert_cumulative_hazard(
         hazard,

@@ -5,6 +5,7 @@ ghost use Prim.Native.Nat.{min};
 ghost use mathlib.Core.List.{[]};
 ghost use lib.Ieee.{lt, le};
 ghost use Rattle.hazards.specs.Floats.{z};
+ghost use Rattle.hazards.specs.Rates.{rateOfKind, kindNumber, ownRate};
 ghost use Rattle.hazards.specs.Rates.{intervalsFrom, usedPairs, usesPairs, piecewiseHazard, piecewiseCumulative, firstAfter};
 ghost use Rattle.hazards.specs.Rates.{waitFrom, piecewiseWait, constantWait, hazardAt, cumulativeHazard, invertCumulativeHazard};
 use crate::floats::not_below_zero;
@@ -28,6 +29,46 @@ pub struct Intervals {
 pub enum Wait {
     After(f64),
     Never,
+}
+
+// The hazard of a kind and its first field; a kind above 3 is refused by 4 before this is asked.
+pub fn rate_of_kind(kind: u8, first: f64) -> HazardRate
+    ensures { λ r. ⌜ r ≡ rateOfKind kind first ⌝ }
+{
+    if kind == 0 {
+        return HazardRate::Zero;
+    }
+    if kind == 1 {
+        return HazardRate::Constant(first);
+    }
+    if kind == 2 {
+        return HazardRate::Gompertz(first);
+    }
+    HazardRate::Piecewise(first)
+}
+
+// A hazard's kind.
+pub fn kind_number(hazard: HazardRate) -> u8
+    ensures { λ r. ⌜ r ≡ kindNumber hazard ⌝ }
+{
+    match hazard {
+        HazardRate::Zero => 0,
+        HazardRate::Constant(_) => 1,
+        HazardRate::Gompertz(_) => 2,
+        HazardRate::Piecewise(_) => 3,
+    }
+}
+
+// The hazard's own rate, +0.0 for Zero.
+pub fn own_rate(hazard: HazardRate) -> f64
+    ensures { λ r. ⌜ r ≡ ownRate hazard ⌝ }
+{
+    match hazard {
+        HazardRate::Zero => 0.0,
+        HazardRate::Constant(rate) => rate,
+        HazardRate::Gompertz(eta) => eta,
+        HazardRate::Piecewise(trailing) => trailing,
+    }
 }
 
 // Whether a hazard uses pairs at all.

@@ -2,8 +2,8 @@
 ghost use mathlib.Core.Path.{_≡_};
 ghost use mathlib.Core.Bool.{false};
 ghost use Rattle.hazards.specs.Refusals.{joined, identifierFaultIf, isReserved};
-ghost use Rattle.hazards.specs.Rates.{usesPairs};
-ghost use Rattle.hazards.specs.Checks.{rateOfKind, fieldsFrom, hazardFaults, hazardOf};
+ghost use Rattle.hazards.specs.Rates.{usesPairs, rateOfKind};
+ghost use Rattle.hazards.specs.Checks.{fieldsFrom, hazardFaults, hazardOf};
 ghost use Rattle.hazards.specs.SamplerInternals.{examinedRecord};
 use crate::rates::Wait;
 use crate::refusals::Faults;
@@ -34,7 +34,7 @@ fn single_rate_faults<'a>(
     requires { ⌜ usesPairs (rateOfKind kind first) ≡ false ⌝ }
     ensures { λ r. ⌜ r ≡ hazardFaults (fieldsFrom kind first count (now (ends .entry)) (now (rates .entry))) ⌝ }
 {
-    let hazard = crate::checks::rate_of_kind(kind, first);
+    let hazard = crate::rates::rate_of_kind(kind, first);
     Faults {
         choice: crate::checks::choice_fault(kind, first),
         range: crate::checks::range_fault(hazard, rates, 0),
@@ -56,7 +56,7 @@ fn examined_single_rate(cause: CompetingCause, age: f64, w: f64) -> Examined
         &cause.hazard.rates,
     );
     let faults = with_identifier(rate_faults, cause.cause_id);
-    let rate = crate::checks::rate_of_kind(cause.hazard.kind, cause.hazard.first);
+    let rate = crate::rates::rate_of_kind(cause.hazard.kind, cause.hazard.first);
     let wait = crate::rates::invert_cumulative_hazard(
         rate,
         &cause.hazard.ends,
@@ -80,7 +80,7 @@ fn examined_with_pairs(cause: CompetingCause, age: f64, w: f64) -> Examined
         &cause.hazard.rates,
     );
     let faults = with_identifier(field_faults, cause.cause_id);
-    let hazard = crate::checks::rate_of_kind(cause.hazard.kind, cause.hazard.first);
+    let hazard = crate::rates::rate_of_kind(cause.hazard.kind, cause.hazard.first);
     let wait = crate::rates::invert_cumulative_hazard(
         hazard,
         &cause.hazard.ends,
@@ -96,7 +96,7 @@ fn examined_with_pairs(cause: CompetingCause, age: f64, w: f64) -> Examined
 pub(crate) fn examined_record(cause: CompetingCause, age: f64, w: f64) -> Examined
     ensures { λ r. ⌜ r ≡ examinedRecord cause age w ⌝ }
 {
-    let hazard = crate::checks::rate_of_kind(cause.hazard.kind, cause.hazard.first);
+    let hazard = crate::rates::rate_of_kind(cause.hazard.kind, cause.hazard.first);
     if crate::rates::uses_pairs(hazard) {
         return examined_with_pairs(cause, age, w);
     }

@@ -4,8 +4,7 @@
 ghost use Prim.Native.Nat.{_≤_};
 ghost use lib.ListN.{length};
 ghost use mathlib.Core.Path.{_≡_};
-ghost use Rattle.hazards.specs.Rates.{intervalsFrom, hazardAt, cumulativeHazard};
-ghost use Rattle.hazards.specs.Checks.{rateOfKind};
+ghost use Rattle.hazards.specs.Rates.{intervalsFrom, hazardAt, cumulativeHazard, rateOfKind};
 use hazards::answers::ANSWER_WIDTH;
 use hazards::checks::HazardFields;
 use hazards::draws::StreamPosition;
@@ -185,7 +184,7 @@ pub extern "C" fn probe_hazard_at<'a>(
 ) -> f64
     ensures { λ r. ⌜ r ≡ hazardAt (rateOfKind kind first) (intervalsFrom (now (ends .entry)) (now (rates .entry)) count) t ⌝ }
 {
-    let hazard = hazards::checks::rate_of_kind(kind, first);
+    let hazard = hazards::rates::rate_of_kind(kind, first);
     hazards::rates::hazard_at(hazard, ends, rates, count as usize, t)
 }
 
@@ -200,7 +199,7 @@ pub extern "C" fn probe_cumulative_hazard<'a>(
 ) -> f64
     ensures { λ r. ⌜ r ≡ cumulativeHazard (rateOfKind kind first) (intervalsFrom (now (ends .entry)) (now (rates .entry)) count) t ⌝ }
 {
-    let hazard = hazards::checks::rate_of_kind(kind, first);
+    let hazard = hazards::rates::rate_of_kind(kind, first);
     hazards::rates::cumulative_hazard(hazard, ends, rates, count as usize, t)
 }
 
@@ -215,7 +214,7 @@ pub extern "C" fn probe_invert_cumulative_hazard<'a>(
     t_start: f64,
     target_w: f64,
 ) -> f64 {
-    let hazard = hazards::checks::rate_of_kind(kind, first);
+    let hazard = hazards::rates::rate_of_kind(kind, first);
     let pairs = count as usize;
     match hazards::rates::invert_cumulative_hazard(hazard, ends, rates, pairs, t_start, target_w) {
         Wait::After(value) => value,

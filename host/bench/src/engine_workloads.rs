@@ -76,7 +76,8 @@ pub fn reverted(count: usize, undos: usize) -> EngineWorkload {
     EngineWorkload::new(&commands)
 }
 
-/// `count` commands without UNDO, then so many times a refused command, UNDO and the command that was the last, so that each UNDO needs a replay.
+/// `count` commands without UNDO, then so many times a refused command, UNDO and the command that was the last, so that each UNDO needs
+/// a replay.
 pub fn replayed(count: usize, undos: usize) -> EngineWorkload {
     let mut commands = mixed_commands(count, 0);
     let last = commands[count - 1];

@@ -1,5 +1,5 @@
-//! The evaluations on numbers, with and without their checks: one driver calls either side at each point by a pointer, and each side makes one call
-//! that is not inlined: Rattle's across the C boundary, the Rust's to a function here.
+//! The evaluations on numbers, with and without their checks: one driver calls either side at each point by a pointer, and each side makes
+//! one call that is not inlined: Rattle's across the C boundary, the Rust's to a function here.
 
 use crate::probe::{self, Fields};
 use kairo_ecs_rng::HazardRate;

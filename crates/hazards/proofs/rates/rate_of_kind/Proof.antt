@@ -1,7 +1,7 @@
--- `checks::rate_of_kind` meets its contract.
+-- `rates::rate_of_kind` meets its contract.
 use borrow.Author.Tests.{eq-eqb, ne-eqb}
-use Rattle.hazards.proofs.checks.rate_of_kind.Statement.{statement}
-use Rattle.hazards.proofs.checks.rate_of_kind.Tie as tie
+use Rattle.hazards.proofs.rates.rate_of_kind.Statement.{statement}
+use Rattle.hazards.proofs.rates.rate_of_kind.Tie as tie
 
 returns : tie.Need-returns
 returns c = rw (eq-eqb _ 0 (c .if1 .taken))

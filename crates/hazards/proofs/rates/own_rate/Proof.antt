@@ -1,9 +1,9 @@
--- `checks::own_rate` meets its contract.
+-- `rates::own_rate` meets its contract.
 use borrow.Author.Needs.{needs}
 use lib.Ieee.{ofBits}
-use Rattle.hazards.specs.Checks.{ownRate}
-use Rattle.hazards.proofs.checks.own_rate.Statement.{statement}
-use Rattle.hazards.proofs.checks.own_rate.Tie as tie
+use Rattle.hazards.specs.Rates.{ownRate}
+use Rattle.hazards.proofs.rates.own_rate.Statement.{statement}
+use Rattle.hazards.proofs.rates.own_rate.Tie as tie
 
 enum-told : tie.Need-enum-told
 enum-told c = search needs
