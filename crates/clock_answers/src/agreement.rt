@@ -1,27 +1,37 @@
 // A step's answer, draw position and clock, compared with the expected ones.
 use crate::steps::Played;
 use clocks::clocks::SurvivalClock;
+use hazards::answers::ANSWER_WIDTH;
 use hazards::fields::put_u64;
 
-// The answer and the draw position after a step, as the list has them from place 172 on.
+// Where a step's expected answer and draw position stand, then its clock, and the bytes of a step.
+const ANSWER_PLACE: usize = 172;
+
+const CLOCK_PLACE: usize = ANSWER_PLACE + ANSWER_WIDTH + 8;
+
+const CLOCK_WIDTH: usize = 1452;
+
+pub const STEP_WIDTH: usize = CLOCK_PLACE + CLOCK_WIDTH;
+
+// The answer and the draw position after a step.
 fn answer_agrees(played: Played, case: &[u8]) -> bool {
-    let mut out = [0u8; 40];
+    let mut out = [0u8; ANSWER_WIDTH + 8];
     hazards::answers::put_answer(&mut out, 0, played.answer);
-    put_u64(&mut out, 32, played.position as u64);
-    if case.len() < 1664 {
+    put_u64(&mut out, ANSWER_WIDTH, played.position as u64);
+    if case.len() < STEP_WIDTH {
         return false;
     }
-    check::same(&out, &case[172..212])
+    check::same(&out, &case[ANSWER_PLACE..CLOCK_PLACE])
 }
 
-// The clock after a step, as the list has it from place 212 on.
+// The clock after a step, as the list has it.
 fn clock_agrees(clock: SurvivalClock, case: &[u8]) -> bool {
-    let mut out = [0u8; 1452];
+    let mut out = [0u8; CLOCK_WIDTH];
     engine_probe::clock_encoding::put_clock(&mut out, 0, clock);
-    if case.len() < 1664 {
+    if case.len() < STEP_WIDTH {
         return false;
     }
-    check::same(&out, &case[212..1664])
+    check::same(&out, &case[CLOCK_PLACE..STEP_WIDTH])
 }
 
 pub fn agrees(played: Played, case: &[u8]) -> bool {

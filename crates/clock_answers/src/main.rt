@@ -20,13 +20,13 @@ struct Count {
 }
 
 fn replay(fd: i32, stream: &[u8]) -> Count {
-    let mut case = [0u8; 1664];
+    let mut case = [0u8; agreement::STEP_WIDTH];
     let mut played = steps::start();
     let mut cases: u64 = 0;
     let mut differing: u64 = 0;
     let mut left: u64 = 1000000;
     while left > 0 {
-        if io::read_full(fd, &mut case) < 1664 {
+        if io::read_full(fd, &mut case) < agreement::STEP_WIDTH {
             break;
         }
         played = steps::play(played, &case, stream);

@@ -11,7 +11,7 @@ use lib.ListN.{length, getD, set, take, drop, length-map, drop-of-length-le}
 use lib.Seq.{drop-cons, take-suc, take-all, append-snoc, length-front, length-take-le, getD-at, set-at, set-set, getD-set-same}
 use Rattle.hazards.specs.Floats.{notBelowZero}
 use Rattle.hazards.specs.Rates.{cumulativeHazard}
-use Rattle.clocks.specs.Channels.{withProgress, settledHazard, settled, onUsed}
+use Rattle.clocks.specs.Channels.{withAccumulated, settledHazard, settled, onUsed}
 use Rattle.clocks.specs.Clocks.{withChannels}
 use Rattle.clocks.specs.declared.channels.HazardChannelState.{HazardChannelState}
 use Rattle.clocks.specs.declared.clocks.SurvivalClock.{SurvivalClock}
@@ -29,7 +29,7 @@ module _ (f : HazardChannelState → HazardChannelState) (cs : List HazardChanne
   unfolding onUsed
   each-at = rw (drop-cons cs i d lt) (getD-at (map f (take i cs)) (getD cs i d) (drop (suc i) cs) d i before-length)
 
-  pub each-more : set (onUsed f i cs) i (f (getD cs i d)) ≡ onUsed f (i + 1) cs
+  each-more : set (onUsed f i cs) i (f (getD cs i d)) ≡ onUsed f (i + 1) cs
   unfolding onUsed
   each-more =
       rw (
@@ -80,9 +80,9 @@ module _ (now : Float) (cs : List HazardChannelState) (i : ℕ) (d : HazardChann
     (sum : total ≡ add binary64 (getD cs i d .«accumulated_hazard») (cumulativeHazard (getD cs i d .hazard) (getD cs i d .intervals)
     (notBelowZero (sub binary64 now (getD cs i d .«interval_start_time»))))) where
   abbrev stored : List HazardChannelState
-  stored = set cs i (withProgress (getD cs i d) total (getD cs i d .«interval_start_time»))
+  stored = set cs i (withAccumulated (getD cs i d) total (getD cs i d .«interval_start_time»))
 
-  pub two-stores : set stored i (withProgress (getD stored i d) (getD stored i d .«accumulated_hazard») now)
+  pub two-stores : set stored i (withAccumulated (getD stored i d) (getD stored i d .«accumulated_hazard») now)
       ≡ set cs i (settled now (getD cs i d))
   unfolding settledHazard
   two-stores = rw (getD-set-same cs i _ d lt, set-set, sum)

@@ -31,7 +31,7 @@ use Rattle.clocks.specs.declared.channels.HazardChannelState.{HazardChan
 use Rattle.clocks.specs.declared.clocks.SurvivalClock.{SurvivalClock}
 use Rattle.clocks.specs.declared.scheduling.Censor.{Censor}
 use Rattle.clocks.proofs.Sound.{Each, none, next, SoundClock}
-use Rattle.clocks.proofs.Cases.{either-way}
+use Rattle.hazards.proofs.Cases.{by-test}
 use Rattle.clocks.proofs.EachLaws.{each-append}
 
 -- a candidate's time
@@ -47,7 +47,7 @@ TimedEarliest (Found c) = Timed c
 earlier-timed : (tie : TieBreaker) (best : Earliest) (c : Candidate) → TimedEarliest best → Timed c → TimedEarliest (earlier tie best c)
 unfolding earlier
 earlier-timed tie Nothing c b t = t
-earlier-timed tie (Found best) c b t = either-way (precedes tie c best) (λ e. rw e t) (λ e. rw e b)
+earlier-timed tie (Found best) c b t = by-test (precedes tie c best) (λ e. rw e t) (λ e. rw e b)
 
 best-timed : (tie : TieBreaker) (best : Earliest) {cs : List Candidate} → TimedEarliest best → Each Timed cs
     → TimedEarliest (foldl (earlier tie) best cs)
@@ -61,14 +61,14 @@ module _ (now : Float) (u : Upto (2 ^ 40) now) where
   unfolding candidateAfter
   after-timed cause priority Never h = none
   after-timed cause priority (After dt) h =
-      either-way (isFiniteWait dt)
+      by-test (isFiniteWait dt)
       (λ (e : isFiniteWait dt ≡ true). rw e (next (later-upto largest dt u h (rw e tt) later-lands time-lands) none)) (λ e. rw e none)
 
   channel-timed : (c : HazardChannelState) → Each Timed (channelCandidate now c)
   unfolding channelCandidate
   channel-timed c =
       let remaining = sub binary64 (c .«target_threshold») (c .«accumulated_hazard») in
-      either-way (le remaining z) (λ e. rw e (next (wider largest (lit≤ tt) u) none))
+      by-test (le remaining z) (λ e. rw e (next (wider largest (lit≤ tt) u) none))
       (λ e.
       rw e
       (after-timed (c .«cause_id») (c .priority) (invertCumulativeHazard (c .hazard) (c .intervals) z remaining)
@@ -88,16 +88,16 @@ module _ (now : Float) (u : Upto (2 ^ 40) now) where
     final-timed : (e : Earliest) → TimedEarliest e → Upto largest (finalEvent e now censor .«delta_time»)
     unfolding finalEvent
     final-timed Nothing t =
-        either-way (censor .present)
+        by-test (censor .present)
         (λ (p : censor .present ≡ true).
-        either-way (le now (censor .time))
+        by-test (le now (censor .time))
         (λ (l : le now (censor .time) ≡ true). rw (p, l) (sub-upto largest (v p) u (rw l tt) time-lands))
         (λ l. rw (p, l) (zero-upto largest)))
         (λ p. rw p (zero-upto largest))
     final-timed (Found c) t =
-        either-way (censor .present)
+        by-test (censor .present)
         (λ p.
-        either-way (le (c .time) (censor .time)) (λ l. rw (p, l) (clamped-difference-upto largest t u largest-stays))
+        by-test (le (c .time) (censor .time)) (λ l. rw (p, l) (clamped-difference-upto largest t u largest-stays))
         (λ l. rw (p, l) (clamped-difference-upto largest (v p) u time-lands)))
         (λ p. rw p (clamped-difference-upto largest t u largest-stays))
 
@@ -111,6 +111,6 @@ module _ (now : Float) (u : Upto (2 ^ 40) now) where
 pub dispatched-upto : (k : SurvivalClock) → SoundClock k → Upto largest (onEventDispatched k .event .«delta_time»)
 unfolding onEventDispatched
 dispatched-upto k s =
-    either-way (k .«current_winner» .present)
+    by-test (k .«current_winner» .present)
     (λ (p : k .«current_winner» .present ≡ true). rw p (clamped-difference-upto largest (s .winner p) (s .last-update) largest-stays))
     (λ p. rw p (zero-upto largest))

@@ -1,6 +1,5 @@
 -- The laws of the clocks crate, one subject to a file.
 pub mod AscendingCauses
-pub mod Cases
 pub mod ChangedPlaces
 pub mod EachChannel
 pub mod EachLaws

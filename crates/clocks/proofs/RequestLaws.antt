@@ -6,7 +6,7 @@ use mathlib.Core.List.{List}
 use Prim.Native.Nat.{ℕ}
 use lib.Ieee.{Float}
 use Rattle.hazards.specs.declared.ties.TieBreaker.{TieBreaker}
-use Rattle.clocks.specs.Channels.{settled, restarted, onUsed, placeOf, holdsAt}
+use Rattle.clocks.specs.Channels.{settled, restarted, onUsed, placeOfCause}
 use Rattle.clocks.specs.Clocks.{notScheduled, noWinner, newClock, usedChannels, withChannels, withSchedule, removeChannel}
 use Rattle.clocks.specs.Setting.{setChannel}
 use Rattle.clocks.specs.Scheduling.{scheduledFor, reschedule, pause, resume, onEventDispatched}
@@ -18,7 +18,8 @@ use Rattle.clocks.specs.declared.scheduling.Censor.{Censor}
 use Rattle.clocks.specs.declared.scheduling.RealizedEvent.{RealizedEvent}
 use Rattle.clocks.specs.declared.scheduling.Rescheduled.{Rescheduled}
 use Rattle.clocks.specs.declared.setting.CauseSetting.{CauseSetting}
-use Rattle.clocks.proofs.Cases.{either-way}
+use Rattle.hazards.proofs.Cases.{by-test}
+use Rattle.clocks.proofs.Places.{by-place}
 use Rattle.clocks.proofs.SchedulingCases.{pause-inactive, pause-active}
 use Rattle.clocks.proofs.SettingOutcomes.{set-way}
 
@@ -85,7 +86,7 @@ module _ (k : SurvivalClock) (s : CauseSetting) (stream : List ℕ) (position : 
 module _ (k : SurvivalClock) (cause : ℕ) where
   pub remove-rest : OnlyChannels k (removeChannel k cause)
   unfolding removeChannel
-  remove-rest = either-way (holdsAt (placeOf cause (usedChannels k)) cause (usedChannels k)) (λ e. rw e) (λ e. rw e)
+  remove-rest = by-place (placeOfCause cause (usedChannels k)) (λ at e. rw (removeChannel, e)) (λ e. rw (removeChannel, e))
 
   pub remove-scheduled : removeChannel k cause .«scheduled_event_id» ≡ k .«scheduled_event_id»
   remove-scheduled = ap (λ (c : SurvivalClock). c .«scheduled_event_id») remove-rest
@@ -100,7 +101,7 @@ module _ (k : SurvivalClock) (cause : ℕ) where
 
 -- k rescheduled: its old event is withdrawn. With a new event it names the given index, holds a winner and is active; without one it names
 -- nothing, and winner and active flag stay
-pub record Requests (k : SurvivalClock) (index : ℕ) (r : Rescheduled) : Type 0 where
+pub record AskedOfQueue (k : SurvivalClock) (index : ℕ) (r : Rescheduled) : Type 0 where
   pub withdraws : r .withdrawn ≡ k .«scheduled_event_id»
   pub names : r .event .present ≡ true → r .clock .«scheduled_event_id» ≡ record { present = true; index = index }
   pub wins : r .event .present ≡ true → r .clock .«current_winner» .present ≡ true
@@ -109,10 +110,10 @@ pub record Requests (k : SurvivalClock) (index : ℕ) (r : Rescheduled) : Type 0
   pub winner-stays : r .event .present ≡ false → r .clock .«current_winner» ≡ k .«current_winner»
   pub active-stays : r .event .present ≡ false → r .clock .«is_active» ≡ k .«is_active»
 
-for-requests : (k : SurvivalClock) (now : Float) (event : RealizedEvent) (index : ℕ) → Requests k index (scheduledFor k now event index)
+for-requests : (k : SurvivalClock) (now : Float) (event : RealizedEvent) (index : ℕ) → AskedOfQueue k index (scheduledFor k now event index)
 unfolding scheduledFor
 for-requests k now event index =
-    either-way (event .present)
+    by-test (event .present)
     (λ e. rw e (record {
       withdraws = refl;
       names = λ p. refl;
@@ -134,14 +135,14 @@ for-requests k now event index =
 
 for-rest : (k : SurvivalClock) (now : Float) (event : RealizedEvent) (index : ℕ) → OnlySchedule k (scheduledFor k now event index .clock)
 unfolding scheduledFor
-for-rest k now event index = either-way (event .present) (λ e. rw e) (λ e. rw e)
+for-rest k now event index = by-test (event .present) (λ e. rw e) (λ e. rw e)
 
 module _ (k : SurvivalClock) (now : Float) (censor : Censor) (index : ℕ) where
-  pub reschedule-requests : Requests k index (reschedule k now censor index)
+  pub reschedule-requests : AskedOfQueue k index (reschedule k now censor index)
   unfolding reschedule
   reschedule-requests = for-requests k now _ index
 
-  pub resume-requests : Requests k index (resume k now censor index)
+  pub resume-requests : AskedOfQueue k index (resume k now censor index)
   unfolding resume reschedule
   resume-requests =
       let r = for-requests (withChannels k _ _) now _ index in
@@ -198,7 +199,7 @@ module _ (k : SurvivalClock) (now : Float) where
 
   pub pause-settings : SameSettings k (pause k now .clock)
   pause-settings =
-      either-way (k .«is_active») (λ e. schedule-settings (changed (settled now) k) _ (pause-rest e))
+      by-test (k .«is_active») (λ e. schedule-settings (changed (settled now) k) _ (pause-rest e))
       (λ e. rw (pause-leaves e) (refl, refl, refl, refl, refl, refl))
 
 -- ---- on_event_dispatched

@@ -2,28 +2,28 @@
 use mathlib.Core.Path.{_≡_, refl}
 use mathlib.Core.List.{List}
 use Prim.Native.Nat.{ℕ, _≤_}
-use native.Mathlib.Omega.{arith}
 use borrow.Author.Tests.{eqb-true, eqb-false}
 use lib.Dec.{eqb, ltb}
 use lib.ListN.{getD}
 use Rattle.hazards.specs.Draws.{streamLength, drawAt}
-use Rattle.hazards.specs.Refusals.{invalidState, tooManyCauses}
-use Rattle.hazards.proofs.DrawLaws.{drawNumber, accepted-within, within-not-past}
-use Rattle.clocks.specs.Channels.{emptyChannel, settledHazard, placeOf, holdsAt}
+use Rattle.hazards.specs.Refusals.{tooManyCauses}
+use Rattle.hazards.proofs.DrawLaws.{drawNumber, accepted-within}
+use Rattle.clocks.specs.Channels.{emptyChannel, settledHazard, placeOfCause}
 use Rattle.clocks.specs.Clocks.{usedChannels, withChannels}
 use Rattle.clocks.specs.Setting.{drawsAgain, notSet, setAgain, setNew, setChannel}
 use Rattle.clocks.specs.declared.channels.HazardChannelState.{HazardChannelState}
 use Rattle.clocks.specs.declared.clocks.SurvivalClock.{SurvivalClock}
 use Rattle.clocks.specs.declared.setting.CauseSetting.{CauseSetting}
 use Rattle.clocks.specs.declared.setting.ChannelSet.{ChannelSet}
-use Rattle.clocks.proofs.Cases.{either-way}
+use Rattle.hazards.proofs.Cases.{by-test}
+use Rattle.clocks.proofs.Places.{by-place}
 
 module _ (k : SurvivalClock) (s : CauseSetting) (stream : List ℕ) (position : ℕ) where
   -- ---- what holds of each way holds of set_channel
   module _ (X : ChannelSet → Type 0)
       (kept : (cs : List HazardChannelState) (n : ℕ) → X (record { number = 0; clock = withChannels k cs n; position = position }))
       (drawn : (cs : List HazardChannelState) (n : ℕ) → drawNumber stream position ≡ 0
-      → X (record { number = 0; clock = withChannels k cs n; position = drawAt stream position .position }))
+      → X (record { number = 0; clock = withChannels k cs n; position = drawAt stream position .position .next }))
       (refused : (drawNumber stream position ≡ 0 → ⊥) → X (notSet k position (drawNumber stream position)))
       (ninth : X (notSet k position tooManyCauses))
     where
@@ -31,26 +31,25 @@ module _ (k : SurvivalClock) (s : CauseSetting) (stream : List ℕ) (position : 
       unfolding setAgain
       again-way at =
           let old = getD (k .channels) at emptyChannel in
-          either-way (drawsAgain (k .policy) (settledHazard old (s .now)) (old .«target_threshold»))
+          by-test (drawsAgain (k .policy) (settledHazard old (s .now)) (old .«target_threshold»))
           (λ e.
-          either-way (eqb (drawNumber stream position) 0) (λ d. rw (e, d) (drawn _ _ (eqb-true _ _ d)))
+          by-test (eqb (drawNumber stream position) 0) (λ d. rw (e, d) (drawn _ _ (eqb-true _ _ d)))
           (λ d. rw (e, d) (refused (eqb-false _ _ d))))
           (λ e. rw e (kept _ _))
 
-      new-way : (at : ℕ) → X (setNew k s stream position at)
+      new-way : X (setNew k s stream position)
       unfolding setNew
-      new-way at =
-          either-way (ltb (k .«channel_count») 8)
+      new-way =
+          by-test (ltb (k .«channel_count») 8)
           (λ e.
-          either-way (eqb (drawNumber stream position) 0) (λ d. rw (e, d) (drawn _ _ (eqb-true _ _ d)))
+          by-test (eqb (drawNumber stream position) 0) (λ d. rw (e, d) (drawn _ _ (eqb-true _ _ d)))
           (λ d. rw (e, d) (refused (eqb-false _ _ d))))
           (λ e. rw e ninth)
 
       pub set-way : X (setChannel k s stream position)
       unfolding setChannel
       set-way =
-          let at = placeOf (s .«cause_id») (usedChannels k) in
-          either-way (holdsAt at (s .«cause_id») (usedChannels k)) (λ h. rw h (again-way at)) (λ h. rw h (new-way at))
+          by-place (placeOfCause (s .«cause_id») (usedChannels k)) (λ at h. rw (setChannel, h) (again-way at)) (λ h. rw (setChannel, h) new-way)
 
   -- ---- a refusal changes nothing
   pub set-refused : (setChannel k s stream position .number ≡ 0 → ⊥)
@@ -59,12 +58,7 @@ module _ (k : SurvivalClock) (s : CauseSetting) (stream : List ℕ) (position : 
       set-way (λ r. (r .number ≡ 0 → ⊥) → r ≡ notSet k position (r .number))
       (λ cs n h. absurd (h refl)) (λ cs n d h. absurd (h refl)) (λ d h. refl) (λ h. refl)
 
-  -- ---- a position within the stream stays within it, and is never refused by 1
+  -- ---- a position within the stream stays within it
   pub set-within : position ≤ streamLength stream → setChannel k s stream position .position ≤ streamLength stream
   set-within l =
       set-way (λ r. r .position ≤ streamLength stream) (λ cs n. l) (λ cs n d. accepted-within stream position d) (λ d. l) l
-
-  pub set-not-past : position ≤ streamLength stream → setChannel k s stream position .number ≡ invalidState → ⊥
-  set-not-past l =
-      set-way (λ r. r .number ≡ invalidState → ⊥)
-      (λ cs n e. omega arith) (λ cs n d e. omega arith) (λ d e. within-not-past stream position l e) (λ e. omega arith)

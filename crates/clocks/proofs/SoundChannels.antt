@@ -17,7 +17,7 @@ use Rattle.clocks.specs.declared.setting.CauseSetting.{CauseSetting}
 use Rattle.clocks.proofs.Sound.{SoundChannel}
 
 module _ (c : HazardChannelState) (s : SoundChannel c) where
-  pub hazard-sound : T (sound (c .hazard) (c .intervals))
+  hazard-sound : T (sound (c .hazard) (c .intervals))
   hazard-sound = faultless-sound (c .hazard) (c .intervals) (s .range) (s .intervals)
 
   module _ (now : Float) (u : Upto (2 ^ 40) now) where

@@ -11,7 +11,7 @@ use Rattle.hazards.proofs.Bounds.{Upto, largest}
 use Rattle.hazards.specs.declared.ties.TieBreaker.{TieBreaker}
 use Rattle.hazards.proofs.Upto.{zero-upto}
 use Rattle.hazards.proofs.Limits.{time-upto}
-use Rattle.clocks.specs.Channels.{settled, restarted, placeOf, holdsAt}
+use Rattle.clocks.specs.Channels.{settled, restarted, placeOfCause}
 use Rattle.clocks.specs.Clocks.{notScheduled, noWinner, newClock, usedChannels, removeChannel, earliestEvent, one}
 use Rattle.clocks.specs.Scheduling.{finalEvent, scheduledFor, reschedule, pause, resume, onEventDispatched}
 use Rattle.clocks.specs.Validation.{isFinite, ascendingFrom}
@@ -21,7 +21,8 @@ use Rattle.clocks.specs.declared.clocks.SurvivalClock.{SurvivalClock}
 use Rattle.clocks.specs.declared.scheduling.Censor.{Censor}
 use Rattle.clocks.specs.declared.scheduling.RealizedEvent.{RealizedEvent}
 use Rattle.clocks.proofs.Sound.{none, SoundClock}
-use Rattle.clocks.proofs.Cases.{either-way}
+use Rattle.hazards.proofs.Cases.{by-test}
+use Rattle.clocks.proofs.Places.{by-place}
 use Rattle.clocks.proofs.EventTimes.{delta-upto, winner-upto}
 use Rattle.clocks.proofs.SchedulingCases.{pause-inactive, pause-active}
 use Rattle.clocks.proofs.SoundChannels.{settled-sound, restarted-sound}
@@ -37,7 +38,7 @@ in-range-finite (inf false) h = absurd (unfold le in h)
 in-range-finite (fin s m e) h = unfold lt in tt
 
 scale-finite : (scale : Float) → T (inRange scale) → T (isFinite (cond (le scale z) one scale))
-scale-finite scale h = either-way (le scale z) (λ e. rw e (unfold isFinite lt in tt)) (λ e. rw e (in-range-finite scale h))
+scale-finite scale h = by-test (le scale z) (λ e. rw e (unfold isFinite lt in tt)) (λ e. rw e (in-range-finite scale h))
 
 pub new-sound : (process : ℕ) (hasEntity : Bool) (entity : EntityId) (policy : HazardInterruptionPolicy) (tie : TieBreaker) (scale : Float)
     → T (inRange scale) → SoundClock (newClock process hasEntity entity policy tie scale)
@@ -58,8 +59,8 @@ module _ (k : SurvivalClock) (s : SoundClock k) where
   pub remove-sound : (cause : ℕ) → SoundClock (removeChannel k cause)
   unfolding removeChannel
   remove-sound cause =
-      let at = placeOf cause (usedChannels k) in
-      either-way (holdsAt at cause (usedChannels k)) (λ e. rw e (removed-sound k s at cause e)) (λ e. rw e s)
+      by-place (placeOfCause cause (usedChannels k))
+      (λ at e. rw (removeChannel, e) (removed-sound k s at cause e)) (λ e. rw (removeChannel, e) s)
 
   -- ---- on_event_dispatched
   pub dispatched-sound : SoundClock (onEventDispatched k .clock)
@@ -72,7 +73,7 @@ module _ (k : SurvivalClock) (s : SoundClock k) where
   pause-sound now h =
       let u = time-upto now h in
       let paused = changed-sound k s (settled now) (λ c sc. settled-sound c sc now u) (λ c. refl) in
-      either-way (k .«is_active»)
+      by-test (k .«is_active»)
       (λ e. rw (pause-active k now e) (schedule-sound _ paused notScheduled (k .«current_winner») false now (s .winner) u))
       (λ e. rw (pause-inactive k now e) s)
 
@@ -81,7 +82,7 @@ module _ (k : SurvivalClock) (s : SoundClock k) where
       → SoundClock (scheduledFor k now event index .clock)
   unfolding scheduledFor
   scheduled-sound now event index u d =
-      either-way (event .present) (λ e. rw e (schedule-sound k s _ _ true now (λ p. winner-upto now u d) u))
+      by-test (event .present) (λ e. rw e (schedule-sound k s _ _ true now (λ p. winner-upto now u d) u))
       (λ e. rw e (schedule-sound k s notScheduled (k .«current_winner») (k .«is_active») now (s .winner) u))
 
   pub reschedule-sound : (now : Float) (censor : Censor) (index : ℕ) → T (isTime now) → (censor .present ≡ true → T (isTime (censor .time)))

@@ -14,14 +14,16 @@ use Rattle.hazards.proofs.Bounds.{Upto, largest}
 use Rattle.hazards.proofs.Upto.{zero-upto}
 use Rattle.hazards.proofs.Limits.{time-upto}
 use Rattle.hazards.proofs.DrawLaws.{accepted-threshold}
-use Rattle.clocks.specs.Channels.{emptyChannel, settledHazard, placeOf, holdsAt}
+use Rattle.clocks.specs.Channels.{emptyChannel, settledHazard, placeOfCause}
 use Rattle.clocks.specs.Clocks.{usedChannels}
 use Rattle.clocks.specs.Setting.{channelOf, drawsAgain, setAgain, setNew, setChannel}
 use Rattle.clocks.specs.declared.channels.HazardChannelState.{HazardChannelState}
+use Rattle.clocks.specs.declared.channels.CausePlace.the-variants.{At, Absent}
 use Rattle.clocks.specs.declared.clocks.SurvivalClock.{SurvivalClock}
 use Rattle.clocks.specs.declared.setting.CauseSetting.{CauseSetting}
 use Rattle.clocks.proofs.Sound.{SoundChannel, SoundClock}
-use Rattle.clocks.proofs.Cases.{either-way}
+use Rattle.hazards.proofs.Cases.{by-test}
+use Rattle.clocks.proofs.Places.{by-place}
 use Rattle.clocks.proofs.SoundChannels.{settled-hazard-upto, setting-sound}
 use Rattle.clocks.proofs.SoundPlaces.{held-sound, replaced-sound, added-sound}
 
@@ -43,16 +45,16 @@ module _ (k : SurvivalClock) (sk : SoundClock k) (s : CauseSetting) (range : ran
       made-sound (zero-upto largest) (rw (accepted-threshold stream position (eqb-true (drawAt stream position .number) 0 d)) tt)
 
   -- a cause that the clock has
-  again-sound : (at : ℕ) → holdsAt at cause (usedChannels k) ≡ true → SoundClock (setAgain k s stream position at .clock)
+  again-sound : (at : ℕ) → placeOfCause cause (usedChannels k) ≡ At at → SoundClock (setAgain k s stream position at .clock)
   unfolding setAgain
   again-sound at h =
       let old = getD (k .channels) at emptyChannel in
       let so = held-sound k sk at cause h in
       let accumulated = settledHazard old (s .now) in
       let kept = channelOf s accumulated (old .«target_threshold») in
-      either-way (drawsAgain (k .policy) accumulated (old .«target_threshold»))
+      by-test (drawsAgain (k .policy) accumulated (old .«target_threshold»))
       (λ e.
-      either-way (eqb (drawAt stream position .number) 0) (λ d. rw (e, d) (replaced-sound k sk at cause h drawn refl (drawn-sound d)))
+      by-test (eqb (drawAt stream position .number) 0) (λ d. rw (e, d) (replaced-sound k sk at cause h drawn refl (drawn-sound d)))
       (λ d. rw (e, d) sk))
       (λ e.
       rw e
@@ -60,18 +62,17 @@ module _ (k : SurvivalClock) (sk : SoundClock k) (s : CauseSetting) (range : ran
       (made-sound (settled-hazard-upto old so (s .now) (time-upto (s .now) time)) (so .threshold))))
 
   -- a cause that is new to the clock
-  new-cause-sound : holdsAt (placeOf cause (usedChannels k)) cause (usedChannels k) ≡ false
-      → SoundClock (setNew k s stream position (placeOf cause (usedChannels k)) .clock)
+  new-cause-sound : placeOfCause cause (usedChannels k) ≡ Absent → SoundClock (setNew k s stream position .clock)
   unfolding setNew
   new-cause-sound h =
-      either-way (ltb (k .«channel_count») 8)
+      by-test (ltb (k .«channel_count») 8)
       (λ e.
-      either-way (eqb (drawAt stream position .number) 0)
+      by-test (eqb (drawAt stream position .number) 0)
       (λ d. rw (e, d) (added-sound k sk drawn (ltb-true (k .«channel_count») 8 e) h (drawn-sound d))) (λ d. rw (e, d) sk))
       (λ e. rw e sk)
 
   pub set-sound : SoundClock (setChannel k s stream position .clock)
   unfolding setChannel
   set-sound =
-      let at = placeOf cause (usedChannels k) in
-      either-way (holdsAt at cause (usedChannels k)) (λ h. rw h (again-sound at h)) (λ h. rw h (new-cause-sound h))
+      by-place (placeOfCause cause (usedChannels k))
+      (λ at h. rw (setChannel, h) (again-sound at h)) (λ h. rw (setChannel, h) (new-cause-sound h))

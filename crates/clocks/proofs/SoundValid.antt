@@ -17,7 +17,7 @@ use Rattle.clocks.specs.Validation.{isFinite, validChannel, ascendingFro
 use Rattle.clocks.specs.declared.channels.HazardChannelState.{HazardChannelState}
 use Rattle.clocks.specs.declared.clocks.SurvivalClock.{SurvivalClock}
 use Rattle.clocks.proofs.Sound.{Each, none, next, SoundChannel, SoundClock}
-use Rattle.clocks.proofs.Cases.{either-way}
+use Rattle.hazards.proofs.Cases.{by-test}
 
 -- ---- what has a bound is finite, and so is a threshold
 upto-finite : {b : ℕ} {x : Float} → Upto b x → isFinite x ≡ true
@@ -59,4 +59,4 @@ sound-valid k s =
       is-true (isFinite (k .«tick_scale»)) (s .scale),
       upto-finite (s .last-update),
     )
-    (either-way (k .«current_winner» .present) (λ e. rw (e, upto-finite (s .winner e))) (λ e. rw e))
+    (by-test (k .«current_winner» .present) (λ e. rw (e, upto-finite (s .winner e))) (λ e. rw e))

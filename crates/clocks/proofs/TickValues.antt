@@ -17,7 +17,7 @@ use Rattle.clocks.specs.Ticks.{nearestUp, wholeTicks}
 use Rattle.clocks.proofs.TickRounding.{up-same, up-cancel, up-zero, up-whole, up-bound}
 
 -- ---- by the value
-pub ticks-value : (x : Float) (a c : ℕ) → 0 < c → HasValue x false a c → wholeTicks x ≡ min (nearestUp a c) (2 ^ 128 - 1)
+ticks-value : (x : Float) (a c : ℕ) → 0 < c → HasValue x false a c → wholeTicks x ≡ min (nearestUp a c) (2 ^ 128 - 1)
 unfolding wholeTicks
 ticks-value nan a c h v = absurd v
 ticks-value (inf s) a c h v = absurd v

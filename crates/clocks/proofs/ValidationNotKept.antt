@@ -9,8 +9,8 @@ use lib.ListN.{replicate}
 use lib.Ieee.{Float, fin, add, sub, mul, lt, le, toBits}
 use Rattle.hazards.specs.Floats.{z, limit, notBelowZero, zeroBits, inRange}
 use Rattle.hazards.specs.Lists.{all}
-use Rattle.hazards.specs.Rates.{pairsFrom, mostPairs, usedPairs, cumulativeOfKind, cumulativeHazard}
-use Rattle.hazards.specs.Checks.{ownRate, rangeFault, ascending, intervalsFault}
+use Rattle.hazards.specs.Rates.{piecesBy, cumulativeOfRate, cumulativeHazard}
+use Rattle.hazards.specs.Checks.{rangeFault, intervalsFault}
 use Rattle.hazards.specs.declared.rates.HazardRate.the-variants.{Constant}
 use Rattle.hazards.specs.declared.ties.TieBreaker.the-variants.{LowestCauseId}
 use Rattle.clocks.specs.Channels.{emptyIntervals, emptyChannel, settledHazard, onUsed}
@@ -53,6 +53,6 @@ handedIn = record {
 }
 
 pub validation-not-kept : (validClock handedIn ≡ true) × (validClock (pause handedIn z .clock) ≡ false)
-unfolding validClock validChannel all ascendingFrom isFinite rangeFault intervalsFault ownRate mostPairs inRange zeroBits ascending
-    pairsFrom usedPairs pause onUsed settledHazard cumulativeHazard cumulativeOfKind notBelowZero add sub mul lt le toBits
+unfolding validClock validChannel all ascendingFrom isFinite rangeFault intervalsFault inRange zeroBits piecesBy
+    pause onUsed settledHazard cumulativeHazard cumulativeOfRate notBelowZero add sub mul lt le toBits
 validation-not-kept = (refl, refl)

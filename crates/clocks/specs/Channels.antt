@@ -1,10 +1,10 @@
--- Document 01, "Clocks": the channels of a survival clock (HazardChannelState of hazard_clock.rs), eight places by ascending cause, of which
--- the first count are used.
-use mathlib.Core.Bool.{Bool, cond, _&&_}
+-- Document 01, "Clocks": the channels of a survival clock (HazardChannelState of hazard_clock.rs), eight places by ascending cause, of
+-- which the first count are used.
+use mathlib.Core.Bool.{cond}
 use mathlib.Core.List.{List, [], _∷_, _++_, map}
 use Prim.Native.Nat.{ℕ, suc, _+_, _-_}
 use lib.Dec.{eqb, ltb}
-use lib.ListN.{length, getD, take, drop, replicate}
+use lib.ListN.{take, drop, replicate}
 use lib.Ieee.{Float, binary64, add, sub, le}
 use Rattle.hazards.specs.Floats.{z, notBelowZero}
 use Rattle.hazards.specs.Rates.{cumulativeHazard, invertCumulativeHazard}
@@ -13,6 +13,8 @@ use Rattle.hazards.specs.declared.rates.Intervals.{Intervals}
 use Rattle.hazards.specs.Ties.{candidateAfter}
 use Rattle.hazards.specs.declared.ties.Candidate.{Candidate}
 use Rattle.clocks.specs.declared.channels.HazardChannelState.{HazardChannelState}
+use Rattle.clocks.specs.declared.channels.CausePlace.{CausePlace}
+use Rattle.clocks.specs.declared.channels.CausePlace.the-variants.{At, Absent}
 
 -- what an unused place holds
 abbrev pub emptyIntervals : Intervals
@@ -30,8 +32,8 @@ emptyChannel = record {
 }
 
 -- a channel with another accumulated hazard and interval start
-abbrev pub withProgress : HazardChannelState → Float → Float → HazardChannelState
-withProgress c accumulated start = record {
+abbrev pub withAccumulated : HazardChannelState → Float → Float → HazardChannelState
+withAccumulated c accumulated start = record {
   «cause_id» = c .«cause_id»;
   priority = c .priority;
   hazard = c .hazard;
@@ -49,11 +51,11 @@ settledHazard c now =
 
 -- settling a channel: its elapsed hazard is accumulated, and a new interval starts
 abbrev pub settled : Float → HazardChannelState → HazardChannelState
-settled now c = withProgress c (settledHazard c now) now
+settled now c = withAccumulated c (settledHazard c now) now
 
 -- a new interval starts, and nothing is accumulated
 abbrev pub restarted : Float → HazardChannelState → HazardChannelState
-restarted now c = withProgress c (c .«accumulated_hazard») now
+restarted now c = withAccumulated c (c .«accumulated_hazard») now
 
 -- f on each used channel
 unfoldable pub onUsed : (HazardChannelState → HazardChannelState) → ℕ → List HazardChannelState → List HazardChannelState
@@ -61,14 +63,20 @@ onUsed f count cs = map f (take count cs) ++ drop count cs
 
 -- ---- by cause
 
--- the place of the first of these whose cause is not below the given one, or their number
-unfoldable pub placeOf : ℕ → List HazardChannelState → ℕ
-placeOf cause [] = 0
-placeOf cause (c ∷ cs) = cond (ltb (c .«cause_id») cause) (suc (placeOf cause cs)) 0
+-- a place among channels, counted with n more before them
+abbrev pub further : ℕ → CausePlace → CausePlace
+further n (At at) = At (n + at)
+further n Absent = Absent
 
--- whether a place among these holds a cause
-unfoldable pub holdsAt : ℕ → ℕ → List HazardChannelState → Bool
-holdsAt at cause cs = ltb at (length cs) && eqb (getD cs at emptyChannel .«cause_id») cause
+-- the place of the channel with a cause, if any (should several have it, of the first)
+unfoldable pub placeOfCause : ℕ → List HazardChannelState → CausePlace
+placeOfCause cause [] = Absent
+placeOfCause cause (c ∷ cs) = cond (eqb (c .«cause_id») cause) (At 0) (further 1 (placeOfCause cause cs))
+
+-- the place of a new cause: before the first channel with a higher one, or after them all
+unfoldable pub placeForNew : ℕ → List HazardChannelState → ℕ
+placeForNew cause [] = 0
+placeForNew cause (c ∷ cs) = cond (ltb cause (c .«cause_id»)) 0 (suc (placeForNew cause cs))
 
 -- the eight places with a channel put in at a place, those from there on one further
 unfoldable pub insertAt : ℕ → HazardChannelState → List HazardChannelState → List HazardChannelState

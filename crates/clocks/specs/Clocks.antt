@@ -2,6 +2,7 @@
 use mathlib.Core.Bool.{Bool, false, cond}
 use mathlib.Core.List.{List, [], _∷_, _++_}
 use Prim.Native.Nat.{ℕ, _-_}
+use lib.Dec.{eqb}
 use lib.ListN.{take, replicate}
 use lib.IntN.{pos}
 use lib.Ieee.{Float, fin, le}
@@ -10,13 +11,23 @@ use Rattle.hazards.specs.Ties.{earliest}
 use Rattle.hazards.specs.declared.ties.TieBreaker.{TieBreaker}
 use Rattle.hazards.specs.declared.ties.Candidate.{Candidate}
 use Rattle.hazards.specs.declared.ties.Earliest.{Earliest}
-use Rattle.clocks.specs.Channels.{emptyChannel, placeOf, holdsAt, removeAt, channelCandidate}
+use Rattle.clocks.specs.Channels.{emptyChannel, placeOfCause, removeAt, channelCandidate}
+use Rattle.clocks.specs.declared.channels.CausePlace.the-variants.{At, Absent}
 use Rattle.clocks.specs.declared.channels.HazardChannelState.{HazardChannelState}
 use Rattle.clocks.specs.declared.clocks.EntityId.{EntityId}
 use Rattle.clocks.specs.declared.clocks.HazardInterruptionPolicy.{HazardInterruptionPolicy}
+use Rattle.clocks.specs.declared.clocks.HazardInterruptionPolicy.the-variants.{Restart, RetainResidual}
 use Rattle.clocks.specs.declared.clocks.ScheduledEvent.{ScheduledEvent}
 use Rattle.clocks.specs.declared.clocks.Winner.{Winner}
 use Rattle.clocks.specs.declared.clocks.SurvivalClock.{SurvivalClock}
+
+-- the policies by their numbers in document 01; another number is refused by 4 before policyOf is asked
+abbrev pub policyNumber : HazardInterruptionPolicy → ℕ
+policyNumber Restart = 0
+policyNumber RetainResidual = 1
+
+abbrev pub policyOf : ℕ → HazardInterruptionPolicy
+policyOf number = cond (eqb number 0) Restart RetainResidual
 
 -- no entity; no scheduled event; no winner
 abbrev pub noEntity : EntityId
@@ -86,11 +97,13 @@ withSchedule k scheduled winner active last = record {
   «last_update_time» = last;
 }
 
--- remove_channel: an absent cause leaves the clock as it is
+-- remove_channel: the used channel with this cause, if any, is taken out; an absent cause leaves the clock as it is
 unfoldable pub removeChannel : SurvivalClock → ℕ → SurvivalClock
 removeChannel k cause =
-    let at = placeOf cause (usedChannels k) in
-    cond (holdsAt at cause (usedChannels k)) (withChannels k (removeAt at (k .channels)) (k .«channel_count» - 1)) k
+    elim (placeOfCause cause (usedChannels k)) [
+      | At at ↦ withChannels k (removeAt at (k .channels)) (k .«channel_count» - 1)
+      | Absent ↦ k
+    ]
 
 -- the candidates of the used channels, in their order
 unfoldable pub clockCandidates : Float → List HazardChannelState → List Candidate

@@ -9,10 +9,11 @@ use lib.Ieee.{Float, le}
 use Rattle.hazards.specs.Floats.{z}
 use Rattle.hazards.specs.Refusals.{tooManyCauses}
 use Rattle.hazards.specs.Draws.{drawAt}
-use Rattle.hazards.specs.declared.draws.DrawOutcome.{DrawOutcome}
-use Rattle.clocks.specs.Channels.{emptyChannel, settledHazard, placeOf, holdsAt, insertAt}
+use Rattle.hazards.specs.declared.draws.DrawAndPosition.{DrawAndPosition}
+use Rattle.clocks.specs.Channels.{emptyChannel, settledHazard, placeOfCause, placeForNew, insertAt}
 use Rattle.clocks.specs.Clocks.{usedChannels, withChannels}
 use Rattle.clocks.specs.declared.channels.HazardChannelState.{HazardChannelState}
+use Rattle.clocks.specs.declared.channels.CausePlace.the-variants.{At, Absent}
 use Rattle.clocks.specs.declared.clocks.HazardInterruptionPolicy.{HazardInterruptionPolicy}
 use Rattle.clocks.specs.declared.clocks.HazardInterruptionPolicy.the-variants.{Restart, RetainResidual}
 use Rattle.clocks.specs.declared.clocks.SurvivalClock.{SurvivalClock}
@@ -41,9 +42,9 @@ abbrev pub notSet : SurvivalClock → ℕ → ℕ → ChannelSet
 notSet k position number = record { number = number; clock = k; position = position }
 
 -- f of the threshold drawn
-abbrev pub afterDraw : SurvivalClock → ℕ → DrawOutcome → (Float → SurvivalClock) → ChannelSet
+abbrev pub afterDraw : SurvivalClock → ℕ → DrawAndPosition → (Float → SurvivalClock) → ChannelSet
 afterDraw k position d f =
-    cond (eqb (d .number) 0) (record { number = 0; clock = f (d .threshold); position = d .position })
+    cond (eqb (d .number) 0) (record { number = 0; clock = f (d .threshold); position = d .position .next })
     (notSet k position (d .number))
 
 -- a cause that the clock has, at its place
@@ -61,15 +62,19 @@ setAgain k s stream position at =
       position = position;
     })
 
--- a cause that is new to the clock: a ninth is refused
-unfoldable pub setNew : SurvivalClock → CauseSetting → List ℕ → ℕ → ℕ → ChannelSet
-setNew k s stream position at =
+-- a cause that is new to the clock goes to its place by ascending cause: a ninth is refused
+unfoldable pub setNew : SurvivalClock → CauseSetting → List ℕ → ℕ → ChannelSet
+setNew k s stream position =
+    let at = placeForNew (s .«cause_id») (usedChannels k) in
     cond (ltb (k .«channel_count») 8)
     (afterDraw k position (drawAt stream position)
     (λ w. withChannels k (insertAt at (channelOf s z w) (k .channels)) (k .«channel_count» + 1)))
     (notSet k position tooManyCauses)
 
+-- set_channel: the used channel with this cause, if any, is set again; a cause without one is new
 unfoldable pub setChannel : SurvivalClock → CauseSetting → List ℕ → ℕ → ChannelSet
 setChannel k s stream position =
-    let at = placeOf (s .«cause_id») (usedChannels k) in
-    cond (holdsAt at (s .«cause_id») (usedChannels k)) (setAgain k s stream position at) (setNew k s stream position at)
+    elim (placeOfCause (s .«cause_id») (usedChannels k)) [
+      | At at ↦ setAgain k s stream position at
+      | Absent ↦ setNew k s stream position
+    ]

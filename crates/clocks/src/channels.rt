@@ -17,6 +17,13 @@ pub struct HazardChannelState {
     pub interval_start_time: f64,
 }
 
+// The place of the used channel with a cause, if any.
+pub enum CausePlace {
+    At(usize),
+    Absent,
+}
+
+// No pairs.
 pub fn empty_intervals() -> Intervals
     ensures { λ r. ⌜ r ≡ emptyIntervals ⌝ }
 {
@@ -56,11 +63,12 @@ pub(crate) fn accumulated_at<'a>(
     ensures { λ r. ⌜ r ≡ add binary64 accumulated (cumulativeHazard hazard (intervalsFrom (now (ends .entry)) (now (rates .entry)) count)
         (notBelowZero (sub binary64 time start))) ⌝ }
 {
-    let elapsed = hazards::rates::not_below_zero(time - start);
+    let elapsed = hazards::floats::not_below_zero(time - start);
     let added = hazards::rates::cumulative_hazard(hazard, ends, rates, count, elapsed);
     accumulated + added
 }
 
+// The hazard that a channel has accumulated at a time.
 pub(crate) fn settled_hazard(channel: HazardChannelState, now: f64) -> f64
     ensures { λ r. ⌜ r ≡ settledHazard channel now ⌝ }
 {

@@ -7,7 +7,7 @@ use crate::clocks::ScheduledEvent;
 use crate::clocks::SurvivalClock;
 use crate::clocks::Winner;
 use crate::ticks::Ticks;
-use hazards::rates::not_below_zero;
+use hazards::floats::not_below_zero;
 use hazards::refusals::NO_CAUSE;
 use hazards::ties::Earliest;
 

@@ -2,9 +2,11 @@
 ghost use mathlib.Core.Path.{_≡_};
 ghost use Prim.Native.Nat.{_≤_};
 ghost use Rattle.clocks.specs.Setting.{channelOf, drawsAgain, setAgain, setNew, setChannel};
+use crate::channels::CausePlace;
 use crate::channels::HazardChannelState;
 use crate::clocks::HazardInterruptionPolicy;
 use crate::clocks::SurvivalClock;
+use hazards::draws::StreamPosition;
 use hazards::rates::HazardRate;
 use hazards::rates::Intervals;
 
@@ -72,7 +74,7 @@ fn set_again(
             position,
         };
     }
-    let drawn = hazards::draws::draw_from(stream, position);
+    let drawn = hazards::draws::draw_from(stream, StreamPosition { next: position });
     if drawn.number != 0 {
         return ChannelSet {
             number: drawn.number,
@@ -85,20 +87,18 @@ fn set_again(
     ChannelSet {
         number: 0,
         clock: after,
-        position: drawn.position,
+        position: drawn.position.next,
     }
 }
 
-// A cause that is new to the clock; a ninth is refused.
+// A cause that is new to the clock, put in at its place by ascending cause; a ninth is refused.
 fn set_new(
     clock: SurvivalClock,
     setting: CauseSetting,
     stream: &[u8],
     position: usize,
-    at: usize,
 ) -> ChannelSet
-    requires { ⌜ at ≤ clock .«channel_count» ⌝ }
-    ensures { λ r. ⌜ r ≡ setNew clock setting (now (stream .entry)) position at ⌝ }
+    ensures { λ r. ⌜ r ≡ setNew clock setting (now (stream .entry)) position ⌝ }
 {
     if clock.channel_count >= 8 {
         return ChannelSet {
@@ -107,7 +107,7 @@ fn set_new(
             position,
         };
     }
-    let drawn = hazards::draws::draw_from(stream, position);
+    let drawn = hazards::draws::draw_from(stream, StreamPosition { next: position });
     if drawn.number != 0 {
         return ChannelSet {
             number: drawn.number,
@@ -116,13 +116,15 @@ fn set_new(
         };
     }
     let channel = channel_of(setting, 0.0, drawn.threshold);
+    let at = clock.place_for_new(setting.cause_id);
     ChannelSet {
         number: 0,
         clock: clock.inserted(at, channel),
-        position: drawn.position,
+        position: drawn.position.next,
     }
 }
 
+// The used channel with the setting's cause, if any, is set again; a cause without one is new.
 pub fn set_channel(
     clock: SurvivalClock,
     setting: CauseSetting,
@@ -131,9 +133,9 @@ pub fn set_channel(
 ) -> ChannelSet
     ensures { λ r. ⌜ r ≡ setChannel clock setting (now (stream .entry)) position ⌝ }
 {
-    let at = clock.place_of(setting.cause_id);
-    if clock.holds_at(at, setting.cause_id) {
-        return set_again(clock, setting, stream, position, at);
+    let place = clock.place_of_cause(setting.cause_id);
+    match place {
+        CausePlace::At(at) => set_again(clock, setting, stream, position, at),
+        CausePlace::Absent => set_new(clock, setting, stream, position),
     }
-    set_new(clock, setting, stream, position, at)
 }

@@ -86,6 +86,7 @@ fn words_of(x: f64) -> Ticks
     ticks_of_bits(f64::to_bits(x))
 }
 
+// A time in whole ticks.
 pub(crate) fn ticks_of(x: f64) -> Ticks
     ensures { λ r. ⌜ r ≡ ticksOf x ⌝ }
 {

@@ -11,11 +11,10 @@ use Rattle.hazards.specs.Fields.{fieldAt, f64At}
 use Rattle.hazards.specs.Refusals.{rangeFaultUnless, identifierFaultIf, isReserved, joined, numberOf}
 use Rattle.hazards.specs.Checks.{rangeFault, intervalsFault, hazardFaults}
 use Rattle.hazards.proofs.AcceptedFlags.{accepted, joined-accepted}
-use Rattle.clocks.proofs.Cases.{either-way}
+use Rattle.hazards.proofs.Cases.{by-test}
 use Rattle.engine.specs.Commands as commands
-use Rattle.engine.specs.Execution.{clockOf, nowOf, censorOf, hazardFields, settingOf, clockFaults, createFaults, causeFaults}
-use Rattle.engine.specs.Execution.{setFaults}
-use Rattle.engine.specs.Execution.{rescheduleFaults, pauseFaults}
+use Rattle.engine.specs.Commands.{clockOf, nowOf, censorOf, hazardFields, settingOf, clockFaults, createFaults, causeFaults}
+use Rattle.engine.specs.Commands.{setFaults, rescheduleFaults, pauseFaults}
 
 module _ (c : List ℕ) where
   clock-below : numberOf (clockFaults c) ≡ 0 → clockOf c < 16
@@ -34,7 +33,7 @@ module _ (c : List ℕ) where
       record {
         clock = omega arith;
         scale =
-            either-way (inRange (f64At c commands.scaleField)) (λ e. rw e tt) (λ e. absurd (true≢false (rw e at (f .range))));
+            by-test (inRange (f64At c commands.scaleField)) (λ e. rw e tt) (λ e. absurd (true≢false (rw e at (f .range))));
       }
 
   -- ---- REMOVE
@@ -77,11 +76,11 @@ module _ (c : List ℕ) where
       let range = f .range in
       record {
         clock = omega arith;
-        now = either-way (isTime (nowOf c)) (λ e. rw e tt) (λ e. absurd (true≢false (rw e at range)));
+        now = by-test (isTime (nowOf c)) (λ e. rw e tt) (λ e. absurd (true≢false (rw e at range)));
         censor =
-            either-way (isTime (nowOf c))
+            by-test (isTime (nowOf c))
             (λ e.
-            either-way (isTime (censorOf c .time)) (λ d. rw d tt) (λ d. absurd (true≢false (rw (e, d) at range))))
+            by-test (isTime (censorOf c .time)) (λ d. rw d tt) (λ d. absurd (true≢false (rw (e, d) at range))))
             (λ e. absurd (true≢false (rw e at range)));
       }
 

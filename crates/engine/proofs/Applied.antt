@@ -3,7 +3,7 @@
 use Prim.Native.Nat.{ℕ, _+_, _-_, _≤_, _<_}
 use native.Mathlib.Nat.{not-suc-le-zero, sub-zero}
 use native.Mathlib.Omega.{arith}
-use mathlib.Core.Path.{_≡_, refl, sym, ap, _∙_, subst}
+use mathlib.Core.Path.{_≡_, refl, sym, ap, ap₂, _∙_, subst}
 use mathlib.Core.Bool.{Bool, true, false, cond}
 use mathlib.Core.List.{List, [], _∷_, _++_, append-assoc, append-nil}
 use mathlib.Core.Option.{some}
@@ -12,18 +12,21 @@ use lib.Seq.{paste, take-at}
 use lib.Dec.{ltb}
 use borrow.Author.Tests.{ltb-true, lt-ltb}
 use Rattle.engine.specs.Refusals.{nothingApplied, replayFails}
-use Rattle.engine.specs.Journal.{Bytes, Performed, rejected, performed, Engine, Asked, reject, undoLast, apply, reverted, answered}
-use Rattle.engine.specs.Journal.{concat, init, Outcome, cut, classify, cleared, unchanged}
-use Rattle.engine.specs.Journal.{Replayed, ends, replayFrom, replayAll, revertTo, undo, write, act, execute}
-use Rattle.engine.specs.Parts.{appliedPart}
+use Rattle.engine.specs.Engine.{Bytes, Performed, rejected, performed, Engine, Asked, reject, undoLast, carryOut, reverted, completed}
+use Rattle.engine.specs.Engine.{concat, init, Outcome, cut, classify, unchanged}
+use Rattle.engine.specs.Replay.{cleared, replay, commandsIn, revertLast, undoIn, undo}
+use Rattle.engine.specs.Execute.{write, act, execute}
+use Rattle.engine.specs.ReplayInternals.{ends, replayAll}
+use Rattle.engine.specs.Journal.{part, appliedPart}
 use Rattle.engine.specs.Sessions.{Session, appliedAfter, feed, feedAll, newSession, Accepted, AcceptsEach}
 use Rattle.engine.proofs.DemandHalves.{OnlyApplied}
 use Rattle.engine.proofs.Supplied.{Laws}
-use Rattle.engine.proofs.CommandLists.{Whole, replay, AllWhole}
+use Rattle.engine.proofs.CommandLists.{Whole, AllWhole}
 use Rattle.engine.proofs.JournalBytes.{concat-snoc, split-last, init-snoc, write-zeros, blank-zeros}
 use Rattle.engine.proofs.PartLaws.{applied-front}
 use Rattle.engine.proofs.Replays.{Asks, asks, cut-whole, cut-self, classify-whole, all-append, all-init, replay-one}
-use Rattle.engine.proofs.Replays.{First, first, ReplaysTo, replays-to}
+use Rattle.engine.proofs.Replays.{First, first, replay-init}
+use Rattle.engine.proofs.Splits.{split-concat, byStates, replayedIn, scan-commands}
 
 module _ (E : Engine) (n : ℕ) (L : Laws E n) where
   replay-counted : (s : E .State) (cs : List Bytes) (v : E .State) → AllWhole E cs → replay E (some s) cs ≡ some v
@@ -42,7 +45,7 @@ module _ (E : Engine) (n : ℕ) (L : Laws E n) where
   pub record Inv (u : Session E) : Type 0 where
     pub whole : AllWhole E (u .applied)
     pub ran : replay E (some (E .opened)) (u .applied) ≡ some (u .state)
-    written : u .journal ≡ concat (u .applied) ++ replicate (n - length (concat (u .applied))) 0
+    pub written : u .journal ≡ concat (u .applied) ++ replicate (n - length (concat (u .applied))) 0
     room : length (concat (u .applied)) ≤ n
     pub counted : E .appliedLength (u .state) ≡ length (concat (u .applied))
 
@@ -72,12 +75,12 @@ module _ (E : Engine) (n : ℕ) (L : Laws E n) where
       ap (λ (l : Bytes). take (E .appliedLength (u .state)) l) (h .written)
       ∙ take-at (concat (u .applied)) (replicate (n - length (concat (u .applied))) 0) (E .appliedLength (u .state)) (sym (h .counted))
 
-  pub applied-part : (u : Session E) → Inv u → appliedPart (u .journal) (E .appliedLength (u .state)) ≡ concat (u .applied)
+  pub applied-part : (u : Session E) → Inv u → appliedPart (u .journal) (E .appliedLength (u .state)) ≡ part (concat (u .applied)) 0
   applied-part u h =
       let l : length (u .journal) ≡ n = journal-length u h in
       let k : E .appliedLength (u .state) ≡ length (concat (u .applied)) = h .counted in
       let r : length (concat (u .applied)) ≤ n = h .room in
-      applied-front (u .journal) (E .appliedLength (u .state)) (omega arith) ∙ applied-bytes u h
+      applied-front (u .journal) (E .appliedLength (u .state)) (omega arith) ∙ ap (λ (l : Bytes). part l 0) (applied-bytes u h)
 
   -- what one input leaves, by its outcome
   abbrev sessionBy : Session E → Bytes → Outcome E → Session E
@@ -157,35 +160,43 @@ module _ (E : Engine) (n : ℕ) (L : Laws E n) where
 
   inv-to : (u : Session E) (i : Bytes) (v rest : E .State) → Inv u → 0 < length (concat (u .applied))
       → replay E (some (E .opened)) (init (u .applied)) ≡ some rest
-      → Inv (sessionBy u i (revertTo E (u .state) (u .journal) (ends v rest (length (concat (init (u .applied)))))))
+      → Inv (sessionBy u i (revertLast E (u .state) (u .journal) (u .applied) (some v) (some rest)))
   inv-to u i v rest h p e = go (E .same v (u .state))
     where
       go : (b : Bool) → Inv (sessionBy u i (cond b (lastReverted u rest) (unchanged E (u .state) (u .journal) replayFails)))
       go true = inv-reverted u i rest h p e
       go false = inv-refused u i replayFails h
 
-  -- the replay of the applied bytes; `rest` is the state before the last command
+  -- the applied bytes hold the applied commands; `rest` is the state before the last of them
   pub record AppliedReplay (u : Session E) : Type 0 where
     pub rest : E .State
+    pub held : commandsIn E (take (E .appliedLength (u .state)) (u .journal)) ≡ some (u .applied)
     pub scans : replayAll E (take (E .appliedLength (u .state)) (u .journal)) ≡ ends (u .state) rest (length (concat (init (u .applied))))
     pub ran : replay E (some (E .opened)) (init (u .applied)) ≡ some rest
 
-  pub applied-replay : (u : Session E) → Inv u → 0 < length (concat (u .applied)) → AppliedReplay u
-  unfolding replayAll
-  applied-replay u h p =
-      let d : ReplaysTo E (length (concat (u .applied))) (E .opened) (E .opened) 0 0 (u .applied) (u .state) =
-      replays-to E (length (concat (u .applied))) (E .opened) (E .opened) 0 0 (u .applied) (u .state) (omega arith) p (h .whole) (h .ran) in
-      let z : 0 + length (concat (init (u .applied))) ≡ length (concat (init (u .applied))) = omega arith in
+  pub applied-replay : (u : Session E) → Inv u → AppliedReplay u
+  applied-replay u h =
+      let cs : List Bytes = u .applied in
+      let d = replay-init E (some (E .opened)) cs (u .state) (h .ran) in
+      let held : commandsIn E (take (E .appliedLength (u .state)) (u .journal)) ≡ some cs =
+      ap (commandsIn E) (applied-bytes u h) ∙ split-concat E (length (concat cs)) cs (h .whole) (omega arith) in
       record {
-        rest = d .rest;
-        scans = ap (λ (l : Bytes). replayFrom E (length l) (E .opened) (E .opened) 0 0 l) (applied-bytes u h) ∙ d .scans
-            ∙ ap (ends (u .state) (d .rest)) z;
-        ran = d .ran;
+        rest = d .0;
+        held = held;
+        scans =
+            scan-commands E (take (E .appliedLength (u .state)) (u .journal))
+            ∙ ap (replayedIn E) held
+            ∙ ap₂ (byStates E (length (concat (init cs)))) (h .ran) (d .1);
+        ran = d .1;
       }
 
-  opened-replay : (v : E .State) → replay E (some (E .opened)) [] ≡ some v → some (E .opened) ≡ some v
-  unfolding replay
-  opened-replay v r = r
+  -- what UNDO makes of them
+  undo-applied : (u : Session E) → Inv u → (d : AppliedReplay u)
+      → undoIn E (u .state) (u .journal) (commandsIn E (take (E .appliedLength (u .state)) (u .journal)))
+      ≡ revertLast E (u .state) (u .journal) (u .applied) (some (u .state)) (some (d .rest))
+  undo-applied u h d =
+      ap (undoIn E (u .state) (u .journal)) (d .held)
+      ∙ ap₂ (revertLast E (u .state) (u .journal) (u .applied)) (h .ran) (d .ran)
 
   pub rest-counted : (u : Session E) → Inv u → (d : AppliedReplay u)
       → E .appliedLength (d .rest) ≡ length (concat (init (u .applied)))
@@ -194,35 +205,25 @@ module _ (E : Engine) (n : ℕ) (L : Laws E n) where
       ∙ ap (λ (k : ℕ). k + length (concat (init (u .applied)))) (L .opens)
       ∙ omega arith
 
-  -- with nothing applied the state is that at opening
-  pub nothing-applied : (u : Session E) → Inv u → E .appliedLength (u .state) ≡ 0 → u .state ≡ E .opened
-  nothing-applied u h e = go (u .applied) (h .whole) (sym (h .counted) ∙ e) (h .ran)
-    where
-      go : (cs : List Bytes) → AllWhole E cs → length (concat cs) ≡ 0 → replay E (some (E .opened)) cs ≡ some (u .state)
-          → u .state ≡ E .opened
-      go [] w z r = sym (cc (opened-replay (u .state) r))
-      go (c ∷ cs) w z r =
-          absurd (omega (arith, w .0 .pos, length-append c (concat cs)))
-
   inv-undo : (u : Session E) (i : Bytes) → Inv u → Inv (sessionBy u i (undo E (u .state) (u .journal)))
   unfolding undo
   inv-undo u i h = go (ltb 0 (E .appliedLength (u .state))) refl
     where
       go : (b : Bool) → ltb 0 (E .appliedLength (u .state)) ≡ b
-          → Inv (sessionBy u i (cond b (revertTo E (u .state) (u .journal) (replayAll E (take (E .appliedLength (u .state)) (u .journal))))
+          → Inv (sessionBy u i
+          (cond b (undoIn E (u .state) (u .journal) (commandsIn E (take (E .appliedLength (u .state)) (u .journal))))
           (unchanged E (u .state) (u .journal) nothingApplied)))
       go false e = inv-refused u i nothingApplied h
       go true e =
           let p : 0 < length (concat (u .applied)) = omega (arith, ltb-true 0 (E .appliedLength (u .state)) e, h .counted) in
-          let d : AppliedReplay u = applied-replay u h p in
-          subst (λ (o : Replayed E). Inv (sessionBy u i (revertTo E (u .state) (u .journal) o))) (sym (d .scans))
-          (inv-to u i (u .state) (d .rest) h p (d .ran))
+          let d : AppliedReplay u = applied-replay u h in
+          subst (λ (o : Outcome E). Inv (sessionBy u i o)) (sym (undo-applied u h d)) (inv-to u i (u .state) (d .rest) h p (d .ran))
 
   inv-act : (u : Session E) (i : Bytes) (k : Asked) → Inv u → classify E (u .state) i ≡ k
       → Inv (sessionBy u i (act E (u .state) (u .journal) k))
   inv-act u i (reject m) h e = inv-refused u i m h
   inv-act u i undoLast h e = inv-undo u i h
-  inv-act u i (apply c) h e = go (E .perform (u .state) c) refl
+  inv-act u i (carryOut c) h e = go (E .perform (u .state) c) refl
     where
       go : (d : Performed (E .State) (E .Answer)) → E .perform (u .state) c ≡ d → Inv (sessionBy u i (write E (u .state) (u .journal) c d))
       go (rejected m) p = inv-refused u i m h
@@ -243,9 +244,9 @@ module _ (E : Engine) (n : ℕ) (L : Laws E n) where
     applied : feedAll E u cs .applied ≡ u .applied ++ cs
     accepts : AcceptsEach E u cs
 
-  pub feed-one : (u : Session E) (c : Bytes) (t : E .State) (a : E .Answer) → Whole E c → classify E (u .state) c ≡ apply c
+  pub feed-one : (u : Session E) (c : Bytes) (t : E .State) (a : E .Answer) → Whole E c → classify E (u .state) c ≡ carryOut c
       → E .perform (u .state) c ≡ performed t a
-      → (feed E u c .state ≡ t) × (feed E u c .applied ≡ u .applied ++ (c ∷ [])) × (execute E (u .state) (u .journal) c .reply ≡ answered a)
+      → (feed E u c .state ≡ t) × (feed E u c .applied ≡ u .applied ++ (c ∷ [])) × (execute E (u .state) (u .journal) c .reply ≡ completed a)
   unfolding feed execute
   feed-one u c t a w k e =
       let o : execute E (u .state) (u .journal) c ≡ write E (u .state) (u .journal) c (performed t a) =
@@ -269,16 +270,19 @@ module _ (E : Engine) (n : ℕ) (L : Laws E n) where
         accepts = (subst (Accepted E) (sym (g .2)) tt, r .accepts);
       }
 
+  pub reverts : ((s : E .State) → E .same s s ≡ true) → (v : Session E) → Inv v → (d : AppliedReplay v) → 0 < E .appliedLength (v .state)
+      → undo E (v .state) (v .journal) ≡ lastReverted v (d .rest)
+  unfolding undo
+  reverts r v h d p = simp (lt-ltb 0 (E .appliedLength (v .state)) p, undo-applied v h d, r (v .state))
+
   -- where something is applied, UNDO is not refused by 12 or 13
   pub undo-accepted : ((s : E .State) → E .same s s ≡ true) → (is : List Bytes)
       → 0 < E .appliedLength (feedAll E (newSession E n) is .state)
       → undo E (feedAll E (newSession E n) is .state) (feedAll E (newSession E n) is .journal) .reply ≡ reverted
-  unfolding undo
   undo-accepted r is p =
       let u : Session E = feedAll E (newSession E n) is in
       let h : Inv u = inv-all (newSession E n) is inv-open in
-      let d : AppliedReplay u = applied-replay u h (omega (arith, h .counted)) in
-      simp (lt-ltb 0 (E .appliedLength (u .state)) p, d .scans, r (u .state))
+      ap (λ (o : Outcome E). o .reply) (reverts r u h (applied-replay u h) p)
 
   last-whole : (cs : List Bytes) (c : Bytes) → AllWhole E (cs ++ (c ∷ [])) → Whole E c
   last-whole [] c h = h .0
@@ -288,14 +292,9 @@ module _ (E : Engine) (n : ℕ) (L : Laws E n) where
   unfolding execute
   executed u i h = inv-act u i (classify E (u .state) i) h refl
 
-  pub reverts : ((s : E .State) → E .same s s ≡ true) → (v : Session E) (d : AppliedReplay v) → 0 < E .appliedLength (v .state)
-      → undo E (v .state) (v .journal) ≡ lastReverted v (d .rest)
-  unfolding undo
-  reverts r v d p = simp (lt-ltb 0 (E .appliedLength (v .state)) p, d .scans, r (v .state))
-
   -- an UNDO right after an accepted command leaves state and journal as they were before it
   pub taken-back : ((s : E .State) → E .same s s ≡ true) → (u : Session E) (i : Bytes) (a : E .Answer) (t : E .State) (k : Bytes) → Inv u
-      → execute E (u .state) (u .journal) i ≡ record { reply = answered a; state = t; journal = k }
+      → execute E (u .state) (u .journal) i ≡ record { reply = completed a; state = t; journal = k }
       → undo E t k ≡ record { reply = reverted; state = u .state; journal = u .journal }
   taken-back r u i a t k h e =
       let c : Bytes = cut E i in
@@ -305,7 +304,7 @@ module _ (E : Engine) (n : ℕ) (L : Laws E n) where
       let l : length (concat (v .applied)) ≡ length (concat (u .applied)) + length c =
       ap length (concat-snoc (u .applied) c) ∙ length-append (concat (u .applied)) c in
       let p : 0 < length (concat (v .applied)) = omega (arith, w .pos) in
-      let d : AppliedReplay v = applied-replay v hv p in
+      let d : AppliedReplay v = applied-replay v hv in
       let same-commands : init (v .applied) ≡ u .applied = init-snoc (u .applied) c in
       let ran : replay E (some (E .opened)) (u .applied) ≡ some (d .rest) =
       subst (λ (cs : List Bytes). replay E (some (E .opened)) cs ≡ some (d .rest)) same-commands (d .ran) in
@@ -314,7 +313,7 @@ module _ (E : Engine) (n : ℕ) (L : Laws E n) where
       inv-reverted v [] (d .rest) hv p (d .ran) .written
       ∙ ap (λ (cs : List Bytes). concat cs ++ replicate (n - length (concat cs)) 0) same-commands
       ∙ sym (h .written) in
-      reverts r v d (omega (arith, p, hv .counted)) ∙ λ x. record { reply = reverted; state = same-state x; journal = same-journal x }
+      reverts r v hv d (omega (arith, p, hv .counted)) ∙ λ x. record { reply = reverted; state = same-state x; journal = same-journal x }
 
   -- demand 3, first half
   pub only-applied : (is : List Bytes) → OnlyApplied E n is

@@ -11,10 +11,13 @@ use lib.Seq.{length-take-le, drop-drop, paste}
 use Rattle.hazards.specs.Refusals.{invalidState}
 use Rattle.engine.specs.Commands as commands
 use Rattle.engine.specs.Refusals.{cutShort, noCommand, nothingApplied, replayFails}
-use Rattle.engine.specs.Journal.{Bytes, Engine, Asked, reject, undoLast, apply, code, cut, classify, Performed, rejected, performed}
-use Rattle.engine.specs.Journal.{commandAt, widthAfter, fails, ends, replayFrom, replayAll, undo, unchanged, cleared, reverted}
-use Rattle.engine.specs.Journal.{answered, execute, act, write}
+use Rattle.engine.specs.Engine.{Bytes, Engine, Asked, reject, undoLast, carryOut, code, cut, classify, Performed, rejected, performed}
+use Rattle.engine.specs.Engine.{unchanged, reverted, completed}
+use Rattle.engine.specs.Replay.{undo, cleared}
+use Rattle.engine.specs.Execute.{execute, act, write}
+use Rattle.engine.specs.ReplayInternals.{commandAt, widthAfter, fails, ends, replayFrom, replayAll}
 use Rattle.engine.proofs.Replays.{Asks, asks, replay-end}
+use Rattle.engine.proofs.Splits.{undo-scans}
 
 module _ (E : Engine) (s : E .State) (i : Bytes) where
   pub asks-invalid : E .valid s ≡ false → classify E s i ≡ reject invalidState
@@ -47,7 +50,7 @@ module _ (E : Engine) (s : E .State) (i : Bytes) where
           )
 
       pub asks-command : 0 < E .width (code i) → E .width (code i) ≤ length i → (code i ≡ commands.undo → ⊥)
-          → classify E s i ≡ apply (cut E i)
+          → classify E s i ≡ carryOut (cut E i)
       unfolding classify
       asks-command w l e =
           simp (
@@ -70,7 +73,7 @@ one-fits E s i p = by-ask (classify E s i) refl
     never : none ≡ some p → ⊥
     never e = let z : _≡_ {A = ℕ} 0 1 = cc in omega arith
 
-    by-did : (c : Bytes) (d : Performed (E .State) (E .Answer)) → classify E s i ≡ apply c → widthAfter E c d ≡ some p
+    by-did : (c : Bytes) (d : Performed (E .State) (E .Answer)) → classify E s i ≡ carryOut c → widthAfter E c d ≡ some p
         → (0 < p .1) × (p .1 ≤ length i)
     by-did c (rejected n) q e = absurd (never e)
     by-did c (performed t a) q e =
@@ -83,7 +86,7 @@ one-fits E s i p = by-ask (classify E s i) refl
     by-ask : (k : Asked) → classify E s i ≡ k → commandAt E s k ≡ some p → (0 < p .1) × (p .1 ≤ length i)
     by-ask (reject n) q e = absurd (never e)
     by-ask undoLast q e = absurd (never e)
-    by-ask (apply c) q e = by-did c (E .perform s c) q e
+    by-ask (carryOut c) q e = by-did c (E .perform s c) q e
 
 module _ (E : Engine) where
   -- the replay by what its first command gives
@@ -149,19 +152,16 @@ module _ (E : Engine) (s : E .State) (j : Bytes) where
 
   module _ (h : 0 < E .appliedLength s) where
     pub undo-fails : replayAll E (take (E .appliedLength s) j) ≡ fails → undo E s j ≡ unchanged E s j replayFails
-    unfolding undo
-    undo-fails e = simp (lt-ltb 0 (E .appliedLength s) h, e)
+    undo-fails e = undo-scans E s j ∙ simp (lt-ltb 0 (E .appliedLength s) h, e)
 
     pub undo-other : (t before : E .State) (last : ℕ) → replayAll E (take (E .appliedLength s) j) ≡ ends t before last → E .same t s ≡ false
         → undo E s j ≡ unchanged E s j replayFails
-    unfolding undo
-    undo-other t before last e d = simp (lt-ltb 0 (E .appliedLength s) h, e, d)
+    undo-other t before last e d = undo-scans E s j ∙ simp (lt-ltb 0 (E .appliedLength s) h, e, d)
 
     pub undo-reverts : (t before : E .State) (last : ℕ) → replayAll E (take (E .appliedLength s) j) ≡ ends t before last
         → E .same t s ≡ true
         → undo E s j ≡ record { reply = reverted; state = before; journal = cleared E j last (E .appliedLength s) }
-    unfolding undo
-    undo-reverts t before last e d = simp (lt-ltb 0 (E .appliedLength s) h, e, d)
+    undo-reverts t before last e d = undo-scans E s j ∙ simp (lt-ltb 0 (E .appliedLength s) h, e, d)
 
 -- execution
 module _ (E : Engine) (s : E .State) (j i : Bytes) where
@@ -173,11 +173,11 @@ module _ (E : Engine) (s : E .State) (j i : Bytes) where
   unfolding execute
   execute-undo e = ap (act E s j) e
 
-  pub execute-refused : (c : Bytes) (n : ℕ) → classify E s i ≡ apply c → E .perform s c ≡ rejected n → execute E s j i ≡ unchanged E s j n
+  pub execute-refused : (c : Bytes) (n : ℕ) → classify E s i ≡ carryOut c → E .perform s c ≡ rejected n → execute E s j i ≡ unchanged E s j n
   unfolding execute
   execute-refused c n e d = ap (act E s j) e ∙ ap (write E s j c) d
 
-  pub execute-performs : (c : Bytes) (t : E .State) (a : E .Answer) → classify E s i ≡ apply c → E .perform s c ≡ performed t a
-      → execute E s j i ≡ record { reply = answered a; state = t; journal = paste j (E .appliedLength s) c (length c) }
+  pub execute-performs : (c : Bytes) (t : E .State) (a : E .Answer) → classify E s i ≡ carryOut c → E .perform s c ≡ performed t a
+      → execute E s j i ≡ record { reply = completed a; state = t; journal = paste j (E .appliedLength s) c (length c) }
   unfolding execute
   execute-performs c t a e d = ap (act E s j) e ∙ ap (write E s j c) d

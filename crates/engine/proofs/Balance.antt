@@ -11,22 +11,24 @@ use lib.ListN.{length}
 use borrow.Author.Tests.{eqb-true, eqb-false}
 use Rattle.engine.specs.Commands as commands
 use Rattle.engine.specs.Queue.{keepIf, without}
-use Rattle.engine.specs.Journal.{Bytes, performed, Engine, code, Reply, execute}
+use Rattle.engine.specs.Engine.{Bytes, performed, Engine, code, Reply}
+use Rattle.engine.specs.Replay.{replay}
+use Rattle.engine.specs.Execute.{execute}
 use Rattle.engine.specs.Sessions.{Session, feed, feedAll, newSession}
-use Rattle.engine.specs.Ledger.{Ledger, emptyLedger, nextPending, recordWithdrawal, recordRequest, recordDelivery, Requests}
+use Rattle.engine.specs.Ledger.{Ledger, emptyLedger, nextPending, recordWithdrawal, recordRequest, recordDelivery, LedgerFields}
 use Rattle.engine.specs.Ledger.{recordCommand, recordReply, ledgerOf}
 use Rattle.engine.specs.declared.state.Request.{Request}
 use Rattle.engine.proofs.DemandHalves.{Balanced}
 use Rattle.engine.proofs.Supplied.{Laws, Sound, Queueing, Delivers, Queues, QueueLaws}
-use Rattle.engine.proofs.CommandLists.{Whole, replay, AllWhole}
+use Rattle.engine.proofs.CommandLists.{Whole, AllWhole}
 use Rattle.engine.proofs.RequestLists.{isFor, notAt, notFor, none-left}
 use Rattle.engine.proofs.LedgerLinks.{Linked, row-one, linked-empty, linked-withdrawal, linked-request, same-pick, linked-delivery}
 use Rattle.engine.proofs.LedgerLinks.{linked-at}
 use Rattle.engine.proofs.Replays.{First, first}
 use Rattle.engine.proofs.Applied.{feed-one, Inv, inv-open, inv-all}
 
-module _ (E : Engine) (R : Requests E) (K : Queueing E) (n : ℕ) (L : Laws E n) (Good : E .State → Type 0) (S : Sound E Good)
-    (Q : QueueLaws E R K Good) where
+module _ (E : Engine) (R : LedgerFields E) (K : Queueing E) (n : ℕ) (L : Laws E n) (SoundState : E .State → Type 0) (S : Sound E SoundState)
+    (Q : QueueLaws E R K SoundState) where
   abbrev Holds : E .State → Ledger → Type 0
   Holds s b = Linked (K .queue s) (K .counter s) b
 
@@ -65,7 +67,7 @@ module _ (E : Engine) (R : Requests E) (K : Queueing E) (n : ℕ) (L : Laws E n)
           (linked-withdrawal (K .queue s) (K .counter s) b k h (q .was ew))
       go false ew false ee eq em = linked-at (K .queue s) (K .queue t) (K .counter s) (K .counter t) b eq (em ∙ omega arith) h
 
-  holds-feed : (s t : E .State) (c : Bytes) (a : E .Answer) (b : Ledger) → Whole E c → Holds s b → Good s → E .perform s c ≡ performed t a
+  holds-feed : (s t : E .State) (c : Bytes) (a : E .Answer) (b : Ledger) → Whole E c → Holds s b → SoundState s → E .perform s c ≡ performed t a
       → Holds t (recordCommand E R b c a)
   unfolding recordCommand without
   holds-feed s t c a b w h v e = go (eqb (code c) commands.deliver) refl
@@ -85,7 +87,7 @@ module _ (E : Engine) (R : Requests E) (K : Queueing E) (n : ℕ) (L : Laws E n)
       go false k = holds-queues s t c a b h (Q .queues s t c a w v (eqb-false (code c) commands.deliver k) e)
 
   ledger-holds : (u : Session E) (cs : List Bytes) (v : E .State) (b : Ledger) → AllWhole E cs → replay E (some (u .state)) cs ≡ some v
-      → Good (u .state) → Holds (u .state) b → Holds v (ledgerOf E R u b cs)
+      → SoundState (u .state) → Holds (u .state) b → Holds v (ledgerOf E R u b cs)
   unfolding ledgerOf replay
   ledger-holds u [] v b w e good h = let q : u .state ≡ v = cc in subst (λ (x : E .State). Holds x b) q h
   ledger-holds u (c ∷ cs) v b w e good h =
@@ -93,9 +95,9 @@ module _ (E : Engine) (R : Requests E) (K : Queueing E) (n : ℕ) (L : Laws E n)
       let g = feed-one E n L u c (f .next) (f .answer) (w .0) (f .asked) (f .did) in
       let k : Holds (f .next) (recordCommand E R b c (f .answer)) =
       holds-feed (u .state) (f .next) c (f .answer) b (w .0) h good (f .did) in
-      let kept : Good (f .next) = S .keeps (u .state) (f .next) c (f .answer) (w .0) good (f .did) in
+      let kept : SoundState (f .next) = S .keeps (u .state) (f .next) c (f .answer) (w .0) good (f .did) in
       ledger-holds (feed E u c) cs v (recordReply E R b c (execute E (u .state) (u .journal) c .reply)) (w .1)
-      (ap (λ (x : E .State). replay E (some x) cs) (g .0) ∙ f .rest) (subst Good (sym (g .0)) kept)
+      (ap (λ (x : E .State). replay E (some x) cs) (g .0) ∙ f .rest) (subst SoundState (sym (g .0)) kept)
       (subst (λ (r : Reply (E .Answer)). Holds (feed E u c .state) (recordReply E R b c r)) (sym (g .2))
       (subst (λ (x : E .State). Holds x (recordCommand E R b c (f .answer))) (sym (g .0)) k))
 

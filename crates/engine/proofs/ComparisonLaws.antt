@@ -9,19 +9,21 @@ use lib.IntN.{ℤ}
 use lib.Signed.{leZ, ≤ℤ-refl}
 use lib.Ieee.{Float, binary64, isNan, toBits}
 use lib.Ieee.Bits.{is-true}
-use Rattle.hazards.specs.Checks.{ownRate}
+use Rattle.hazards.specs.Checks.{kindNumber, ownRate}
+use Rattle.hazards.specs.Ties.{tieNumber}
 use Rattle.hazards.specs.declared.rates.HazardRate.{HazardRate}
 use Rattle.hazards.specs.declared.rates.Intervals.{Intervals}
+use Rattle.clocks.specs.Clocks.{policyNumber}
 use Rattle.clocks.specs.declared.channels.HazardChannelState.{HazardChannelState}
 use Rattle.clocks.specs.declared.clocks.SurvivalClock.{SurvivalClock}
-use Rattle.clocks.proofs.Cases.{either-way}
-use Rattle.engine.specs.Comparison.{sameFlag, sameInteger, sameFloat, everyBelow, kindNumber, policyNumber, tieNumber, sameFloats}
+use Rattle.hazards.proofs.Cases.{by-test}
+use Rattle.engine.specs.Comparison.{sameFlag, sameInteger, sameFloat, everyBelow, sameFloats}
 use Rattle.engine.specs.Comparison.{sameHazard}
 use Rattle.engine.specs.Comparison.{sameIntervals, sameChannel, sameSettings, sameChannels, sameSchedule}
-use Rattle.engine.specs.Comparison.{sameClock, sameSlot, sameRequest, sameProgress, sameState}
+use Rattle.engine.specs.Comparison.{sameClock, sameSlot, sameRequest, sameShared, sameState}
 use Rattle.engine.specs.declared.state.ClockSlot.{ClockSlot}
 use Rattle.engine.specs.declared.state.Request.{Request}
-use Rattle.engine.specs.declared.state.Progress.{Progress}
+use Rattle.engine.specs.declared.state.SharedState.{SharedState}
 use Rattle.engine.specs.declared.state.EngineState.{EngineState}
 
 both : {a b : Bool} → a ≡ true → b ≡ true → (a && b) ≡ true
@@ -39,7 +41,7 @@ integer-same x = rw (is-true (leZ x x) (≤ℤ-refl x .le))
 
 float-same : (x : Float) → sameFloat x x ≡ true
 unfolding sameFloat
-float-same x = either-way (isNan x) (λ e. rw e) (λ e. rw (e, number-same (toBits binary64 x)))
+float-same x = by-test (isNan x) (λ e. rw e) (λ e. rw (e, number-same (toBits binary64 x)))
 
 every-same : (n : ℕ) (test : ℕ → Bool) → ((i : ℕ) → test i ≡ true) → everyBelow n test ≡ true
 unfolding everyBelow
@@ -115,9 +117,9 @@ request-same r =
       number-same (r .index),
     )
 
-progress-same : (p : Progress) → sameProgress p p ≡ true
-unfolding sameProgress
-progress-same p =
+shared-same : (p : SharedState) → sameShared p p ≡ true
+unfolding sameShared
+shared-same p =
     both (every-same 16 _ (λ i. request-same _))
     (rw (
       number-same (p .queued),
@@ -128,4 +130,4 @@ progress-same p =
 
 pub state-same : (s : EngineState) → sameState s s ≡ true
 unfolding sameState
-state-same s = both (every-same 16 _ (λ i. slot-same _)) (progress-same (s .progress))
+state-same s = both (every-same 16 _ (λ i. slot-same _)) (shared-same (s .shared))

@@ -3,42 +3,44 @@ use lib.Ieee.{ofBits, toBits, isNan, add, sub, mul, div, lt, le}
 use Rattle.hazards.specs.Floats.{notBelowZero, zeroBits, inRange, isTime, isThreshold, isFiniteWait}
 use Rattle.hazards.specs.Lists.{all, foldl, insertBy, sortBy}
 use Rattle.hazards.specs.Fields.{littleEndian, bytesOf, fieldAt, f64At, i32At}
-use Rattle.hazards.specs.Rates.{pairsFrom, usedPairs, piecewiseHazard, hazardOfKind, hazardAt, piecewiseCumulative, cumulativeOfKind}
-use Rattle.hazards.specs.Rates.{mostPairs, cumulativeHazard, pairsAfter, piecewiseWait, constantWait, waitOfKind, invertCumulativeHazard}
+use Rattle.hazards.specs.Rates.{piecesBy, firstAfter, usedPairs, piecewiseHazard, hazardOfRate, hazardAt, piecewiseCumulative}
+use Rattle.hazards.specs.Rates.{cumulativeOfRate, cumulativeHazard, waitFrom, constantWait, waitOfRate, invertCumulativeHazard}
 use Rattle.hazards.specs.Checks.{ownRate, rangeFault, ascending, intervalsFault, choiceFault, hazardFaults}
 use Rattle.hazards.specs.Draws.{drawAt}
 use Rattle.hazards.specs.Answers.{headBytes, answerBytes}
 use Rattle.hazards.specs.Ties.{candidateAfter, preferred, precedes, earlier, earliest}
 use Rattle.hazards.specs.Sampler.{faultsOfAll, settingsFaults, drawsRefusal, sampleRefusal, candidates, censoredAt, sampledEvent}
 use Rattle.hazards.specs.Sampler.{sampleNext}
-use Rattle.clocks.specs.Channels.{settledHazard, onUsed, placeOf, holdsAt, insertAt, channelCandidate}
+use Rattle.clocks.specs.Channels.{settledHazard, onUsed, placeOfCause, placeForNew, insertAt, channelCandidate}
 use Rattle.clocks.specs.Ticks.{wholeTicks}
 use Rattle.clocks.specs.Clocks.{newClock, clockCandidates, earliestEvent}
 use Rattle.clocks.specs.Setting.{setAgain, setNew, setChannel}
 use Rattle.clocks.specs.Scheduling.{finalEvent, scheduledFor, reschedule, pause, resume, onEventDispatched}
 use Rattle.clocks.specs.Validation.{isFinite, ascendingFrom, validChannel, validClock}
-use Rattle.engine.specs.Commands.{widthOf}
-use Rattle.engine.specs.Queue.{nextRequest, without, isThere}
-use Rattle.engine.specs.State.{openedState}
-use Rattle.engine.specs.Validation.{validSlot, validRequest, distinct, validQueue, validProgress, validState}
+use Rattle.engine.specs.Commands.{widthOf, createFaults, setFaults, rescheduleFaults, pauseFaults}
+use Rattle.engine.specs.Queue.{nextRequest, without, isQueued}
+use Rattle.engine.specs.Opening.{openedState}
+use Rattle.engine.specs.Validation.{validSlot, validRequest, distinct, validQueue, validShared, validState}
 use Rattle.engine.specs.Comparison.{sameFloat, everyBelow, sameHazard, sameIntervals, sameChannel, sameSettings, sameChannels}
-use Rattle.engine.specs.Comparison.{sameSchedule, sameClock, sameSlot, sameRequest, sameProgress, sameState}
-use Rattle.engine.specs.Execution.{createFaults, setFaults, rescheduleFaults, pauseFaults, performCreate, performSet}
-use Rattle.engine.specs.Execution.{performReschedule, performPause, performResume, performDeliver, performOn, target, perform}
-use Rattle.engine.specs.Journal.{classify, replayFrom, replayAll, undo, execute}
+use Rattle.engine.specs.Comparison.{sameSchedule, sameClock, sameSlot, sameRequest, sameShared, sameState}
+use Rattle.engine.specs.Execution.{performCreate, performSet, performReschedule, performPause, performResume, performDeliver}
+use Rattle.engine.specs.Execution.{performOn, target, perform}
+use Rattle.engine.specs.Engine.{classify}
+use Rattle.engine.specs.Replay.{replay, splitFrom, undo}
+use Rattle.engine.specs.Execute.{execute}
 use Rattle.engine.specs.Sessions.{feed, feedAll, newSession}
 use Rattle.engine.specs.Ledger.{recordCommand, ledgerOf}
 
 unfoldable pub computed : Unit {0}
 unfolding ofBits toBits isNan add sub mul div lt le notBelowZero zeroBits inRange isTime isThreshold isFiniteWait all foldl insertBy sortBy
-    littleEndian bytesOf fieldAt f64At i32At pairsFrom usedPairs piecewiseHazard hazardOfKind hazardAt piecewiseCumulative
-    cumulativeOfKind cumulativeHazard pairsAfter piecewiseWait constantWait waitOfKind invertCumulativeHazard ownRate mostPairs
+    littleEndian bytesOf fieldAt f64At i32At piecesBy firstAfter usedPairs piecewiseHazard hazardOfRate hazardAt piecewiseCumulative
+    cumulativeOfRate cumulativeHazard waitFrom constantWait waitOfRate invertCumulativeHazard ownRate
     rangeFault ascending intervalsFault choiceFault hazardFaults drawAt headBytes answerBytes candidateAfter preferred precedes
     earlier earliest faultsOfAll settingsFaults drawsRefusal sampleRefusal candidates censoredAt sampledEvent sampleNext settledHazard
-    onUsed placeOf holdsAt insertAt channelCandidate wholeTicks newClock clockCandidates earliestEvent setAgain setNew setChannel
+    onUsed placeOfCause placeForNew insertAt channelCandidate wholeTicks newClock clockCandidates earliestEvent setAgain setNew setChannel
     finalEvent scheduledFor reschedule pause resume onEventDispatched isFinite ascendingFrom validChannel validClock widthOf
-    nextRequest without isThere openedState validSlot validRequest distinct validQueue validProgress validState sameFloat everyBelow
-    sameHazard sameIntervals sameChannel sameSettings sameChannels sameSchedule sameClock sameSlot sameRequest sameProgress sameState
+    nextRequest without isQueued openedState validSlot validRequest distinct validQueue validShared validState sameFloat everyBelow
+    sameHazard sameIntervals sameChannel sameSettings sameChannels sameSchedule sameClock sameSlot sameRequest sameShared sameState
     createFaults setFaults rescheduleFaults pauseFaults performCreate performSet performReschedule performPause performResume
-    performDeliver performOn target perform classify replayFrom replayAll undo execute feed feedAll newSession recordCommand ledgerOf
+    performDeliver performOn target perform classify replay splitFrom undo execute feed feedAll newSession recordCommand ledgerOf
 computed = tt

@@ -3,9 +3,9 @@ use Prim.Native.Nat.{ℕ, _+_, _≤_}
 use mathlib.Core.Path.{_≡_}
 use mathlib.Core.List.{List}
 use Rattle.engine.specs.Queue.{countFor}
-use Rattle.engine.specs.Journal.{Bytes, Engine}
+use Rattle.engine.specs.Engine.{Bytes, Engine}
 use Rattle.engine.specs.Sessions.{Session, feedAll, newSession, AcceptsEach}
-use Rattle.engine.specs.Ledger.{Ledger, emptyLedger, Requests, ledgerOf}
+use Rattle.engine.specs.Ledger.{Ledger, emptyLedger, LedgerFields, ledgerOf}
 use Rattle.engine.proofs.Supplied.{Queueing}
 
 module _ (E : Engine) (n : ℕ) (is : List Bytes) where
@@ -19,7 +19,7 @@ module _ (E : Engine) (n : ℕ) (is : List Bytes) where
     pub same-journal : used .journal ≡ feedAll E (newSession E n) (used .applied) .journal
     pub accepts-each : AcceptsEach E (newSession E n) (used .applied)
 
-  module _ (R : Requests E) (K : Queueing E) (k : ℕ) where
+  module _ (R : LedgerFields E) (K : Queueing E) (k : ℕ) where
     -- the ledger of the applied commands
     abbrev ledger : Ledger
     ledger = ledgerOf E R (newSession E n) emptyLedger (used .applied)

@@ -6,8 +6,8 @@ use mathlib.Core.List.{List, [], _∷_}
 use Prim.Native.Nat.{ℕ}
 use borrow.Author.Tests.{eq-eqb, ne-eqb, not-true}
 use lib.Dec.{eqb}
-use Rattle.clocks.proofs.Cases.{either-way}
-use Rattle.engine.specs.Queue.{keepIf, isThere}
+use Rattle.hazards.proofs.Cases.{by-test}
+use Rattle.engine.specs.Queue.{keepIf, isQueued}
 use Rattle.engine.specs.Validation.{distinct}
 use Rattle.engine.specs.declared.state.Request.{Request}
 use Rattle.engine.proofs.Conjunctions.{both-true}
@@ -15,36 +15,39 @@ use Rattle.engine.proofs.RequestLists.{In, in-keep}
 
 -- ---- whether a request with an index is there
 
-pub in-there : (y : Request) (q : List Request) → In y q → isThere (y .index) q ≡ true
-unfolding isThere
+pub in-there : (y : Request) (q : List Request) → In y q → isQueued (y .index) q ≡ true
+unfolding isQueued
 in-there y [] i = absurd i
 in-there y (x ∷ xs) (inl e) = rw (eq-eqb (x .index) (y .index) (ap (λ (r : Request). r .index) (sym e)))
 in-there y (x ∷ xs) (inr i) =
-    either-way (eqb (x .index) (y .index)) (λ e. rw e) (λ e. rw e (in-there y xs i))
+    by-test (eqb (x .index) (y .index)) (λ e. rw e) (λ e. rw e (in-there y xs i))
 
-pub not-there : (index : ℕ) (q : List Request) → ((y : Request) → In y q → y .index ≡ index → ⊥) → isThere index q ≡ false
-unfolding isThere
+pub not-there : (index : ℕ) (q : List Request) → ((y : Request) → In y q → y .index ≡ index → ⊥) → isQueued index q ≡ false
+unfolding isQueued
 not-there index [] h = refl
 not-there index (x ∷ xs) h = rw (ne-eqb (x .index) index (h x (inl refl))) (not-there index xs (λ y i. h y (inr i)))
 
 -- ---- what distinct says of the first
 
 record Distinct (x : Request) (xs : List Request) : Type 0 where
-  first : isThere (x .index) xs ≡ false
+  first : isQueued (x .index) xs ≡ false
   rest : distinct xs ≡ true
 
 distinct-first : (x : Request) (xs : List Request) → distinct (x ∷ xs) ≡ true → Distinct x xs
 unfolding distinct
 distinct-first x xs e =
-    let b = both-true (not (isThere (x .index) xs)) (distinct xs) e in
-    record { first = not-true (isThere (x .index) xs) (b .0); rest = b .1 }
+    let b = both-true (not (isQueued (x .index) xs)) (distinct xs) e in
+    record { first = not-true (isQueued (x .index) xs) (b .0); rest = b .1 }
 
-distinct-cons : (x : Request) (xs : List Request) → isThere (x .index) xs ≡ false → distinct xs ≡ true → distinct (x ∷ xs) ≡ true
+distinct-cons : (x : Request) (xs : List Request) → isQueued (x .index) xs ≡ false → distinct xs ≡ true → distinct (x ∷ xs) ≡ true
 unfolding distinct
 distinct-cons x xs e f = rw (e, f)
 
-there-not : (y : Request) (q : List Request) (index : ℕ) → isThere index q ≡ false → In y q → y .index ≡ index → ⊥
+there-not : (y : Request) (q : List Request) (index : ℕ) → isQueued index q ≡ false → In y q → y .index ≡ index → ⊥
 there-not y q index e i h = true≢false (sym (in-there y q i) ∙ (rw h e))
+
+pub distinct-twice : (x y : Request) (zs : List Request) → distinct (x ∷ y ∷ zs) ≡ true → x .index ≡ y .index → ⊥
+distinct-twice x y zs d e = there-not y (y ∷ zs) (x .index) (distinct-first x (y ∷ zs) d .first) (inl refl) (sym e)
 
 -- two with one index are the same request
 pub one-request : (q : List Request) (x y : Request) → distinct q ≡ true → In x q → In y q → x .index ≡ y .index → x ≡ y

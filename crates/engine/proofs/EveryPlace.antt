@@ -8,7 +8,7 @@ use native.Mathlib.Omega.{arith}
 use borrow.Author.Tests.{eqb-true, eqb-false}
 use lib.Dec.{eqb}
 use lib.ListN.{length, getD}
-use Rattle.clocks.proofs.Cases.{either-way}
+use Rattle.hazards.proofs.Cases.{by-test}
 use Rattle.engine.specs.Comparison.{everyBelow}
 use Rattle.engine.proofs.Conjunctions.{and-false}
 
@@ -25,7 +25,7 @@ module _ (test : ℕ → Bool) where
   unfolding everyBelow
   every-fails zero k l e = absurd (omega arith)
   every-fails (suc n) k l e =
-      either-way (eqb k n) (λ q. rw (← eqb-true k n q, e, and-false (everyBelow k test)))
+      by-test (eqb k n) (λ q. rw (← eqb-true k n q, e, and-false (everyBelow k test)))
       (λ q. let m : k < n = omega (arith, eqb-false k n q) in rw (every-fails n k m e))
 
 -- a place within a list is read with any default

@@ -1,4 +1,4 @@
--- Answer, state and journal after an input, by what the code does with it; and what a valid state says of its progress.
+-- Answer, state and journal after an input, by what the code does with it; and what a valid state says of its shared state.
 use mathlib.Core.Path.{_≡_, refl, sym, ap, _∙_}
 use mathlib.Core.Bool.{Bool, true, false, true≢false}
 use mathlib.Core.List.{List, _++_}
@@ -13,22 +13,23 @@ use Rattle.hazards.specs.Lists.{all}
 use Rattle.hazards.specs.Draws.{streamLength}
 use Rattle.hazards.specs.declared.answers.Answer.{Answer}
 use Rattle.engine.specs.State.{slotAt, withSlot}
-use Rattle.engine.specs.Validation.{validSlot, validQueue, validProgress, validState}
+use Rattle.engine.specs.Validation.{validSlot, validQueue, validShared, validState}
 use Rattle.engine.specs.Execution.{OnSlot, performOn, target}
-use Rattle.engine.specs.ExecutionCode.{onSlotOf}
-use Rattle.engine.specs.Journal.{Bytes, Engine, Outcome, Replayed, fails, ends, replayAll, unchanged, cleared, undo}
-use Rattle.engine.specs.Journal.{act, apply, write, code, cut, classify, execute}
+use Rattle.engine.specs.ExecutionInternals.{onSlotOf}
+use Rattle.engine.specs.Engine.{Bytes, Engine, Outcome, unchanged, carryOut, code, cut, classify}
+use Rattle.engine.specs.Replay.{cleared, undo}
+use Rattle.engine.specs.Execute.{act, write, execute}
 use Rattle.engine.specs.Instance.{engineOf}
 use Rattle.engine.specs.Comparison.{sameState}
-use Rattle.engine.specs.Parts.{copiedInto, clearedFront}
-use Rattle.engine.specs.ReplayCode.{beforeLast, replayedOf}
-use Rattle.engine.specs.ExecuteCode.{Applied, appliedOn, journalAfter, applyOn}
-use Rattle.engine.specs.Answers.{after, left}
+use Rattle.engine.specs.Journal.{copiedInto, clearedFront}
+use Rattle.engine.specs.ReplayInternals.{beforeLast, replayEndOf, ReplayEnd, fails, ends, replayAll}
+use Rattle.engine.specs.ExecuteInternals.{Recorded, recorded, journalAfter, performAndRecord}
+use Rattle.engine.specs.Answers.{after, returned}
 use Rattle.engine.specs.declared.execute.Executed.{Executed}
 use Rattle.engine.specs.declared.execution.SlotOutcome.{SlotOutcome}
 use Rattle.engine.specs.declared.replay.Replay.{Replay}
 use Rattle.engine.specs.declared.state.ClockSlot.{ClockSlot}
-use Rattle.engine.specs.declared.state.Progress.{Progress}
+use Rattle.engine.specs.declared.state.SharedState.{SharedState}
 use Rattle.engine.specs.declared.state.EngineState.{EngineState}
 use Rattle.engine.proofs.Asking.{undo-reverts}
 use Rattle.engine.proofs.Conjunctions.{both-true}
@@ -38,17 +39,17 @@ use Rattle.engine.proofs.SlotLaws.{outcome-done, outcome-refused, done-
 
 -- ---- a valid state
 
-pub record Within (n : ℕ) (p : Progress) : Type 0 where
+pub record Within (n : ℕ) (p : SharedState) : Type 0 where
   pub queued : p .queued ≤ 16
   pub applied : p .«applied_length» ≤ n
   pub requests : p .«request_count» ≤ p .«applied_length»
 
-pub valid-within : (stream : List ℕ) (n : ℕ) (s : EngineState) → validState stream n s ≡ true → Within n (s .progress)
-unfolding validState validQueue validProgress
+pub valid-within : (stream : List ℕ) (n : ℕ) (s : EngineState) → validState stream n s ≡ true → Within n (s .shared)
+unfolding validState validQueue validShared
 valid-within stream n s v =
-    let p = s .progress in
+    let p = s .shared in
     let q = both-true (all validSlot (s .slots)) _ v in
-    let r = both-true (validQueue s) (validProgress stream n p) (q .1) in
+    let r = both-true (validQueue s) (validShared stream n p) (q .1) in
     let t = both-true (leb (p .position) (streamLength stream)) _ (r .1) in
     let u = both-true (leb (p .«applied_length») n) _ (t .1) in
     record {
@@ -65,20 +66,20 @@ onlyNumber number s = record { answer = noEvent number; state = s }
 
 -- a refusal changes nothing
 pub left-refused : (stream : List ℕ) (n : ℕ) (r : Executed) (s : EngineState) (j : Bytes) {number : ℕ} {o : Outcome (engineOf stream n)}
-    → (r .answer ≡ noEvent number) × (r .state ≡ s) → o ≡ unchanged (engineOf stream n) s j number → left r j ≡ after stream n o
+    → (r .answer ≡ noEvent number) × (r .state ≡ s) → o ≡ unchanged (engineOf stream n) s j number → returned r j ≡ after stream n o
 left-refused stream n r s j e q = rw q (λ i. record { answer = e .0 i; state = e .1 i; journal = j })
 
 -- the parts of a replay
-abbrev doesEnd : (stream : List ℕ) (n : ℕ) → Replayed (engineOf stream n) → Bool
+abbrev doesEnd : (stream : List ℕ) (n : ℕ) → ReplayEnd (engineOf stream n) → Bool
 doesEnd stream n fails = false
 doesEnd stream n (ends t before last) = true
 
-abbrev endState : (stream : List ℕ) (n : ℕ) → EngineState → Replayed (engineOf stream n) → EngineState
+abbrev endState : (stream : List ℕ) (n : ℕ) → EngineState → ReplayEnd (engineOf stream n) → EngineState
 endState stream n d fails = d
 endState stream n d (ends t before last) = t
 
 -- a replay by its flag
-module _ (stream : List ℕ) (n : ℕ) (r : Replay) {x : Replayed (engineOf stream n)} (e : replayedOf stream n r ≡ x) where
+module _ (stream : List ℕ) (n : ℕ) (r : Replay) {x : ReplayEnd (engineOf stream n)} (e : replayEndOf stream n r ≡ x) where
   pub replay-failed : r .ok ≡ false → x ≡ fails
   replay-failed q = sym e ∙ rw q
 
@@ -103,10 +104,10 @@ module _ (stream : List ℕ) (j z : Bytes) (last k : ℕ) where
 
 -- an accepted UNDO
 pub reverted-left : (stream : List ℕ) (s : EngineState) (j : Bytes) (r : Replay)
-    → replayAll (engineOf stream (length j)) (take (s .progress .«applied_length») j) ≡ ends (r .state) (beforeLast r) (r .last)
+    → replayAll (engineOf stream (length j)) (take (s .shared .«applied_length») j) ≡ ends (r .state) (beforeLast r) (r .last)
     → sameState (r .state) s ≡ true → (a : Answer) → a ≡ noEvent 0 → (t : EngineState) → t ≡ beforeLast r
-    → (x : Bytes) → x ≡ cleared (engineOf stream (length j)) j (r .last) (s .progress .«applied_length») → 0 < s .progress .«applied_length»
-    → left (record { answer = a; state = t }) x ≡ after stream (length j) (undo (engineOf stream (length j)) s j)
+    → (x : Bytes) → x ≡ cleared (engineOf stream (length j)) j (r .last) (s .shared .«applied_length») → 0 < s .shared .«applied_length»
+    → returned (record { answer = a; state = t }) x ≡ after stream (length j) (undo (engineOf stream (length j)) s j)
 reverted-left stream s j r e d a ea t et x ex pos =
     rw (undo-reverts (engineOf stream (length j)) s j pos (r .state) (beforeLast r) (r .last) e d)
     (λ i. record { answer = ea i; state = et i; journal = ex i })
@@ -120,15 +121,15 @@ copied-journal j y c k room q =
     let l : length c ≤ length (restOf j k) = simp (length-take, length-drop) (omega arith) in
     pasted-part j y c k (omega arith) (q ∙ copied-whole (restOf j k) c l)
 
-module _ (stream : List ℕ) (slot : ClockSlot) (p : Progress) (j c : Bytes) (o : SlotOutcome)
+module _ (stream : List ℕ) (slot : ClockSlot) (p : SharedState) (j c : Bytes) (o : SlotOutcome)
     (did : onSlotOf o ≡ performOn stream (length j) slot p c) where
   leaves : {d : OnSlot} → performOn stream (length j) slot p c ≡ d → (k : Bytes) → k ≡ journalAfter p j c d
-      → appliedOn o k ≡ applyOn stream slot p j c
+      → recorded o k ≡ performAndRecord stream slot p j c
   leaves e k q =
       let r : k ≡ journalAfter p j c (performOn stream (length j) slot p c) = q ∙ ap (journalAfter p j c) (sym e) in
       λ i. record { outcome = did i; journal = r i }
 
-  pub applied-refused : (o .number ≡ 0 → ⊥) → appliedOn o j ≡ applyOn stream slot p j c
+  pub applied-refused : (o .number ≡ 0 → ⊥) → recorded o j ≡ performAndRecord stream slot p j c
   applied-refused z = leaves (outcome-refused o did z) j refl
 
   abbrev applied-end : ℕ
@@ -136,38 +137,38 @@ module _ (stream : List ℕ) (slot : ClockSlot) (p : Progress) (j c : Bytes) (o 
 
   -- copied into the part of the journal from the applied commands' end on
   pub applied-copied : o .number ≡ 0 → (y : Bytes) → y ≡ copiedInto (restOf j applied-end) c
-      → appliedOn o (take applied-end j ++ (y ++ drop (length j - applied-end) (drop applied-end j))) ≡ applyOn stream slot p j c
+      → recorded o (take applied-end j ++ (y ++ drop (length j - applied-end) (drop applied-end j))) ≡ performAndRecord stream slot p j c
   applied-copied z y q =
       let d = outcome-done o did z in
-      leaves d _ (copied-journal j y c applied-end (done-fits stream (length j) slot p c (o .slot) (o .progress) (o .answer) d) q)
+      leaves d _ (copied-journal j y c applied-end (done-fits stream (length j) slot p c (o .slot) (o .shared) (o .answer) d) q)
 
 -- ---- a command on a valid state
 
-module _ (stream : List ℕ) (s : EngineState) (j c : Bytes) (o : SlotOutcome) (t : ℕ) (named : t ≡ target (s .progress) c)
-    (old : ClockSlot) (there : old ≡ slotAt s t) (k : Bytes) (e : appliedOn o k ≡ applyOn stream old (s .progress) j c) where
+module _ (stream : List ℕ) (s : EngineState) (j c : Bytes) (o : SlotOutcome) (t : ℕ) (named : t ≡ target (s .shared) c)
+    (old : ClockSlot) (there : old ≡ slotAt s t) (k : Bytes) (e : recorded o k ≡ performAndRecord stream old (s .shared) j c) where
   abbrev E : Engine
   E = engineOf stream (length j)
 
-  did : onSlotOf o ≡ performOn stream (length j) old (s .progress) c
-  did = ap (λ (x : Applied). x .outcome) e
+  did : onSlotOf o ≡ performOn stream (length j) old (s .shared) c
+  did = ap (λ (x : Recorded). x .outcome) e
 
-  journal-is : {d : OnSlot} → performOn stream (length j) old (s .progress) c ≡ d → k ≡ journalAfter (s .progress) j c d
-  journal-is q = ap (λ (x : Applied). x .journal) e ∙ ap (journalAfter (s .progress) j c) q
+  journal-is : {d : OnSlot} → performOn stream (length j) old (s .shared) c ≡ d → k ≡ journalAfter (s .shared) j c d
+  journal-is q = ap (λ (x : Recorded). x .journal) e ∙ ap (journalAfter (s .shared) j c) q
 
   pub refused-left : (o .number ≡ 0 → ⊥) → (r : Executed) → (r .answer ≡ noEvent (o .number)) × (r .state ≡ s)
-      → left r k ≡ after stream (length j) (act E s j (apply c))
+      → returned r k ≡ after stream (length j) (act E s j (carryOut c))
   refused-left z r q =
-      ap (left r) (journal-is (outcome-refused o did z))
+      ap (returned r) (journal-is (outcome-refused o did z))
       ∙ left-refused stream (length j) r s j q (ap (write E s j c) (rejects stream (length j) s c o t named old there did z))
 
-  pub applied-left : o .number ≡ 0 → (u : EngineState) → u ≡ withSlot s t (o .slot) (o .progress)
-      → left (record { answer = o .answer; state = u }) k ≡ after stream (length j) (act E s j (apply c))
+  pub applied-left : o .number ≡ 0 → (u : EngineState) → u ≡ withSlot s t (o .slot) (o .shared)
+      → returned (record { answer = o .answer; state = u }) k ≡ after stream (length j) (act E s j (carryOut c))
   applied-left z u eu =
-      let ek : k ≡ paste j (s .progress .«applied_length») c (length c) = journal-is (outcome-done o did z) in
+      let ek : k ≡ paste j (s .shared .«applied_length») c (length c) = journal-is (outcome-done o did z) in
       rw (performs stream (length j) s c o t named old there did z) (λ i. record { answer = o .answer; state = eu i; journal = ek i })
 
 -- a command of which its own bytes are asked for
-pub executes : (E : Engine) (s : E .State) (j i : Bytes) (w : ℕ) → w ≡ E .width (code i) → classify E s i ≡ apply (cut E i)
-    → execute E s j i ≡ act E s j (apply (take w i))
+pub executes : (E : Engine) (s : E .State) (j i : Bytes) (w : ℕ) → w ≡ E .width (code i) → classify E s i ≡ carryOut (cut E i)
+    → execute E s j i ≡ act E s j (carryOut (take w i))
 unfolding execute
-executes E s j i w e u = ap (act E s j) (u ∙ ap (λ (k : ℕ). apply (take k i)) (sym e))
+executes E s j i w e u = ap (act E s j) (u ∙ ap (λ (k : ℕ). carryOut (take k i)) (sym e))

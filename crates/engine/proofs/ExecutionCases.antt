@@ -1,4 +1,4 @@
--- What each command but UNDO does in each of its cases, over any slot, progress, journal length and command.
+-- What each command but UNDO does in each of its cases, over any slot, shared state, journal length and command.
 use mathlib.Core.Path.{_≡_, refl, sym, _∙_, ap, ap₂, subst}
 use mathlib.Core.Bool.{Bool, true, false, cond, _&&_}
 use mathlib.Core.List.{List}
@@ -11,7 +11,7 @@ use lib.ListN.{length, length-take}
 use borrow.Author.Tests.{leb-true, leb-false, le-leb, lt-leb, eqb-false, eq-eqb, ne-eqb}
 use Rattle.hazards.specs.Answers.{noEvent}
 use Rattle.hazards.specs.Fields.{fieldAt}
-use Rattle.hazards.specs.Refusals.{tooManyCauses, numberOf}
+use Rattle.hazards.specs.Refusals.{tooManyCauses, noFaults, numberOf}
 use Rattle.hazards.specs.declared.answers.Answer.{Answer}
 use Rattle.hazards.specs.declared.refusals.Faults.{Faults}
 use Rattle.clocks.specs.Clocks.{removeChannel}
@@ -26,20 +26,20 @@ use Rattle.clocks.specs.declared.scheduling.Rescheduled.{Rescheduled}
 use Rattle.clocks.specs.declared.setting.ChannelSet.{ChannelSet}
 use Rattle.engine.specs.Commands as commands
 use Rattle.engine.specs.Refusals.{clockPresent, clockAbsent, queueEmpty, journalFull}
-use Rattle.engine.specs.Queue.{nextRequest, without, isThere}
-use Rattle.engine.specs.QueueCode.{pickOf}
-use Rattle.engine.specs.State.{queuedRequests, withQueue, withRequest, withPosition, applied}
-use Rattle.engine.specs.Execution.{OnSlot, refused, done, byteAt, clockOf, createFaults, rescheduleFaults}
-use Rattle.engine.specs.Execution.{createdClock, settingOf}
-use Rattle.engine.specs.Execution.{nowOf, censorOf, unlessFull, unlessFaulty, onClock, holding, plain, isWithdrawn, withdraw}
-use Rattle.engine.specs.Execution.{requestOf, eventAnswer, withdrawnAnswer, clockOfRequest, target}
-use Rattle.engine.specs.Execution.{afterSet, afterReschedule, afterPause, delivered, performCreate, performSet, performRemove}
+use Rattle.engine.specs.Queue.{nextRequest, without, isQueued}
+use Rattle.engine.specs.QueueInternals.{pickOf}
+use Rattle.engine.specs.State.{queuedRequests, withQueue, withRequest, withPosition, withAppliedBytes}
+use Rattle.engine.specs.Execution.{OnSlot, refused, done, unlessFull, unlessFaulty, onClock, holding, acknowledged, isWithdrawn}
+use Rattle.engine.specs.Execution.{withdraw, requestOf, eventAnswer, withdrawnAnswer, clockOfRequest, target, afterSet}
+use Rattle.engine.specs.Execution.{afterReschedule, afterPause, delivered, performCreate, performSet, performRemove}
 use Rattle.engine.specs.Execution.{performReschedule, performResume, performPause, performDeliver, performOn}
-use Rattle.engine.specs.ExecutionCode.{onSlotOf, Countable}
+use Rattle.engine.specs.Commands.{byteAt, clockOf, createFaults, setFaults, causeFaults, rescheduleFaults, pauseFaults, faultsOf}
+use Rattle.engine.specs.Commands.{createdClock, settingOf, nowOf, censorOf}
+use Rattle.engine.specs.ExecutionInternals.{onSlotOf, Countable}
 use Rattle.engine.specs.declared.execution.SlotOutcome.{SlotOutcome}
 use Rattle.engine.specs.declared.queue.Pick.{Pick}
 use Rattle.engine.specs.declared.state.ClockSlot.{ClockSlot}
-use Rattle.engine.specs.declared.state.Progress.{Progress}
+use Rattle.engine.specs.declared.state.SharedState.{SharedState}
 use Rattle.engine.specs.declared.state.Request.{Request}
 use Rattle.engine.proofs.QueueLaws.{without-length}
 
@@ -71,13 +71,13 @@ module _ (f : Faults) {number : ℕ} (e : number ≡ numberOf f) (d : OnSlot) wh
       subst (λ (m : ℕ). d ≡ cond (eqb m 0) d (refused m)) e (ap (λ (t : Bool). cond t d (refused number)) (sym (eq-eqb number 0 h)))
 
 -- what is done to a clock that is there
-module _ (n : ℕ) (p : Progress) (c : List ℕ) where
+module _ (n : ℕ) (p : SharedState) (c : List ℕ) where
   abbrev pub setOn : List ℕ → SurvivalClock → OnSlot
   setOn stream k = afterSet n p c (setChannel k (settingOf c) stream (p .position))
 
   abbrev pub removeOn : SurvivalClock → OnSlot
   removeOn k =
-      unlessFull n p c (done (holding (removeChannel k (fieldAt 4 c commands.causeField))) (applied (length c) p) plain)
+      unlessFull n p c (done (holding (removeChannel k (fieldAt 4 c commands.causeField))) (withAppliedBytes (length c) p) acknowledged)
 
   abbrev pub pauseOn : SurvivalClock → OnSlot
   pauseOn k = afterPause n p c (scheduling.pause k (nowOf c))
@@ -126,7 +126,7 @@ module _ (f : Faults) (slot : ClockSlot) (d : SurvivalClock → OnSlot) {number 
   there h = by-clock (d (slot .clock)) number (numberOf f) (eqb (numberOf f) 0) (slot .present) refl e h
 
 -- ---- RESCHEDULE and RESUME, by the method that they call
-module _ (n : ℕ) (slot : ClockSlot) (p : Progress) (c : List ℕ) (method : SurvivalClock → Float → Censor → ℕ → Rescheduled) where
+module _ (n : ℕ) (slot : ClockSlot) (p : SharedState) (c : List ℕ) (method : SurvivalClock → Float → Censor → ℕ → Rescheduled) where
   abbrev methodOn : SurvivalClock → OnSlot
   methodOn k = afterReschedule n p c (method k (nowOf c) (censorOf c) (p .«request_count»))
 
@@ -141,7 +141,7 @@ module _ (n : ℕ) (slot : ClockSlot) (p : Progress) (c : List ℕ) (method : Su
         ∙ there (rescheduleFaults c) slot methodOn (e ∙ ap (refusalOf (slot .present)) f) z
 
 -- ---- 14
-module _ (n : ℕ) (p : Progress) (c : List ℕ) (d : OnSlot) where
+module _ (n : ℕ) (p : SharedState) (c : List ℕ) (d : OnSlot) where
   pub full : leb (p .«applied_length» + length c) n ≡ false → refused journalFull ≡ unlessFull n p c d
   full h = ap (λ (t : Bool). cond t d (refused journalFull)) (sym h)
 
@@ -149,9 +149,9 @@ module _ (n : ℕ) (p : Progress) (c : List ℕ) (d : OnSlot) where
   room h = ap (λ (t : Bool). cond t d (refused journalFull)) (sym h)
 
 -- ---- CREATE
-module _ (n : ℕ) (slot : ClockSlot) (p : Progress) (c : List ℕ) {number : ℕ} (e : number ≡ numberOf (createFaults c)) where
+module _ (n : ℕ) (slot : ClockSlot) (p : SharedState) (c : List ℕ) {number : ℕ} (e : number ≡ numberOf (createFaults c)) where
   abbrev creation : OnSlot
-  creation = done (holding (createdClock c)) (applied (length c) p) plain
+  creation = done (holding (createdClock c)) (withAppliedBytes (length c) p) acknowledged
 
   abbrev onFree : Bool → OnSlot
   onFree t = cond t (refused clockPresent) (unlessFull n p c creation)
@@ -170,17 +170,17 @@ module _ (n : ℕ) (slot : ClockSlot) (p : Progress) (c : List ℕ) {number : �
   create-full h t l = full n p c creation l ∙ ap onFree (sym t) ∙ no-faults (createFaults c) e (onFree (slot .present)) h
 
   pub create-done : number ≡ 0 → slot .present ≡ false → leb (p .«applied_length» + length c) n ≡ true
-      → {k : SurvivalClock} {a : Answer} → k ≡ createdClock c → a ≡ plain
-      → done (holding k) (applied (length c) p) a ≡ performCreate n slot p c
+      → {k : SurvivalClock} {a : Answer} → k ≡ createdClock c → a ≡ acknowledged
+      → done (holding k) (withAppliedBytes (length c) p) a ≡ performCreate n slot p c
   unfolding performCreate
   create-done h t l q r =
-      ap₂ (λ (k : SurvivalClock) (a : Answer). done (holding k) (applied (length c) p) a) q r
+      ap₂ (λ (k : SurvivalClock) (a : Answer). done (holding k) (withAppliedBytes (length c) p) a) q r
       ∙ room n p c creation l ∙ ap onFree (sym t) ∙ no-faults (createFaults c) e (onFree (slot .present)) h
 
 -- ---- SET, once the channel is set or refused
-module _ (n : ℕ) (p : Progress) (c : List ℕ) (r : ChannelSet) where
+module _ (n : ℕ) (p : SharedState) (c : List ℕ) (r : ChannelSet) where
   abbrev onDrawn : Bool → OnSlot
-  onDrawn t = cond t (done (holding (r .clock)) (applied (length c) (withPosition p (r .position))) plain) (refused (r .number))
+  onDrawn t = cond t (done (holding (r .clock)) (withAppliedBytes (length c) (withPosition p (r .position))) acknowledged) (refused (r .number))
 
   abbrev onEighth : Bool → OnSlot
   onEighth t = cond t (refused tooManyCauses) (unlessFull n p c (onDrawn (eqb (r .number) 0)))
@@ -198,36 +198,36 @@ module _ (n : ℕ) (p : Progress) (c : List ℕ) (r : ChannelSet) where
     pub set-refused : leb (p .«applied_length» + length c) n ≡ true → (r .number ≡ 0 → ⊥) → refused (r .number) ≡ afterSet n p c r
     set-refused l z = ap onDrawn (sym (ne-eqb (r .number) 0 z)) ∙ set-room l
 
-    pub set-done : leb (p .«applied_length» + length c) n ≡ true → r .number ≡ 0 → {a : Answer} → a ≡ plain
-        → done (holding (r .clock)) (applied (length c) (withPosition p (r .position))) a ≡ afterSet n p c r
+    pub set-done : leb (p .«applied_length» + length c) n ≡ true → r .number ≡ 0 → {a : Answer} → a ≡ acknowledged
+        → done (holding (r .clock)) (withAppliedBytes (length c) (withPosition p (r .position))) a ≡ afterSet n p c r
     set-done l z q =
-        ap (done (holding (r .clock)) (applied (length c) (withPosition p (r .position)))) q
+        ap (done (holding (r .clock)) (withAppliedBytes (length c) (withPosition p (r .position)))) q
         ∙ ap onDrawn (sym (eq-eqb (r .number) 0 z)) ∙ set-room l
 
 -- ---- REMOVE
-module _ (n : ℕ) (slot : ClockSlot) (p : Progress) (c : List ℕ) (there : removeOn n p c (slot .clock) ≡ performRemove n slot p c) where
+module _ (n : ℕ) (slot : ClockSlot) (p : SharedState) (c : List ℕ) (there : removeOn n p c (slot .clock) ≡ performRemove n slot p c) where
   abbrev removal : SurvivalClock → OnSlot
-  removal k = done (holding (removeChannel k (fieldAt 4 c commands.causeField))) (applied (length c) p) plain
+  removal k = done (holding (removeChannel k (fieldAt 4 c commands.causeField))) (withAppliedBytes (length c) p) acknowledged
 
   pub remove-full : leb (p .«applied_length» + length c) n ≡ false → refused journalFull ≡ performRemove n slot p c
   remove-full l = full n p c (removal (slot .clock)) l ∙ there
 
   pub remove-done : leb (p .«applied_length» + length c) n ≡ true → {k : SurvivalClock} {a : Answer}
-      → k ≡ removeChannel (slot .clock) (fieldAt 4 c commands.causeField) → a ≡ plain
-      → done (holding k) (applied (length c) p) a ≡ performRemove n slot p c
+      → k ≡ removeChannel (slot .clock) (fieldAt 4 c commands.causeField) → a ≡ acknowledged
+      → done (holding k) (withAppliedBytes (length c) p) a ≡ performRemove n slot p c
   remove-done l q r =
-      ap₂ (λ (k : SurvivalClock) (a : Answer). done (holding k) (applied (length c) p) a) q r
+      ap₂ (λ (k : SurvivalClock) (a : Answer). done (holding k) (withAppliedBytes (length c) p) a) q r
       ∙ room n p c (removal (slot .clock)) l ∙ there
 
 -- ---- withdrawing a scheduled event
-module _ (p : Progress) (e : ScheduledEvent) where
+module _ (p : SharedState) (e : ScheduledEvent) where
   pub not-scheduled : e .present ≡ false → false ≡ isWithdrawn p e
-  not-scheduled h = ap (λ (t : Bool). t && isThere (e .index) (queuedRequests p)) (sym h)
+  not-scheduled h = ap (λ (t : Bool). t && isQueued (e .index) (queuedRequests p)) (sym h)
 
-  pub scheduled : e .present ≡ true → isThere (e .index) (queuedRequests p) ≡ isWithdrawn p e
-  scheduled h = ap (λ (t : Bool). t && isThere (e .index) (queuedRequests p)) (sym h)
+  pub scheduled : e .present ≡ true → isQueued (e .index) (queuedRequests p) ≡ isWithdrawn p e
+  scheduled h = ap (λ (t : Bool). t && isQueued (e .index) (queuedRequests p)) (sym h)
 
-  abbrev leaving : Bool → Progress
+  abbrev leaving : Bool → SharedState
   leaving t = cond t (withQueue p (without (e .index) (queuedRequests p))) p
 
   pub withdrawn-out : isWithdrawn p e ≡ true → leaving true ≡ withdraw p e
@@ -255,14 +255,14 @@ module _ (p : Progress) (e : ScheduledEvent) where
   withdraw-applied = leaving-applied (isWithdrawn p e)
 
 -- ---- an event is queued, or there is none
-module _ (p : Progress) (r : Request) {t : Bool} where
+module _ (p : SharedState) (r : Request) {t : Bool} where
   pub enqueue-none : t ≡ false → p ≡ cond t (withRequest p r) p
   enqueue-none h = ap (λ (b : Bool). cond b (withRequest p r) p) (sym h)
 
   pub enqueue-one : t ≡ true → withRequest p r ≡ cond t (withRequest p r) p
   enqueue-one h = ap (λ (b : Bool). cond b (withRequest p r) p) (sym h)
 
-pub enqueue-applied : (p : Progress) (r : Request) (t : Bool) → cond t (withRequest p r) p .«applied_length» ≡ p .«applied_length»
+pub enqueue-applied : (p : SharedState) (r : Request) (t : Bool) → cond t (withRequest p r) p .«applied_length» ≡ p .«applied_length»
 enqueue-applied p r true = refl
 enqueue-applied p r false = refl
 
@@ -271,12 +271,12 @@ pub applied-fits : (more n : ℕ) {before after : ℕ} → after ≡ before → 
 applied-fits more n {before} e l h = omega (arith, leb-true (before + more) n l)
 
 -- ---- RESCHEDULE and RESUME, once the clock is rescheduled
-module _ (n : ℕ) (p : Progress) (c : List ℕ) (r : Rescheduled) where
-  abbrev queueing : Progress → Progress
+module _ (n : ℕ) (p : SharedState) (c : List ℕ) (r : Rescheduled) where
+  abbrev queueing : SharedState → SharedState
   queueing left = cond (r .event .present) (withRequest left (requestOf left c (r .ticks))) left
 
-  abbrev rescheduling : Progress → Answer → OnSlot
-  rescheduling after a = done (holding (r .clock)) (applied (length c) after) a
+  abbrev rescheduling : SharedState → Answer → OnSlot
+  rescheduling after a = done (holding (r .clock)) (withAppliedBytes (length c) after) a
 
   abbrev rescheduled : OnSlot
   rescheduled =
@@ -285,7 +285,7 @@ module _ (n : ℕ) (p : Progress) (c : List ℕ) (r : Rescheduled) where
   pub reschedule-full : leb (p .«applied_length» + length c) n ≡ false → refused journalFull ≡ afterReschedule n p c r
   reschedule-full l = full n p c rescheduled l
 
-  pub reschedule-done : leb (p .«applied_length» + length c) n ≡ true → {left after : Progress} {a : Answer} {w : Bool}
+  pub reschedule-done : leb (p .«applied_length» + length c) n ≡ true → {left after : SharedState} {a : Answer} {w : Bool}
       → left ≡ withdraw p (r .withdrawn) → after ≡ queueing left → w ≡ isWithdrawn p (r .withdrawn)
       → a ≡ eventAnswer (r .event) w (r .ticks) → rescheduling after a ≡ afterReschedule n p c r
   reschedule-done l out queued w q =
@@ -307,9 +307,9 @@ pub pause-answer : (w : Bool) {a : Answer} → a ≡ noEvent 0
     ≡ withdrawnAnswer w
 pause-answer w e = rw e
 
-module _ (n : ℕ) (p : Progress) (c : List ℕ) (r : Paused) where
-  abbrev pausing : Progress → Answer → OnSlot
-  pausing left a = done (holding (r .clock)) (applied (length c) left) a
+module _ (n : ℕ) (p : SharedState) (c : List ℕ) (r : Paused) where
+  abbrev pausing : SharedState → Answer → OnSlot
+  pausing left a = done (holding (r .clock)) (withAppliedBytes (length c) left) a
 
   abbrev paused : OnSlot
   paused = pausing (withdraw p (r .withdrawn)) (withdrawnAnswer (isWithdrawn p (r .withdrawn)))
@@ -317,7 +317,7 @@ module _ (n : ℕ) (p : Progress) (c : List ℕ) (r : Paused) where
   pub pause-full : leb (p .«applied_length» + length c) n ≡ false → refused journalFull ≡ afterPause n p c r
   pause-full l = full n p c paused l
 
-  pub pause-done : leb (p .«applied_length» + length c) n ≡ true → {left : Progress} {a : Answer} {w : Bool}
+  pub pause-done : leb (p .«applied_length» + length c) n ≡ true → {left : SharedState} {a : Answer} {w : Bool}
       → left ≡ withdraw p (r .withdrawn) → w ≡ isWithdrawn p (r .withdrawn) → a ≡ withdrawnAnswer w → pausing left a ≡ afterPause n p c r
   pause-done l out w q = ap₂ pausing out (q ∙ ap withdrawnAnswer w) ∙ room n p c paused l
 
@@ -329,13 +329,13 @@ module _ (next : Pick) {o : Option Request} (e : pickOf next ≡ o) where
   found : next .found ≡ true → some (next .request) ≡ o
   found h = ap (λ (t : Bool). cond t (some (next .request)) none) (sym h) ∙ e
 
-module _ (n : ℕ) (slot : ClockSlot) (p : Progress) (c : List ℕ) (next : Pick) (e : pickOf next ≡ nextRequest (queuedRequests p)) where
+module _ (n : ℕ) (slot : ClockSlot) (p : SharedState) (c : List ℕ) (next : Pick) (e : pickOf next ≡ nextRequest (queuedRequests p)) where
   pub deliver-none : next .found ≡ false → refused queueEmpty ≡ performDeliver n slot p c
   unfolding performDeliver
   deliver-none h = ap (delivered n slot p c) (not-found next e h)
 
-  abbrev leavesWith : Dispatched → Progress → Answer → OnSlot
-  leavesWith d left a = done (holding (d .clock)) (applied (length c) left) a
+  abbrev leavesWith : Dispatched → SharedState → Answer → OnSlot
+  leavesWith d left a = done (holding (d .clock)) (withAppliedBytes (length c) left) a
 
   abbrev deliveredAs : Dispatched → OnSlot
   deliveredAs d =
@@ -351,13 +351,13 @@ module _ (n : ℕ) (slot : ClockSlot) (p : Progress) (c : List ℕ) (next : Pick
   pub deliver-full : next .found ≡ true → leb (p .«applied_length» + length c) n ≡ false → refused journalFull ≡ performDeliver n slot p c
   deliver-full h l = full n p c delivery l ∙ deliver-room h
 
-  pub deliver-done : next .found ≡ true → leb (p .«applied_length» + length c) n ≡ true → {d : Dispatched} {left : Progress} {a : Answer}
+  pub deliver-done : next .found ≡ true → leb (p .«applied_length» + length c) n ≡ true → {d : Dispatched} {left : SharedState} {a : Answer}
       → d ≡ scheduling.onEventDispatched (slot .clock) → left ≡ withQueue p (without (next .request .index) (queuedRequests p))
       → a ≡ eventAnswer (d .event) false (next .request .ticks) → leavesWith d left a ≡ performDeliver n slot p c
   deliver-done h l {d} q out r = ap₂ (leavesWith d) out r ∙ ap deliveredAs q ∙ room n p c delivery l ∙ deliver-room h
 
 -- ---- the clock that a command is about
-module _ (p : Progress) (c : List ℕ) where
+module _ (p : SharedState) (c : List ℕ) where
   abbrev aimed : Bool → ℕ
   aimed t = cond t (clockOfRequest (nextRequest (queuedRequests p))) (clockOf c)
 
@@ -375,7 +375,7 @@ module _ (p : Progress) (c : List ℕ) where
     target-none f = ap clockOfRequest (not-found next e f) ∙ ap aimed (sym (eq-eqb (byteAt c 0) commands.deliver h))
 
 -- ---- by its code
-module _ (stream : List ℕ) (n : ℕ) (slot : ClockSlot) (p : Progress) (c : List ℕ) where
+module _ (stream : List ℕ) (n : ℕ) (slot : ClockSlot) (p : SharedState) (c : List ℕ) where
   pub on-create : byteAt c 0 ≡ commands.create → performCreate n slot p c ≡ performOn stream n slot p c
   unfolding performOn
   on-create h = rw h
@@ -405,3 +405,37 @@ module _ (stream : List ℕ) (n : ℕ) (slot : ClockSlot) (p : Progress) (c : Li
   unfolding performOn
   on-rest {code} e a b d f g h =
       rw (← e, ne-eqb code 1 a, ne-eqb code 2 b, ne-eqb code 3 d, ne-eqb code 4 f, ne-eqb code 5 g, ne-eqb code 6 h)
+
+  -- 4 to 7 come before every other refusal of a command
+  abbrev faultsBy : Bool → Bool → Bool → Bool → Bool → Bool → Faults
+  faultsBy a b d e f g =
+      cond a (createFaults c)
+      (cond b (setFaults c)
+      (cond d (causeFaults c)
+      (cond e (rescheduleFaults c) (cond f (pauseFaults c) (cond g (rescheduleFaults c) noFaults)))))
+
+  abbrev performBy : Bool → Bool → Bool → Bool → Bool → Bool → OnSlot
+  performBy a b d e f g =
+      cond a (performCreate n slot p c)
+      (cond b (performSet stream n slot p c)
+      (cond d (performRemove n slot p c)
+      (cond e (performReschedule n slot p c)
+      (cond f (performPause n slot p c) (cond g (performResume n slot p c) (performDeliver n slot p c))))))
+
+  faults-first : (a b d e f g : Bool) → (numberOf (faultsBy a b d e f g) ≡ 0 → ⊥)
+      → performBy a b d e f g ≡ refused (numberOf (faultsBy a b d e f g))
+  unfolding performCreate performSet performRemove performReschedule performPause performResume
+  faults-first true b d e f g h = sym (faults-met (createFaults c) refl _ h)
+  faults-first false true d e f g h = sym (faults-met (setFaults c) refl _ h)
+  faults-first false false true e f g h = sym (faults-met (causeFaults c) refl _ h)
+  faults-first false false false true f g h = sym (faults-met (rescheduleFaults c) refl _ h)
+  faults-first false false false false true g h = sym (faults-met (pauseFaults c) refl _ h)
+  faults-first false false false false false true h = sym (faults-met (rescheduleFaults c) refl _ h)
+  faults-first false false false false false false h = absurd (h refl)
+
+  pub faulty-refused : (numberOf (faultsOf c) ≡ 0 → ⊥) → performOn stream n slot p c ≡ refused (numberOf (faultsOf c))
+  unfolding performOn faultsOf
+  faulty-refused =
+      let code = byteAt c 0 in
+      faults-first (eqb code commands.create) (eqb code commands.set) (eqb code commands.remove) (eqb code commands.reschedule)
+      (eqb code commands.pause) (eqb code commands.resume)

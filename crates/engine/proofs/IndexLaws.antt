@@ -11,8 +11,8 @@ use lib.Dec.{eqb}
 use lib.ListN.{length, getD, take, drop, set, length-take}
 use lib.Seq.{split-at, take-take, take-suc-set, getD-take}
 use Rattle.hazards.proofs.ListLaws.{take-next}
-use Rattle.clocks.proofs.Cases.{either-way}
-use Rattle.engine.specs.Queue.{isThere}
+use Rattle.hazards.proofs.Cases.{by-test}
+use Rattle.engine.specs.Queue.{isQueued}
 use Rattle.engine.specs.Validation.{distinct}
 use Rattle.engine.specs.declared.state.Request.{Request}
 use Rattle.engine.proofs.Conjunctions.{both-true, and-false}
@@ -26,8 +26,8 @@ unfoldable pub isAmong : ℕ → List ℕ → Bool
 isAmong x [] = false
 isAmong x (y ∷ ys) = cond (eqb y x) true (isAmong x ys)
 
-pub there-among : (x : ℕ) (rs : List Request) → isThere x rs ≡ isAmong x (map indexOf rs)
-unfolding isThere isAmong
+pub there-among : (x : ℕ) (rs : List Request) → isQueued x rs ≡ isAmong x (map indexOf rs)
+unfolding isQueued isAmong
 there-among x [] = refl
 there-among x (r ∷ rs) = rw (there-among x rs)
 
@@ -50,51 +50,51 @@ neither : (a b : Bool) → cond a true b ≡ false → (a ≡ false) × (b ≡ f
 neither true b e = absurd (true≢false e)
 neither false b e = (refl, e)
 
-there-more : (x : ℕ) (rs : List Request) (r : Request) → isThere x rs ≡ false → (r .index ≡ x → ⊥) → isThere x (rs ++ (r ∷ [])) ≡ false
-unfolding isThere
+there-more : (x : ℕ) (rs : List Request) (r : Request) → isQueued x rs ≡ false → (r .index ≡ x → ⊥) → isQueued x (rs ++ (r ∷ [])) ≡ false
+unfolding isQueued
 there-more x [] r h n = rw (ne-eqb (r .index) x n)
 there-more x (q ∷ rs) r h n =
-    let f = neither (eqb (q .index) x) (isThere x rs) h in rw (f .0) (there-more x rs r (f .1) n)
+    let f = neither (eqb (q .index) x) (isQueued x rs) h in rw (f .0) (there-more x rs r (f .1) n)
 
-there-first : (x : ℕ) (rs : List Request) (r : Request) (qs : List Request) → r .index ≡ x → isThere x (rs ++ (r ∷ qs)) ≡ true
-unfolding isThere
+there-first : (x : ℕ) (rs : List Request) (r : Request) (qs : List Request) → r .index ≡ x → isQueued x (rs ++ (r ∷ qs)) ≡ true
+unfolding isQueued
 there-first x [] r qs h = rw (eq-eqb (r .index) x h)
 there-first x (q ∷ rs) r qs h =
-    either-way (eqb (q .index) x) (λ (e : eqb (q .index) x ≡ true). rw e)
+    by-test (eqb (q .index) x) (λ (e : eqb (q .index) x ≡ true). rw e)
     (λ (e : eqb (q .index) x ≡ false). rw e (there-first x rs r qs h))
 
 pub distinct-none : distinct [] ≡ true
 unfolding distinct
 distinct-none = refl
 
-pub distinct-more : (rs : List Request) (r : Request) → distinct rs ≡ true → isThere (r .index) rs ≡ false
+pub distinct-more : (rs : List Request) (r : Request) → distinct rs ≡ true → isQueued (r .index) rs ≡ false
     → distinct (rs ++ (r ∷ [])) ≡ true
-unfolding distinct isThere
+unfolding distinct isQueued
 distinct-more [] r h n = refl
 distinct-more (q ∷ rs) r h n =
-    let f = neither (eqb (q .index) (r .index)) (isThere (r .index) rs) n in
+    let f = neither (eqb (q .index) (r .index)) (isQueued (r .index) rs) n in
     let unlike : r .index ≡ q .index → ⊥ = λ e. eqb-false (q .index) (r .index) (f .0) (sym e) in
-    let b = both-true (not (isThere (q .index) rs)) (distinct rs) h in
-    let alone = not-true (isThere (q .index) rs) (b .0) in
+    let b = both-true (not (isQueued (q .index) rs)) (distinct rs) h in
+    let alone = not-true (isQueued (q .index) rs) (b .0) in
     rw (there-more (q .index) rs r alone unlike) (distinct-more rs r (b .1) (f .1))
 
-pub distinct-fails : (rs : List Request) (r : Request) (qs : List Request) → isThere (r .index) rs ≡ true
+pub distinct-fails : (rs : List Request) (r : Request) (qs : List Request) → isQueued (r .index) rs ≡ true
     → distinct (rs ++ (r ∷ qs)) ≡ false
-unfolding distinct isThere
+unfolding distinct isQueued
 distinct-fails [] r qs h = absurd (true≢false (sym h))
 distinct-fails (q ∷ rs) r qs h =
     let test = eqb (q .index) (r .index) in
-    either-way test
+    by-test test
     (λ (e : test ≡ true). rw (there-first (q .index) rs r qs (sym (eqb-true (q .index) (r .index) e))))
-    (λ (e : test ≡ false). rw (distinct-fails rs r qs (rw e at h)) (and-false (not (isThere (q .index) (rs ++ (r ∷ qs))))))
+    (λ (e : test ≡ false). rw (distinct-fails rs r qs (rw e at h)) (and-false (not (isQueued (q .index) (rs ++ (r ∷ qs))))))
 
 -- the request at a place of a list, with those before it
 module _ (rs : List Request) (i : ℕ) (d : Request) where
-  pub distinct-next : i < length rs → distinct (take i rs) ≡ true → isThere (getD rs i d .index) (take i rs) ≡ false
+  pub distinct-next : i < length rs → distinct (take i rs) ≡ true → isQueued (getD rs i d .index) (take i rs) ≡ false
       → distinct (take (i + 1) rs) ≡ true
   distinct-next h t n = rw (take-next rs i d h) (distinct-more (take i rs) (getD rs i d) t n)
 
-  pub repeated : (n : ℕ) → i < n → n ≤ length rs → isThere (getD rs i d .index) (take i rs) ≡ true → distinct (take n rs) ≡ false
+  pub repeated : (n : ℕ) → i < n → n ≤ length rs → isQueued (getD rs i d .index) (take i rs) ≡ true → distinct (take n rs) ≡ false
   repeated n h k t =
       let within : i < length (take n rs) = omega (arith, length-take n rs) in
       let split = split-at (take n rs) i d within in

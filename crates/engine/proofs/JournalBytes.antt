@@ -9,7 +9,7 @@ use lib.ListN.{replicate-append-replicate}
 use native.Mathlib.Numerals.{add-one}
 use lib.Seq.{take-all, paste, take-at, drop-at, take-length, drop-append-add, drop-cons, set-at, append-snoc, take-suc, length-take-le}
 use lib.Seq.{drop-drop, getD-drop}
-use Rattle.engine.specs.Journal.{Bytes, concat, init, code}
+use Rattle.engine.specs.Engine.{Bytes, concat, init, code}
 
 pub drop-replicate : (k m : ℕ) (a : ℕ) → drop k (replicate m a) ≡ replicate (m - k) a
 drop-replicate zero m a = ap (λ (i : ℕ). replicate i a) (sym (sub-zero m))

@@ -1,54 +1,66 @@
 -- Laws about the definitions of the engine crate, one subject to a file. The proof of each function stands in its own folder.
-pub mod AcceptedFields
-pub mod Applied
-pub mod Asking
-pub mod Balance
-pub mod CommandLaws
-pub mod CommandLists
-pub mod ComparisonLaws
-pub mod Computed
+
+-- tests, lists of bytes and comparison
 pub mod Conjunctions
-pub mod Demand3
-pub mod DemandHalves
-pub mod DistinctIndices
-pub mod EngineLaws
 pub mod EveryPlace
-pub mod ExecuteLaws
-pub mod ExecutionCases
-pub mod Good
-pub mod GoodDeliveries
-pub mod GoodKept
-pub mod GoodQueues
-pub mod GoodSteps
-pub mod GoodValid
-pub mod IndexLaws
-pub mod JournalBytes
-pub mod LedgerLinks
 pub mod NotItself
+pub mod ComparisonLaws
+pub mod JournalBytes
 pub mod PartLaws
-pub mod PerformedTargets
+-- commands: fields, faults, and what each does
+pub mod CommandLaws
+pub mod AcceptedFields
+pub mod ExecutionCases
 pub mod PerformedWays
-pub mod Picks
-pub mod ProgressLaws
+pub mod PerformedTargets
+pub mod SharedLaws
+pub mod SlotLaws
+-- requests and the queue
+pub mod RequestOrder
+pub mod RequestLists
+pub mod RequestCounts
+pub mod IndexLaws
+pub mod DistinctIndices
 pub mod QueueLaws
 pub mod QueuePlaces
-pub mod Reached
-pub mod ReplayLaws
+pub mod QueueRoom
+-- state validation, and the invariant of the states reached from opening
+pub mod ValidationLaws
+pub mod SoundState
+pub mod SoundValid
+pub mod SoundQueues
+pub mod SoundSteps
+pub mod SoundDeliveries
+pub mod SoundKept
+-- one input, the replay and UNDO
+pub mod CommandLists
+pub mod Asking
 pub mod ReplaySteps
 pub mod Replays
-pub mod RequestCounts
-pub mod RequestLists
-pub mod RequestOrder
-pub mod Rows
-pub mod RunAnswers
-pub mod RunNumbers
+pub mod Splits
+pub mod ReplayLaws
+pub mod ExecuteLaws
+-- demand 3: of any engine that meets the laws, then of this one
+pub mod DemandHalves
+pub mod Supplied
+pub mod Applied
+pub mod Reached
+pub mod Picks
+pub mod LedgerLinks
+pub mod Balance
+pub mod EngineLaws
+pub mod Demand3
+-- the batch run
+pub mod RunInputs
 pub mod RunOpening
-pub mod RunReverts
 pub mod RunStates
+pub mod RunNumbers
 pub mod RunStops
+pub mod RunAnswers
 pub mod RunTurns
 pub mod RunUndos
-pub mod SlotLaws
-pub mod Supplied
-pub mod ValidationLaws
+pub mod RunReverts
+-- the table of rows, and a list worked through
+pub mod Computed
+pub mod Rows
 pub mod Worked

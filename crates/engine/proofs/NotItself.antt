@@ -6,7 +6,7 @@ use native.Mathlib.Omega.{arith}
 use lib.Dec.{T}
 use lib.Ieee.{Float, nan, inf, fin, ne, isNan}
 use lib.Ieee.Compare.{differs-from-itself, nan-differs}
-use Rattle.clocks.proofs.Cases.{either-way}
+use Rattle.hazards.proofs.Cases.{by-test}
 
 to-T : (b : Bool) → b ≡ true → T b
 to-T true e = tt
@@ -18,7 +18,7 @@ nan-is = refl
 
 unlike : (x : Float) → isNan x ≡ false → ne x x ≡ false
 unlike x e =
-    either-way (ne x x)
+    by-test (ne x x)
     (λ q.
     let n : isNan x ≡ isNan nan = ap isNan (differs-from-itself x (to-T (ne x x) q)) in
     let z : _≡_ {A = ℕ} 0 1 = cc nan-is in

@@ -6,7 +6,7 @@ use native.Mathlib.Omega.{arith}
 use borrow.Author.Tests.{le-leb, lt-leb}
 use lib.ListN.{length, take, drop, replicate}
 use Rattle.hazards.specs.Refusals.{invalidState}
-use Rattle.engine.specs.Parts.{copiedInto, clearedFront, appliedPart, appliedNumber}
+use Rattle.engine.specs.Journal.{copiedInto, clearedFront, part, appliedPart}
 
 module _ (free command : List ℕ) where
   pub copied-whole : length command ≤ length free → copiedInto free command ≡ command ++ drop (length command) free
@@ -26,18 +26,10 @@ module _ (bytes : List ℕ) (count : ℕ) where
   cleared-whole h = let e : count ≡ min count (length bytes) = omega arith in cleared-front e
 
 module _ (journal : List ℕ) (n : ℕ) where
-  pub applied-front : n ≤ length journal → appliedPart journal n ≡ take n journal
+  pub applied-front : n ≤ length journal → appliedPart journal n ≡ part (take n journal) 0
   unfolding appliedPart
   applied-front h = rw (le-leb n (length journal) h)
 
-  pub applied-past : length journal < n → appliedPart journal n ≡ []
+  pub applied-past : length journal < n → appliedPart journal n ≡ part [] invalidState
   unfolding appliedPart
   applied-past h = rw (lt-leb n (length journal) h)
-
-  pub number-within : n ≤ length journal → appliedNumber journal n ≡ 0
-  unfolding appliedNumber
-  number-within h = rw (le-leb n (length journal) h)
-
-  pub number-past : length journal < n → appliedNumber journal n ≡ invalidState
-  unfolding appliedNumber
-  number-past h = rw (lt-leb n (length journal) h)

@@ -1,4 +1,4 @@
--- The clock that a command is about: one that is performed on a good state is about one of the sixteen places, and one about another
+-- The clock that a command is about: one that is performed on a sound state is about one of the sixteen places, and one about another
 -- clock is refused whatever the slot.
 use mathlib.Core.Path.{_≡_, refl, sym, subst}
 use mathlib.Core.Bool.{Bool, true, false, cond}
@@ -12,32 +12,31 @@ use lib.ListN.{length}
 use Rattle.hazards.specs.Refusals.{numberOf}
 use Rattle.hazards.specs.declared.answers.Answer.{Answer}
 use Rattle.hazards.specs.declared.refusals.Faults.{Faults}
-use Rattle.clocks.proofs.Cases.{either-way}
+use Rattle.hazards.proofs.Cases.{by-test}
 use Rattle.engine.specs.Commands as commands
-use Rattle.engine.specs.Commands.{widthOf}
+use Rattle.engine.specs.Commands.{widthOf, clockOf, createFaults, setFaults, causeFaults, rescheduleFaults, pauseFaults}
 use Rattle.engine.specs.Queue.{nextRequest}
 use Rattle.engine.specs.State.{slotAt, queuedRequests}
-use Rattle.engine.specs.Journal.{code}
-use Rattle.engine.specs.Execution.{OnSlot, done, clockOf, createFaults, setFaults, causeFaults}
-use Rattle.engine.specs.Execution.{rescheduleFaults, pauseFaults, performCreate, performSet, performRemove, performReschedule}
-use Rattle.engine.specs.Execution.{performPause, performResume, performOn, target}
+use Rattle.engine.specs.Engine.{code}
+use Rattle.engine.specs.Execution.{OnSlot, done, performCreate, performSet, performRemove, performReschedule, performPause}
+use Rattle.engine.specs.Execution.{performResume, performOn, target}
 use Rattle.engine.specs.Instance.{engineOf}
 use Rattle.engine.specs.declared.state.ClockSlot.{ClockSlot}
-use Rattle.engine.specs.declared.state.Progress.{Progress}
+use Rattle.engine.specs.declared.state.SharedState.{SharedState}
 use Rattle.engine.specs.declared.state.Request.{Request}
 use Rattle.engine.specs.declared.state.EngineState.{EngineState}
-use Rattle.engine.proofs.Good.{Good}
+use Rattle.engine.proofs.SoundState.{SoundState}
 use Rattle.engine.proofs.CommandLists.{Whole}
 use Rattle.engine.proofs.RequestLists.{In}
 use Rattle.engine.proofs.Picks.{Best, next-best}
 use Rattle.engine.proofs.AcceptedFields.{create-accepted, set-accepted, cause-accepted, reschedule-accepted, pause-accepted}
 use Rattle.engine.proofs.PerformedWays.{NoOther, performed-way}
-use Rattle.engine.proofs.GoodQueues.{request-of}
+use Rattle.engine.proofs.SoundQueues.{request-of}
 use Rattle.engine.proofs.CommandLaws.{no-width}
 use Rattle.engine.proofs.ExecutionCases.{target-named}
 
 -- a whole command that is none of the others is DELIVER
-pub only-deliver : (stream : List ℕ) (n : ℕ) (old : ClockSlot) (p : Progress) (c : List ℕ) → NoOther stream n old p c
+pub only-deliver : (stream : List ℕ) (n : ℕ) (old : ClockSlot) (p : SharedState) (c : List ℕ) → NoOther stream n old p c
     → Whole (engineOf stream n) c → (code c ≡ commands.deliver → ⊥) → ⊥
 only-deliver stream n old p c k whole other =
     let w =
@@ -47,24 +46,24 @@ only-deliver stream n old p c k whole other =
     let h = whole .pos in
     omega arith
 
-pub target-delivered : (p : Progress) (c : List ℕ) (r : Request) → code c ≡ commands.deliver
+pub target-delivered : (p : SharedState) (c : List ℕ) (r : Request) → code c ≡ commands.deliver
     → nextRequest (queuedRequests p) ≡ some r → target p c ≡ r .clock
 unfolding target
 target-delivered p c r h e = rw (eq-eqb (code c) commands.deliver h, e)
 
-target-nothing : (p : Progress) (c : List ℕ) → code c ≡ commands.deliver → nextRequest (queuedRequests p) ≡ none → target p c ≡ 0
+target-nothing : (p : SharedState) (c : List ℕ) → code c ≡ commands.deliver → nextRequest (queuedRequests p) ≡ none → target p c ≡ 0
 unfolding target
 target-nothing p c h e = rw (eq-eqb (code c) commands.deliver h, e)
 
 -- ---- a clock above the sixteen
 
 -- by a test of the code
-by-test : (t : Bool) {x x′ y y′ : OnSlot} → x ≡ x′ → (t ≡ false → y ≡ y′) → cond t x y ≡ cond t x′ y′
-by-test true e f = e
-by-test false e f = f refl
+cond-same : (t : Bool) {x x′ y y′ : OnSlot} → x ≡ x′ → (t ≡ false → y ≡ y′) → cond t x y ≡ cond t x′ y′
+cond-same true e f = e
+cond-same false e f = f refl
 
 -- refused by 4 to 7, whatever the slot
-module _ (stream : List ℕ) (n : ℕ) (a b : ClockSlot) (p : Progress) (c : List ℕ) (past : 16 ≤ clockOf c) where
+module _ (stream : List ℕ) (n : ℕ) (a b : ClockSlot) (p : SharedState) (c : List ℕ) (past : 16 ≤ clockOf c) where
   faulty : (f : Faults) → (numberOf f ≡ 0 → clockOf c < 16) → eqb (numberOf f) 0 ≡ false
   faulty f below = ne-eqb (numberOf f) 0 (λ e. let k = below e in omega arith)
 
@@ -95,12 +94,12 @@ module _ (stream : List ℕ) (n : ℕ) (a b : ClockSlot) (p : Progress) (c : Lis
   same-named : Whole (engineOf stream n) c → (code c ≡ commands.deliver → ⊥) → performOn stream n a p c ≡ performOn stream n b p c
   unfolding performOn
   same-named whole other =
-      by-test (eqb (code c) commands.create) same-create
-      (λ t₁. by-test (eqb (code c) commands.set) same-set
-      (λ t₂. by-test (eqb (code c) commands.remove) same-remove
-      (λ t₃. by-test (eqb (code c) commands.reschedule) same-reschedule
-      (λ t₄. by-test (eqb (code c) commands.pause) same-pause
-      (λ t₅. by-test (eqb (code c) commands.resume) same-resume
+      cond-same (eqb (code c) commands.create) same-create
+      (λ t₁. cond-same (eqb (code c) commands.set) same-set
+      (λ t₂. cond-same (eqb (code c) commands.remove) same-remove
+      (λ t₃. cond-same (eqb (code c) commands.reschedule) same-reschedule
+      (λ t₄. cond-same (eqb (code c) commands.pause) same-pause
+      (λ t₅. cond-same (eqb (code c) commands.resume) same-resume
       (λ t₆. absurd
       (only-deliver stream n a p c
       (record {
@@ -114,20 +113,20 @@ module _ (stream : List ℕ) (n : ℕ) (a b : ClockSlot) (p : Progress) (c : Lis
       whole other)))))))
 
 module _ (stream : List ℕ) (n : ℕ) (s : EngineState) (c : List ℕ) where
-  abbrev p : Progress
-  p = s .progress
+  abbrev p : SharedState
+  p = s .shared
 
   named : (code c ≡ commands.deliver → ⊥) → clockOf c < 16 → target p c < 16
   named h below = subst (λ (i : ℕ). i < 16) (target-named p c h) below
 
   -- a request that is queued is about one of the sixteen
-  next-below : Good stream n s → code c ≡ commands.deliver → (r : Request) → nextRequest (queuedRequests p) ≡ some r → target p c < 16
+  next-below : SoundState stream n s → code c ≡ commands.deliver → (r : Request) → nextRequest (queuedRequests p) ≡ some r → target p c < 16
   next-below g d r e =
       let best = subst (λ (o : Option Request). Best o (λ y. In y (queuedRequests p))) e (next-best (queuedRequests p)) in
       let within : In r (queuedRequests p) = best .0 in
       subst (λ (i : ℕ). i < 16) (sym (target-delivered p c r d e)) (request-of (g .queue) r within .clock)
 
-  deliver-below : Good stream n s → code c ≡ commands.deliver → target p c < 16
+  deliver-below : SoundState stream n s → code c ≡ commands.deliver → target p c < 16
   deliver-below g d = go (nextRequest (queuedRequests p)) refl
     where
       go : (o : Option Request) → nextRequest (queuedRequests p) ≡ o → target p c < 16
@@ -135,13 +134,13 @@ module _ (stream : List ℕ) (n : ℕ) (s : EngineState) (c : List ℕ) where
       go (some r) e = next-below g d r e
 
   -- a command about no clock of the sixteen does the same on every slot
-  pub same-past : Good stream n s → Whole (engineOf stream n) c → 16 ≤ target p c → (a b : ClockSlot)
+  pub same-past : SoundState stream n s → Whole (engineOf stream n) c → 16 ≤ target p c → (a b : ClockSlot)
       → performOn stream n a p c ≡ performOn stream n b p c
   same-past g whole past a b =
       let other : code c ≡ commands.deliver → ⊥ = λ d. let k = deliver-below g d in omega arith in
       same-named stream n a b p c (subst (λ (i : ℕ). 16 ≤ i) (sym (target-named p c other)) past) whole other
 
-  pub target-below : Good stream n s → Whole (engineOf stream n) c → (slot : ClockSlot) (p′ : Progress) (a : Answer)
+  pub target-below : SoundState stream n s → Whole (engineOf stream n) c → (slot : ClockSlot) (p′ : SharedState) (a : Answer)
       → performOn stream n (slotAt s (target p c)) p c ≡ done slot p′ a → target p c < 16
   target-below g whole slot p′ a did =
       performed-way stream n old p c (λ slot p′ a. target p c < 16)
@@ -152,7 +151,7 @@ module _ (stream : List ℕ) (n : ℕ) (s : EngineState) (c : List ℕ) where
       (λ k f h room. named (λ d. omega arith) (pause-accepted c f .clock))
       (λ k f h room. named (λ d. omega arith) (reschedule-accepted c f .clock))
       (λ k r e room.
-      either-way (eqb (code c) commands.deliver)
+      by-test (eqb (code c) commands.deliver)
       (λ d. next-below g (eqb-true _ _ d) r e)
       (λ d. absurd (only-deliver stream n old p c k whole (eqb-false _ _ d)))) slot p′ a did
     where

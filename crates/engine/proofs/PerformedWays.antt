@@ -1,4 +1,4 @@
--- What a command that is performed comes to, for each of the seven: the tests that it passed, and slot, progress and answer after it.
+-- What a command that is performed comes to, for each of the seven: the tests that it passed, and slot, shared state and answer after it.
 use mathlib.Core.Path.{_≡_, refl, _∙_, ap, subst}
 use mathlib.Core.Bool.{Bool, true, false, cond}
 use mathlib.Core.List.{List}
@@ -20,25 +20,25 @@ use Rattle.clocks.specs.declared.scheduling.Paused.{Paused}
 use Rattle.clocks.specs.declared.setting.ChannelSet.{ChannelSet}
 use Rattle.engine.specs.Commands as commands
 use Rattle.engine.specs.Queue.{nextRequest, without}
-use Rattle.engine.specs.State.{slotAt, withSlot, queuedRequests, withQueue, withPosition, applied}
-use Rattle.engine.specs.Journal.{performed}
-use Rattle.engine.specs.Execution.{OnSlot, refused, done, byteAt, nowOf, censorOf, settingOf, createdClock, createFaults, setFaults}
-use Rattle.engine.specs.Execution.{causeFaults, rescheduleFaults, pauseFaults, unlessFull, unlessFaulty, onClock, holding, plain}
-use Rattle.engine.specs.Execution.{isWithdrawn, withdraw, enqueue, eventAnswer}
-use Rattle.engine.specs.Execution.{withdrawnAnswer, performCreate, performSet, performRemove, performReschedule, performPause}
-use Rattle.engine.specs.Execution.{performResume}
-use Rattle.engine.specs.Execution.{performDeliver, delivered, performOn, target, stored, perform}
+use Rattle.engine.specs.State.{slotAt, withSlot, queuedRequests, withQueue, withPosition, withAppliedBytes}
+use Rattle.engine.specs.Engine.{performed}
+use Rattle.engine.specs.Execution.{OnSlot, refused, done, unlessFull, unlessFaulty, onClock, holding, acknowledged, isWithdrawn}
+use Rattle.engine.specs.Execution.{withdraw, enqueue, eventAnswer, withdrawnAnswer, performCreate, performSet, performRemove}
+use Rattle.engine.specs.Execution.{performReschedule, performPause, performResume, performDeliver, delivered, performOn, target}
+use Rattle.engine.specs.Execution.{stored, perform}
+use Rattle.engine.specs.Commands.{byteAt, nowOf, censorOf, settingOf, createdClock, createFaults, setFaults, causeFaults}
+use Rattle.engine.specs.Commands.{rescheduleFaults, pauseFaults}
 use Rattle.engine.specs.declared.state.ClockSlot.{ClockSlot}
-use Rattle.engine.specs.declared.state.Progress.{Progress}
+use Rattle.engine.specs.declared.state.SharedState.{SharedState}
 use Rattle.engine.specs.declared.state.Request.{Request}
 use Rattle.engine.specs.declared.state.EngineState.{EngineState}
 
 -- ---- what is done was not refused
 
-refused-done : {m : ℕ} {slot : ClockSlot} {p : Progress} {a : Answer} → refused m ≡ done slot p a → ⊥
+refused-done : {m : ℕ} {slot : ClockSlot} {p : SharedState} {a : Answer} → refused m ≡ done slot p a → ⊥
 refused-done e = let z : _≡_ {A = ℕ} 0 1 = cc in omega arith
 
-module _ {slot : ClockSlot} {p : Progress} {a : Answer} where
+module _ {slot : ClockSlot} {p : SharedState} {a : Answer} where
   -- a test that was passed
   passed : (b : Bool) (d : OnSlot) (m : ℕ) → cond b d (refused m) ≡ done slot p a → (b ≡ true) × (d ≡ done slot p a)
   passed true d m e = (refl, e)
@@ -50,16 +50,16 @@ module _ {slot : ClockSlot} {p : Progress} {a : Answer} where
   failed false d m e = (refl, e)
 
   -- a claim on what is done
-  carried : (X : ClockSlot → Progress → Answer → Type 0) {slot′ : ClockSlot} {p′ : Progress} {a′ : Answer}
+  carried : (X : ClockSlot → SharedState → Answer → Type 0) {slot′ : ClockSlot} {p′ : SharedState} {a′ : Answer}
       → done slot′ p′ a′ ≡ done slot p a
       → X slot′ p′ a′ → X slot p a
   carried X {slot′} {p′} {a′} e x =
       let e₁ : slot′ ≡ slot = cc in
       let e₂ : p′ ≡ p = cc in
       let e₃ : a′ ≡ a = cc in
-      subst (X slot p) e₃ (subst (λ (q : Progress). X slot q a′) e₂ (subst (λ (k : ClockSlot). X k p′ a′) e₁ x))
+      subst (X slot p) e₃ (subst (λ (q : SharedState). X slot q a′) e₂ (subst (λ (k : ClockSlot). X k p′ a′) e₁ x))
 
-module _ (stream : List ℕ) (n : ℕ) (old : ClockSlot) (p : Progress) (c : List ℕ) where
+module _ (stream : List ℕ) (n : ℕ) (old : ClockSlot) (p : SharedState) (c : List ℕ) where
   abbrev code : ℕ
   code = byteAt c 0
 
@@ -88,36 +88,36 @@ module _ (stream : List ℕ) (n : ℕ) (old : ClockSlot) (p : Progress) (c : Lis
   abbrev pub pausing : Paused
   pausing = scheduling.pause (old .clock) (nowOf c)
 
-  -- X of slot, progress and answer after a reschedule
-  abbrev pub Rescheduling : (ClockSlot → Progress → Answer → Type 0) → Rescheduled → Type 0
+  -- X of slot, shared state and answer after a reschedule
+  abbrev pub Rescheduling : (ClockSlot → SharedState → Answer → Type 0) → Rescheduled → Type 0
   Rescheduling X r =
-      X (holding (r .clock)) (applied (length c) (enqueue (withdraw p (r .withdrawn)) c r))
+      X (holding (r .clock)) (withAppliedBytes (length c) (enqueue (withdraw p (r .withdrawn)) c r))
       (eventAnswer (r .event) (isWithdrawn p (r .withdrawn)) (r .ticks))
 
-  module _ (X : ClockSlot → Progress → Answer → Type 0)
+  module _ (X : ClockSlot → SharedState → Answer → Type 0)
       (create : code ≡ commands.create → numberOf (createFaults c) ≡ 0 → old .present ≡ false → Room
-      → X (holding (createdClock c)) (applied (length c) p) plain)
+      → X (holding (createdClock c)) (withAppliedBytes (length c) p) acknowledged)
       (set : code ≡ commands.set → numberOf (setFaults c) ≡ 0 → old .present ≡ true → Room
-      → X (holding (setting .clock)) (applied (length c) (withPosition p (setting .position))) plain)
+      → X (holding (setting .clock)) (withAppliedBytes (length c) (withPosition p (setting .position))) acknowledged)
       (remove : code ≡ commands.remove → numberOf (causeFaults c) ≡ 0 → old .present ≡ true → Room
-      → X (holding (removeChannel (old .clock) (fieldAt 4 c commands.causeField))) (applied (length c) p) plain)
+      → X (holding (removeChannel (old .clock) (fieldAt 4 c commands.causeField))) (withAppliedBytes (length c) p) acknowledged)
       (reschedule : code ≡ commands.reschedule → numberOf (rescheduleFaults c) ≡ 0 → old .present ≡ true → Room
       → Rescheduling X rescheduling)
       (pause : code ≡ commands.pause → numberOf (pauseFaults c) ≡ 0 → old .present ≡ true → Room
-      → X (holding (pausing .clock)) (applied (length c) (withdraw p (pausing .withdrawn)))
+      → X (holding (pausing .clock)) (withAppliedBytes (length c) (withdraw p (pausing .withdrawn)))
       (withdrawnAnswer (isWithdrawn p (pausing .withdrawn))))
       (resume : code ≡ commands.resume → numberOf (rescheduleFaults c) ≡ 0 → old .present ≡ true → Room → Rescheduling X resuming)
       (deliver : NoOther → (r : Request) → nextRequest (queuedRequests p) ≡ some r → Room
       → X (holding (scheduling.onEventDispatched (old .clock) .clock))
-      (applied (length c) (withQueue p (without (r .index) (queuedRequests p))))
+      (withAppliedBytes (length c) (withQueue p (without (r .index) (queuedRequests p))))
       (eventAnswer (scheduling.onEventDispatched (old .clock) .event) false (r .ticks)))
-      (slot : ClockSlot) (p′ : Progress) (a : Answer)
+      (slot : ClockSlot) (p′ : SharedState) (a : Answer)
     where
       abbrev Done : OnSlot → Type 0
       Done d = d ≡ done slot p′ a
 
       -- faults, then an absent clock, then a full journal
-      tested-way : (f : Faults) (slot″ : ClockSlot) (p″ : Progress) (a″ : Answer)
+      tested-way : (f : Faults) (slot″ : ClockSlot) (p″ : SharedState) (a″ : Answer)
           → (numberOf f ≡ 0 → old .present ≡ true → Room → X slot″ p″ a″)
           → Done (unlessFaulty f (onClock old (λ k. unlessFull n p c (done slot″ p″ a″)))) → X slot p′ a
       tested-way f slot″ p″ a″ way e =
@@ -208,16 +208,16 @@ module _ (stream : List ℕ) (n : ℕ) (old : ClockSlot) (p : Progress) (c : Lis
 -- a command that is performed on a state is done on the slot that it is about
 pub record DoneOn (stream : List ℕ) (n : ℕ) (s t : EngineState) (c : List ℕ) (a : Answer) : Type 0 where
   pub slot : ClockSlot
-  pub progress : Progress
-  pub did : performOn stream n (slotAt s (target (s .progress) c)) (s .progress) c ≡ done slot progress a
-  pub stores : t ≡ withSlot s (target (s .progress) c) slot progress
+  pub shared : SharedState
+  pub did : performOn stream n (slotAt s (target (s .shared) c)) (s .shared) c ≡ done slot shared a
+  pub stores : t ≡ withSlot s (target (s .shared) c) slot shared
 
 pub done-on : (stream : List ℕ) (n : ℕ) (s t : EngineState) (c : List ℕ) (a : Answer) → perform stream n s c ≡ performed t a
     → DoneOn stream n s t c a
 unfolding perform
-done-on stream n s t c a = go (performOn stream n (slotAt s (target (s .progress) c)) (s .progress) c) refl
+done-on stream n s t c a = go (performOn stream n (slotAt s (target (s .shared) c)) (s .shared) c) refl
   where
-    go : (d : OnSlot) → performOn stream n (slotAt s (target (s .progress) c)) (s .progress) c ≡ d
-        → stored s (target (s .progress) c) d ≡ performed t a → DoneOn stream n s t c a
+    go : (d : OnSlot) → performOn stream n (slotAt s (target (s .shared) c)) (s .shared) c ≡ d
+        → stored s (target (s .shared) c) d ≡ performed t a → DoneOn stream n s t c a
     go (refused m) q e = let z : _≡_ {A = ℕ} 0 1 = cc in absurd (omega arith)
-    go (done slot p b) q e = record { slot = slot; progress = p; did = q ∙ ap (done slot p) cc; stores = cc }
+    go (done slot p b) q e = record { slot = slot; shared = p; did = q ∙ ap (done slot p) cc; stores = cc }

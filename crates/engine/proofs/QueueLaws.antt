@@ -15,11 +15,11 @@ use mir.Facts.{toZ-ofZ}
 use mir.Syntax.{w32}
 use mir.Val.{toZ, ofZ, hbits}
 use borrow.Author.Tests.{ltb-true, ltb-false, lt-ltb, le-ltb, eq-eqb, ne-eqb}
-use Rattle.engine.specs.Queue.{requestTicks, comesFirst, earlierOf, nextRequest, keepIf, without, isThere}
+use Rattle.engine.specs.Queue.{requestTicks, comesFirst, earlierOf, nextRequest, keepIf, without, isQueued}
 use Rattle.engine.specs.State.{emptyRequest, queuedRequests, withQueue}
-use Rattle.engine.specs.QueueCode.{pickOf}
+use Rattle.engine.specs.QueueInternals.{pickOf}
 use Rattle.engine.specs.declared.queue.Pick.{Pick}
-use Rattle.engine.specs.declared.state.Progress.{Progress}
+use Rattle.engine.specs.declared.state.SharedState.{SharedState}
 use Rattle.engine.specs.declared.state.Request.{Request}
 
 -- ---- ticks in two words
@@ -112,20 +112,20 @@ module _ {us vs : List Request} {r : Request} (first : us ≡ r ∷ vs) where
   unfolding nextRequest
   next-more = rw first
 
-  pub there-here : (index : ℕ) → r .index ≡ index → isThere index us ≡ true
-  unfolding isThere
+  pub there-here : (index : ℕ) → r .index ≡ index → isQueued index us ≡ true
+  unfolding isQueued
   there-here index h = rw (first, eq-eqb _ _ h)
 
-  pub there-later : (index : ℕ) → (r .index ≡ index → ⊥) → isThere index us ≡ isThere index vs
-  unfolding isThere
+  pub there-later : (index : ℕ) → (r .index ≡ index → ⊥) → isQueued index us ≡ isQueued index vs
+  unfolding isQueued
   there-later index h = rw (first, ne-eqb _ _ h)
 
 pub next-none : {us : List Request} → us ≡ [] → nextRequest us ≡ none
 unfolding nextRequest
 next-none e = rw e
 
-pub there-none : {us : List Request} (index : ℕ) → us ≡ [] → isThere index us ≡ false
-unfolding isThere
+pub there-none : {us : List Request} (index : ℕ) → us ≡ [] → isQueued index us ≡ false
+unfolding isQueued
 there-none index e = rw e
 
 -- ---- the requests without one: one request more, which is kept or not
@@ -193,9 +193,9 @@ module _ (index : ℕ) (us : List Request) (r : Request) {vs queue : List Reques
       let e = without-left index us r last h in
       record { count = rw e (k .count); filled = rw e (k .filled) }
 
--- the progress with all of them
-module _ (index : ℕ) (p : Progress) {us queue : List Request} {kept : ℕ} (all : us ≡ queuedRequests p) (k : Kept index us queue kept) where
-  abbrev placed : List Request → ℕ → Progress
+-- the shared state with all of them
+module _ (index : ℕ) (p : SharedState) {us queue : List Request} {kept : ℕ} (all : us ≡ queuedRequests p) (k : Kept index us queue kept) where
+  abbrev placed : List Request → ℕ → SharedState
   placed rs n = record {
     queue = rs;
     queued = n;

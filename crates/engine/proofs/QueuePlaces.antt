@@ -8,30 +8,30 @@ use native.Mathlib.Omega.{arith}
 use lib.ListN.{length, length-append, length-set, length-replicate, replicate}
 use lib.Seq.{length-take-le, take-append-seam, take-suc-set}
 use Rattle.clocks.specs.declared.clocks.ScheduledEvent.{ScheduledEvent}
-use Rattle.clocks.proofs.Cases.{either-way}
+use Rattle.hazards.proofs.Cases.{by-test}
 use Rattle.engine.specs.Queue.{keepIf, without, countFor}
 use Rattle.engine.specs.State.{emptyRequest, queuedRequests, withQueue, withRequest}
 use Rattle.engine.specs.Execution.{isWithdrawn, withdraw}
 use Rattle.engine.specs.declared.state.ClockSlot.{ClockSlot}
-use Rattle.engine.specs.declared.state.Progress.{Progress}
+use Rattle.engine.specs.declared.state.SharedState.{SharedState}
 use Rattle.engine.specs.declared.state.Request.{Request}
 use Rattle.engine.proofs.RequestLists.{notFor}
-use Rattle.engine.proofs.Good.{namesRequest, GoodQueue}
+use Rattle.engine.proofs.SoundState.{namesRequest, SoundQueue}
 use Rattle.engine.proofs.RequestCounts.{OneFor, one-for, none-for, keep-short}
 use Rattle.engine.proofs.DistinctIndices.{in-there}
-use Rattle.engine.proofs.GoodQueues.{request-of, without-one, at-most-16, unnamed-none}
+use Rattle.engine.proofs.SoundQueues.{request-of, without-one, at-most-16, unnamed-none}
 
 -- the requests lie within the sixteen places
-pub record Placed (p : Progress) : Type 0 where
+pub record Placed (p : SharedState) : Type 0 where
   pub places : length (p .queue) ≡ 16
   pub queued : p .queued ≤ 16
 
-pub queued-length : (p : Progress) → Placed p → length (queuedRequests p) ≡ p .queued
+pub queued-length : (p : SharedState) → Placed p → length (queuedRequests p) ≡ p .queued
 queued-length p h = length-take-le (p .queued) (p .queue) (let a = h .places in let b = h .queued in omega arith)
 
 -- ---- other requests
 
-module _ (p : Progress) (rs : List Request) where
+module _ (p : SharedState) (rs : List Request) where
   pub with-queue-placed : length rs ≤ 16 → Placed (withQueue p rs)
   with-queue-placed h = record {
     places =
@@ -46,7 +46,7 @@ module _ (p : Progress) (rs : List Request) where
 
 -- ---- one more
 
-module _ (p : Progress) (r : Request) (h : Placed p) (free : p .queued < 16) where
+module _ (p : SharedState) (r : Request) (h : Placed p) (free : p .queued < 16) where
   pub with-request-placed : Placed (withRequest p r)
   with-request-placed = record { places = length-set (p .queue) (p .queued) r ∙ h .places; queued = omega arith }
 
@@ -56,13 +56,13 @@ module _ (p : Progress) (r : Request) (h : Placed p) (free : p .queued < 16) whe
 -- ---- the request that a present clock names is withdrawn
 
 -- the clock i's event e is withdrawn: whether a request was there for it, as the answer says, and what is left
-pub record Withdrawn (p : Progress) (i : ℕ) (e : ScheduledEvent) : Type 0 where
+pub record Withdrawn (p : SharedState) (i : ℕ) (e : ScheduledEvent) : Type 0 where
   pub was : countFor i (queuedRequests p) ≡ cond (isWithdrawn p e) 1 0
   pub answered : cond (isWithdrawn p e) (keepIf (notFor i) (queuedRequests p)) (queuedRequests p) ≡ keepIf (notFor i) (queuedRequests p)
   pub left : queuedRequests (withdraw p e) ≡ keepIf (notFor i) (queuedRequests p)
   pub placed : Placed (withdraw p e)
 
-module _ (slots : ℕ → ClockSlot) (p : Progress) (h : Placed p) (g : GoodQueue slots (p .«request_count») (queuedRequests p))
+module _ (slots : ℕ → ClockSlot) (p : SharedState) (h : Placed p) (g : SoundQueue slots (p .«request_count») (queuedRequests p))
     (i : ℕ) (present : slots i .present ≡ true) where
   abbrev named : ScheduledEvent
   named = slots i .clock .«scheduled_event_id»
@@ -91,7 +91,7 @@ module _ (slots : ℕ → ClockSlot) (p : Progress) (h : Placed p) (g : GoodQueu
       one-named (one-for i q (rw (g .own i, names) (omega arith)))
 
   pub withdrawn : Withdrawn p i named
-  withdrawn = either-way (named .present) taken kept
+  withdrawn = by-test (named .present) taken kept
     where
       taken : named .present ≡ true → Withdrawn p i named
       taken e =

@@ -13,30 +13,31 @@ use lib.Dec.{eqb, ltb, leb}
 use lib.ListN.{length, take, drop, length-drop, drop-of-length-le}
 use lib.Seq.{length-take-le}
 use Rattle.hazards.specs.declared.answers.Answer.{Answer}
-use Rattle.clocks.proofs.Cases.{either-way}
+use Rattle.hazards.proofs.Cases.{by-test}
 use Rattle.engine.specs.Commands as commands
 use Rattle.engine.specs.Commands.{widthOf}
-use Rattle.engine.specs.State.{slotAt, withSlot, emptySlot, openedState}
-use Rattle.engine.specs.Journal.{Bytes, Engine, rejected, performed, apply, code, cut, classify, commandAt, widthAfter}
-use Rattle.engine.specs.Journal.{Replayed, fails, ends, replayFrom, replayAll}
+use Rattle.engine.specs.State.{slotAt, withSlot, emptySlot}
+use Rattle.engine.specs.Opening.{openedState}
+use Rattle.engine.specs.Engine.{Bytes, Engine, rejected, performed, carryOut, code, cut, classify}
 use Rattle.engine.specs.Execution.{OnSlot, refused, done, performOn, target, perform}
-use Rattle.engine.specs.ExecutionCode.{onSlotOf}
+use Rattle.engine.specs.ExecutionInternals.{onSlotOf}
 use Rattle.engine.specs.Validation.{validState}
 use Rattle.engine.specs.Instance.{engineOf}
-use Rattle.engine.specs.ReplayCode.{wholeWidth, noFront, frontCommand, replayedOf}
+use Rattle.engine.specs.ReplayInternals.{wholeWidth, noFront, frontCommand, replayEndOf}
+use Rattle.engine.specs.ReplayInternals.{commandAt, widthAfter, ReplayEnd, fails, ends, replayFrom, replayAll}
 use Rattle.engine.specs.declared.replay.FrontCommand.{FrontCommand}
 use Rattle.engine.specs.declared.replay.Replay.{Replay}
 use Rattle.engine.specs.declared.execution.SlotOutcome.{SlotOutcome}
 use Rattle.engine.specs.declared.state.ClockSlot.{ClockSlot}
-use Rattle.engine.specs.declared.state.Progress.{Progress}
+use Rattle.engine.specs.declared.state.SharedState.{SharedState}
 use Rattle.engine.specs.declared.state.EngineState.{EngineState}
-use Rattle.engine.proofs.Good.{Good}
+use Rattle.engine.proofs.SoundState.{SoundState}
 use Rattle.engine.proofs.CommandLists.{Whole}
 use Rattle.engine.proofs.Asking.{asks-no-command, asks-part, asks-undo, asks-command, replay-fails, replay-turn}
 use Rattle.engine.proofs.Replays.{cut-whole, replay-end}
 use Rattle.engine.proofs.JournalBytes.{restOf, partOf, part-all, part-of}
-use Rattle.engine.proofs.GoodKept.{engine-sound}
-use Rattle.engine.proofs.GoodValid.{good-valid}
+use Rattle.engine.proofs.SoundKept.{engine-sound}
+use Rattle.engine.proofs.SoundValid.{sound-state-valid}
 use Rattle.engine.proofs.PerformedTargets.{target-below}
 use Rattle.engine.proofs.SlotLaws.{stored-rejected, rejects, performs, put-back}
 
@@ -91,16 +92,16 @@ module _ (i : Bytes) (h : 0 < length i) where
       go true false e₁ true e₂ q = record { width = refl; fits = leb-true _ _ e₂; other = eqb-false _ _ e₁ }
       go true false e₁ false e₂ q = absurd (omega arith)
 
-  pub no-front : (stream : List ℕ) (n : ℕ) (s : EngineState) → Good stream n s → wholeWidth i ≡ 0
+  pub no-front : (stream : List ℕ) (n : ℕ) (s : EngineState) → SoundState stream n s → wholeWidth i ≡ 0
       → commandAt (engineOf stream n) s (classify (engineOf stream n) s i) ≡ none
   unfolding wholeWidth
   no-front stream n s g e =
-      either-way (eqb (code i) commands.undo)
+      by-test (eqb (code i) commands.undo)
       (λ d.
       let u = undo-wide (eqb-true _ _ d) in
       ap (commandAt E s) (asks-undo E s i v h (omega arith) (omega arith) (eqb-true _ _ d)))
       (λ d.
-      either-way (leb (widthOf (code i)) (length i))
+      by-test (leb (widthOf (code i)) (length i))
       (λ f.
       let w : widthOf (code i) ≡ 0 = rw (lt-ltb 0 (length i) h, d, f) at e in
       ap (commandAt E s) (asks-no-command E s i v h (omega arith)))
@@ -110,16 +111,16 @@ module _ (i : Bytes) (h : 0 < length i) where
       E = engineOf stream n
 
       v : validState stream n s ≡ true
-      v = good-valid s stream n g
+      v = sound-state-valid s stream n g
 
 -- a replay in the code that failed
-pub is-failed : (stream : List ℕ) (n : ℕ) (r : Replay) {x : Replayed (engineOf stream n)} → r .ok ≡ false → fails ≡ x
-    → replayedOf stream n r ≡ x
+pub is-failed : (stream : List ℕ) (n : ℕ) (r : Replay) {x : ReplayEnd (engineOf stream n)} → r .ok ≡ false → fails ≡ x
+    → replayEndOf stream n r ≡ x
 is-failed stream n r e q = rw e q
 
 -- ---- one turn
 
-module _ (stream : List ℕ) (n : ℕ) (s : EngineState) (g : Good stream n s) (i : Bytes) (h : 0 < length i) (w : ℕ)
+module _ (stream : List ℕ) (n : ℕ) (s : EngineState) (g : SoundState stream n s) (i : Bytes) (h : 0 < length i) (w : ℕ)
     (e : w ≡ wholeWidth i) (pos : 0 < w) where
   abbrev c : Bytes
   c = take w i
@@ -145,8 +146,8 @@ module _ (stream : List ℕ) (n : ℕ) (s : EngineState) (g : Good stream n s) (
   pub front-whole : Whole (engineOf stream n) c
   front-whole = subst (Whole (engineOf stream n)) is-cut (cut-whole (engineOf stream n) i wide long (f .other))
 
-  asks : classify (engineOf stream n) s i ≡ apply c
-  asks = asks-command (engineOf stream n) s i (good-valid s stream n g) h wide long (f .other) ∙ ap apply is-cut
+  asks : classify (engineOf stream n) s i ≡ carryOut c
+  asks = asks-command (engineOf stream n) s i (sound-state-valid s stream n g) h wide long (f .other) ∙ ap carryOut is-cut
 
   -- by what the command does
   pub turn-rejects : (number : ℕ) → perform stream n s c ≡ rejected number
@@ -161,17 +162,17 @@ module _ (stream : List ℕ) (n : ℕ) (s : EngineState) (g : Good stream n s) (
       ∙ ap (λ (k : ℕ). some (t, k)) command-length
 
   -- a clock past the sixteen places is refused
-  pub turn-past : 15 < target (s .progress) c → commandAt (engineOf stream n) s (classify (engineOf stream n) s i) ≡ none
-  turn-past past = go (performOn stream n (slotAt s (target (s .progress) c)) (s .progress) c) refl
+  pub turn-past : 15 < target (s .shared) c → commandAt (engineOf stream n) s (classify (engineOf stream n) s i) ≡ none
+  turn-past past = go (performOn stream n (slotAt s (target (s .shared) c)) (s .shared) c) refl
     where
-      go : (d : OnSlot) → performOn stream n (slotAt s (target (s .progress) c)) (s .progress) c ≡ d
+      go : (d : OnSlot) → performOn stream n (slotAt s (target (s .shared) c)) (s .shared) c ≡ d
           → commandAt (engineOf stream n) s (classify (engineOf stream n) s i) ≡ none
       go (refused number) q = turn-rejects number (stored-rejected stream n s c number q)
       go (done slot p a) q = let b = target-below stream n s c g front-whole slot p a q in absurd (omega arith)
 
 -- ---- the command at the front with its clock
 
-module _ (p : Progress) (i : Bytes) where
+module _ (p : SharedState) (i : Bytes) where
   abbrev clockAt : ℕ → ℕ
   clockAt w = target p (take w i)
 
@@ -202,13 +203,13 @@ module _ (p : Progress) (i : Bytes) where
 
   front-way : FrontWay (frontCommand p i)
   front-way =
-      either-way (eqb (wholeWidth i) 0)
+      by-test (eqb (wholeWidth i) 0)
       (λ z.
       subst FrontWay (sym (front-none (wholeWidth i) refl (eqb-true _ _ z)))
       ((λ h. absurd (omega arith)), (λ h. inl (eqb-true _ _ z))))
       (λ z.
       let pos : 0 < wholeWidth i = omega (arith, eqb-false (wholeWidth i) 0 z) in
-      either-way (ltb 15 (clockAt (wholeWidth i)))
+      by-test (ltb 15 (clockAt (wholeWidth i)))
       (λ l.
       let k : 15 < clockAt (wholeWidth i) = ltb-true _ _ l in
       subst FrontWay (sym (front-past (wholeWidth i) refl (eqb-false _ _ z) k)) ((λ h. absurd (omega arith)), (λ h. inr (pos, k))))
@@ -224,25 +225,25 @@ module _ (stream : List ℕ) (n : ℕ) (bytes : Bytes) where
   E = engineOf stream n
 
   -- what is left to replay
-  abbrev pub replayRest : EngineState → EngineState → ℕ → ℕ → Replayed E
+  abbrev pub replayRest : EngineState → EngineState → ℕ → ℕ → ReplayEnd E
   replayRest s before last at = replayFrom E (length bytes - at) s before last at (drop at bytes)
 
-  pub replay-begins : replayRest openedState (withSlot openedState 0 emptySlot (openedState .progress)) 0 0 ≡ replayAll E bytes
+  pub replay-begins : replayRest openedState (withSlot openedState 0 emptySlot (openedState .shared)) 0 0 ≡ replayAll E bytes
   unfolding replayAll openedState
   replay-begins = rw sub-zero
 
   pub replay-ends : (s before : EngineState) (last at : ℕ) → length bytes ≤ at → replayRest s before last at ≡ ends s before last
   replay-ends s before last at h = rw (drop-of-length-le bytes h) (replay-end E (length bytes - at) s before last at)
 
-  module _ (s : EngineState) (g : Good stream n s) (at : ℕ) (l : at < length bytes) (f : FrontCommand)
-      (e : f ≡ frontCommand (s .progress) (restOf bytes at)) where
+  module _ (s : EngineState) (g : SoundState stream n s) (at : ℕ) (l : at < length bytes) (f : FrontCommand)
+      (e : f ≡ frontCommand (s .shared) (restOf bytes at)) where
     rest-pos : 0 < length (drop at bytes)
     rest-pos = omega (arith, length-drop at bytes)
 
-    way : FrontWay (s .progress) (drop at bytes) f
+    way : FrontWay (s .shared) (drop at bytes) f
     way =
-        subst (FrontWay (s .progress) (drop at bytes)) (sym (e ∙ ap (frontCommand (s .progress)) (part-all bytes at)))
-        (front-way (s .progress) (drop at bytes))
+        subst (FrontWay (s .shared) (drop at bytes)) (sym (e ∙ ap (frontCommand (s .shared)) (part-all bytes at)))
+        (front-way (s .shared) (drop at bytes))
 
     pub no-command : (before : EngineState) (last : ℕ) → f .width ≡ 0 → replayRest s before last at ≡ fails
     no-command before last z =
@@ -254,7 +255,7 @@ module _ (stream : List ℕ) (n : ℕ) (bytes : Bytes) where
       abbrev front-bytes : Bytes
       front-bytes = take (f .width) (drop at bytes)
 
-      pub command-here : Here (s .progress) (drop at bytes) f
+      pub command-here : Here (s .shared) (drop at bytes) f
       command-here = way .0 pos
 
       pub command-fits : at + f .width ≤ length bytes
@@ -263,9 +264,9 @@ module _ (stream : List ℕ) (n : ℕ) (bytes : Bytes) where
 
       -- the outcome on the slot of its clock
       module _ (o : SlotOutcome) (old : ClockSlot) (there : old ≡ slotAt s (f .clock))
-          (did : onSlotOf o ≡ performOn stream n old (s .progress) (partOf bytes at (f .width))) where
-        does : onSlotOf o ≡ performOn stream n old (s .progress) front-bytes
-        does = did ∙ ap (performOn stream n old (s .progress)) (part-of bytes at (f .width))
+          (did : onSlotOf o ≡ performOn stream n old (s .shared) (partOf bytes at (f .width))) where
+        does : onSlotOf o ≡ performOn stream n old (s .shared) front-bytes
+        does = did ∙ ap (performOn stream n old (s .shared)) (part-of bytes at (f .width))
 
         pub is-refused : (before : EngineState) (last : ℕ) → (o .number ≡ 0 → ⊥) → replayRest s before last at ≡ fails
         is-refused before last z =
@@ -275,22 +276,22 @@ module _ (stream : List ℕ) (n : ℕ) (bytes : Bytes) where
 
         module _ (z : o .number ≡ 0) where
           abbrev next : EngineState
-          next = withSlot s (f .clock) (o .slot) (o .progress)
+          next = withSlot s (f .clock) (o .slot) (o .shared)
 
           did-perform : perform stream n s front-bytes ≡ performed next (o .answer)
           did-perform = performs stream n s front-bytes o (f .clock) (command-here .clock) old there does z
 
-          pub stays-good : Good stream n next
-          stays-good =
+          pub stays-sound : SoundState stream n next
+          stays-sound =
               engine-sound stream n .keeps s next front-bytes (o .answer)
               (front-whole stream n s g (drop at bytes) rest-pos (f .width) (command-here .width) pos) g did-perform
 
           pub replays-on : (before : EngineState) (last : ℕ)
-              → replayRest s before last at ≡ replayRest next (withSlot next (f .clock) old (s .progress)) at (at + f .width)
+              → replayRest s before last at ≡ replayRest next (withSlot next (f .clock) old (s .shared)) at (at + f .width)
           replays-on before last =
               replay-turn E bytes s before last at (next, f .width) l
               (turn-performs stream n s g (drop at bytes) rest-pos (f .width) (command-here .width) pos next (o .answer) did-perform)
               ∙ ap (λ (b : EngineState). replayRest next b at (at + f .width))
               (sym
-              (ap (λ (k : ClockSlot). withSlot next (f .clock) k (s .progress)) there
-              ∙ put-back s (f .clock) (o .slot) (o .progress)))
+              (ap (λ (k : ClockSlot). withSlot next (f .clock) k (s .shared)) there
+              ∙ put-back s (f .clock) (o .slot) (o .shared)))

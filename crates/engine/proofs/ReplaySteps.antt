@@ -6,19 +6,19 @@ use mathlib.Core.List.{[], _∷_}
 use mathlib.Core.Option.{Option, none, some}
 use lib.ListN.{length, drop, length-drop, drop-of-length-le}
 use lib.Seq.{length-take-le, drop-drop}
-use Rattle.engine.specs.Journal.{Bytes, Performed, rejected, performed, Engine, Asked, reject, undoLast, apply, code}
-use Rattle.engine.specs.Journal.{cut, classify, widthAfter, commandAt, Replayed, fails, ends, replayFrom, replayAll}
+use Rattle.engine.specs.Engine.{Bytes, Performed, rejected, performed, Engine, Asked, reject, undoLast, carryOut, code, cut, classify}
+use Rattle.engine.specs.ReplayInternals.{widthAfter, commandAt, ReplayEnd, fails, ends, replayFrom, replayAll}
 use Rattle.engine.proofs.Replays.{Asks, asks, replay-end}
 
 module _ (E : Engine) where
-  fails-ends : (s before : E .State) (last : ℕ) → _≡_ {A = Replayed E} fails (ends s before last) → ⊥
+  fails-ends : (s before : E .State) (last : ℕ) → _≡_ {A = ReplayEnd E} fails (ends s before last) → ⊥
   fails-ends s before last e = let z : _≡_ {A = ℕ} 0 1 = cc in omega arith
 
-  ends-last : (s before t prior : E .State) (last l : ℕ) → _≡_ {A = Replayed E} (ends s before last) (ends t prior l) → last ≡ l
+  ends-last : (s before t prior : E .State) (last l : ℕ) → _≡_ {A = ReplayEnd E} (ends s before last) (ends t prior l) → last ≡ l
   ends-last s before t prior last l e = cc
 
   -- the command at the front, from s at the place `at`
-  pub record Front (s : E .State) (at : ℕ) (i : Bytes) (r : Replayed E) : Type 0 where
+  pub record Front (s : E .State) (at : ℕ) (i : Bytes) (r : ReplayEnd E) : Type 0 where
     pub turns : ℕ
     pub next : E .State
     pub wide : 0 < E .width (code i)
@@ -34,7 +34,7 @@ module _ (E : Engine) where
     where
       Goes : Option (E .State × ℕ) → Type 0
       Goes o =
-          _≡_ {A = Replayed E} (elim o [ none ↦ fails | some p ↦ replayFrom E k (p .0) s at (at + p .1) (drop (p .1) (b ∷ bs)) ])
+          _≡_ {A = ReplayEnd E} (elim o [ none ↦ fails | some p ↦ replayFrom E k (p .0) s at (at + p .1) (drop (p .1) (b ∷ bs)) ])
           (ends t prior l)
 
       by-did : (c : Bytes) → Asks E s (b ∷ bs) c → (d : Performed (E .State) (E .Answer)) → Goes (widthAfter E c d)
@@ -55,17 +55,17 @@ module _ (E : Engine) where
       by-ask : (q : Asked) → classify E s (b ∷ bs) ≡ q → Goes (commandAt E s q) → Front s at (b ∷ bs) (ends t prior l)
       by-ask (reject m) w e = absurd (fails-ends t prior l e)
       by-ask undoLast w e = absurd (fails-ends t prior l e)
-      by-ask (apply c) w e = by-did c (asks E s (b ∷ bs) c w) (E .perform s c) e
+      by-ask (carryOut c) w e = by-did c (asks E s (b ∷ bs) c w) (E .perform s c) e
 
   -- what is left of a replay at the place `at`, after the command at the place `last`
-  pub record Rest (bytes : Bytes) (r : Replayed E) (last at : ℕ) : Type 0 where
+  pub record Rest (bytes : Bytes) (r : ReplayEnd E) (last at : ℕ) : Type 0 where
     pub turns : ℕ
     pub state : E .State
     pub prior : E .State
     pub goes : replayFrom E turns state prior last at (drop at bytes) ≡ r
 
   module _ (bytes : Bytes) (t prior : E .State) (l : ℕ) where
-    abbrev ending : Replayed E
+    abbrev ending : ReplayEnd E
     ending = ends t prior l
 
     pub rest-begins : replayAll E bytes ≡ ending → Rest bytes ending 0 0

@@ -1,40 +1,39 @@
--- Whole commands and their replay, over any engine: what asks for one, the state after them, and the bytes of them replayed to the same
--- state.
-use Prim.Native.Nat.{ℕ, zero, suc, _+_, _≤_, _<_}
-use native.Mathlib.Nat.{not-suc-le-zero}
+-- Whole commands and their replay, over any engine: what asks for one, and the state after them.
+use Prim.Native.Nat.{ℕ, zero, suc, _≤_, _<_}
 use native.Mathlib.Omega.{arith}
 use mathlib.Core.Path.{_≡_, refl, sym, ap, _∙_, subst}
 use mathlib.Core.Bool.{Bool, true, false, cond}
 use mathlib.Core.List.{List, [], _∷_, _++_}
 use mathlib.Core.Option.{Option, none, some}
-use lib.ListN.{length, take, length-append, List·getD-append}
-use lib.Seq.{take-at, drop-at, take-length, length-take-le, getD-take}
+use lib.ListN.{length, take}
+use lib.Seq.{take-length, length-take-le, getD-take}
 use lib.Dec.{ltb, leb, eqb}
 use borrow.Author.Tests.{ltb-true, leb-true, eqb-false, lt-ltb, le-leb, ne-eqb}
 use Rattle.hazards.specs.Refusals.{invalidState}
 use Rattle.engine.specs.Commands as commands
 use Rattle.engine.specs.Refusals.{cutShort, noCommand}
-use Rattle.engine.specs.Journal.{Bytes, Performed, rejected, performed, Engine, Asked, reject, undoLast, apply, code}
-use Rattle.engine.specs.Journal.{concat, init, cut, classify, widthAfter, commandAt}
-use Rattle.engine.specs.Journal.{ends, replayFrom}
-use Rattle.engine.proofs.CommandLists.{Whole, AllWhole, stateOf, afterOne, thenOne, replay}
+use Rattle.engine.specs.Engine.{Bytes, Performed, rejected, performed, Engine, Asked, reject, undoLast, carryOut, code, init, cut}
+use Rattle.engine.specs.Engine.{classify}
+use Rattle.engine.specs.Replay.{stateOf, afterOne, thenOne, replay}
+use Rattle.engine.specs.ReplayInternals.{ends, replayFrom}
+use Rattle.engine.proofs.CommandLists.{Whole, AllWhole}
 
-reject-apply : (n : ℕ) (c : Bytes) → reject n ≡ apply c → ⊥
-reject-apply n c e = let z : _≡_ {A = ℕ} 0 1 = cc in omega arith
+reject-carry-out : (n : ℕ) (c : Bytes) → reject n ≡ carryOut c → ⊥
+reject-carry-out n c e = let z : _≡_ {A = ℕ} 0 1 = cc in omega arith
 
-undo-last-apply : (c : Bytes) → undoLast ≡ apply c → ⊥
-undo-last-apply c e = let z : _≡_ {A = ℕ} 0 1 = cc in omega arith
+undo-last-carry-out : (c : Bytes) → undoLast ≡ carryOut c → ⊥
+undo-last-carry-out c e = let z : _≡_ {A = ℕ} 0 1 = cc in omega arith
 
 module _ (E : Engine) where
   -- the bytes i ask in s for the command c
   pub record Asks (s : E .State) (i c : Bytes) : Type 0 where
     pub ok : E .valid s ≡ true
-    pub cutting : apply (cut E i) ≡ apply c
+    pub cutting : carryOut (cut E i) ≡ carryOut c
     pub wide : 0 < E .width (code i)
     pub long : E .width (code i) ≤ length i
     pub other : code i ≡ commands.undo → ⊥
 
-  pub asks : (s : E .State) (i c : Bytes) → classify E s i ≡ apply c → Asks s i c
+  pub asks : (s : E .State) (i c : Bytes) → classify E s i ≡ carryOut c → Asks s i c
   unfolding classify
   asks s i c =
       go (E .valid s) refl (ltb 0 (length i)) refl (ltb 0 (E .width (code i))) refl (leb (E .width (code i)) (length i)) refl
@@ -42,14 +41,14 @@ module _ (E : Engine) where
     where
       go : (v : Bool) → E .valid s ≡ v → (l : Bool) → ltb 0 (length i) ≡ l → (w : Bool) → ltb 0 (E .width (code i)) ≡ w
           → (f : Bool) → leb (E .width (code i)) (length i) ≡ f → (u : Bool) → eqb (code i) commands.undo ≡ u
-          → cond v (cond l (cond w (cond f (cond u undoLast (apply (cut E i))) (reject cutShort)) (reject noCommand)) (reject cutShort))
-          (reject invalidState) ≡ apply c
+          → cond v (cond l (cond w (cond f (cond u undoLast (carryOut (cut E i))) (reject cutShort)) (reject noCommand)) (reject cutShort))
+          (reject invalidState) ≡ carryOut c
           → Asks s i c
-      go false ev l el w ew f ef u eu e = absurd (reject-apply invalidState c e)
-      go true ev false el w ew f ef u eu e = absurd (reject-apply cutShort c e)
-      go true ev true el false ew f ef u eu e = absurd (reject-apply noCommand c e)
-      go true ev true el true ew false ef u eu e = absurd (reject-apply cutShort c e)
-      go true ev true el true ew true ef true eu e = absurd (undo-last-apply c e)
+      go false ev l el w ew f ef u eu e = absurd (reject-carry-out invalidState c e)
+      go true ev false el w ew f ef u eu e = absurd (reject-carry-out cutShort c e)
+      go true ev true el false ew f ef u eu e = absurd (reject-carry-out noCommand c e)
+      go true ev true el true ew false ef u eu e = absurd (reject-carry-out cutShort c e)
+      go true ev true el true ew true ef true eu e = absurd (undo-last-carry-out c e)
       go true ev true el true ew true ef false eu e =
           record {
             ok = ev;
@@ -74,7 +73,7 @@ module _ (E : Engine) where
   cut-self c w = ap (λ (k : ℕ). take k c) (sym (w .len)) ∙ take-length c
 
   -- a whole command asks for itself
-  pub classify-whole : (s : E .State) (c : Bytes) → E .valid s ≡ true → Whole E c → classify E s c ≡ apply c
+  pub classify-whole : (s : E .State) (c : Bytes) → E .valid s ≡ true → Whole E c → classify E s c ≡ carryOut c
   unfolding classify
   classify-whole s c v w =
       let h₁ : 0 < E .width (code c) = subst (λ (k : ℕ). 0 < k) (w .len) (w .pos) in
@@ -102,7 +101,7 @@ module _ (E : Engine) where
   replay-append o [] ds = refl
   replay-append o (c ∷ cs) ds = replay-append (thenOne E o c) cs ds
 
-  replay-none : (cs : List Bytes) → replay E none cs ≡ none
+  pub replay-none : (cs : List Bytes) → replay E none cs ≡ none
   unfolding replay
   replay-none [] = refl
   replay-none (c ∷ cs) = replay-none cs
@@ -111,7 +110,7 @@ module _ (E : Engine) where
   none-some a e = let z : _≡_ {A = ℕ} 0 1 = cc in omega arith
 
   pub replay-one : (o : Option (E .State)) (cs : List Bytes) (c : Bytes) (s t : E .State) (a : E .Answer) → replay E o cs ≡ some s
-      → classify E s c ≡ apply c → E .perform s c ≡ performed t a → replay E o (cs ++ (c ∷ [])) ≡ some t
+      → classify E s c ≡ carryOut c → E .perform s c ≡ performed t a → replay E o (cs ++ (c ∷ [])) ≡ some t
   unfolding replay
   replay-one o cs c s t a r k e =
       replay-append o cs (c ∷ []) ∙ ap (λ (x : Option (E .State)). thenOne E x c) r ∙ ap (afterOne E s) k ∙ ap (stateOf E) e
@@ -120,7 +119,7 @@ module _ (E : Engine) where
   pub record First (s : E .State) (c : Bytes) (cs : List Bytes) (v : E .State) : Type 0 where
     pub next : E .State
     pub answer : E .Answer
-    pub asked : classify E s c ≡ apply c
+    pub asked : classify E s c ≡ carryOut c
     pub did : E .perform s c ≡ performed next answer
     pub rest : replay E (some next) cs ≡ some v
 
@@ -128,7 +127,7 @@ module _ (E : Engine) where
   unfolding replay
   first s c cs v w = by-ask (classify E s c) refl
     where
-      by-did : (d : Performed (E .State) (E .Answer)) → classify E s c ≡ apply c → E .perform s c ≡ d → replay E (stateOf E d) cs ≡ some v
+      by-did : (d : Performed (E .State) (E .Answer)) → classify E s c ≡ carryOut c → E .perform s c ≡ d → replay E (stateOf E d) cs ≡ some v
           → First s c cs v
       by-did (rejected m) k q e = absurd (none-some v (sym (replay-none cs) ∙ e))
       by-did (performed t a) k q e = record { next = t; answer = a; asked = k; did = q; rest = e }
@@ -136,90 +135,22 @@ module _ (E : Engine) where
       by-ask : (k : Asked) → classify E s c ≡ k → replay E (afterOne E s k) cs ≡ some v → First s c cs v
       by-ask (reject m) q e = absurd (none-some v (sym (replay-none cs) ∙ e))
       by-ask undoLast q e = absurd (none-some v (sym (replay-none cs) ∙ e))
-      by-ask (apply d) q e =
+      by-ask (carryOut d) q e =
           let ed : c ≡ d = sym (cut-self c w) ∙ cc (asks s c d q .cutting) in
-          by-did (E .perform s c) (q ∙ ap apply (sym ed)) refl
+          by-did (E .perform s c) (q ∙ ap carryOut (sym ed)) refl
           (subst (λ (x : Bytes). replay E (stateOf E (E .perform s x)) cs ≡ some v) (sym ed) e)
-
-  -- a whole command in front of other bytes is what they ask for
-  classify-front : (s : E .State) (c rest : Bytes) → E .valid s ≡ true → Whole E c → classify E s (c ++ rest) ≡ apply c
-  unfolding classify
-  classify-front s c rest v w =
-      let p : 0 < length c = w .pos in
-      let l : length (c ++ rest) ≡ length c + length rest = length-append c rest in
-      let e : code (c ++ rest) ≡ code c = List·getD-append c rest 0 0 p in
-      let k : length c ≡ E .width (code c) = w .len in
-      let h₁ : 0 < E .width (code c) = omega arith in
-      let h₂ : E .width (code c) ≤ length (c ++ rest) = omega arith in
-      let h₃ : 0 < length (c ++ rest) = omega arith in
-      let h₄ : take (E .width (code c)) (c ++ rest) ≡ c = take-at c rest (E .width (code c)) k in
-      simp (
-        v,
-        e,
-        lt-ltb 0 (length (c ++ rest)) h₃,
-        lt-ltb 0 (E .width (code c)) h₁,
-        le-leb (E .width (code c)) (length (c ++ rest)) h₂,
-        ne-eqb (code c) commands.undo (w .other),
-        h₄,
-      )
 
   pub replay-end : (k : ℕ) (s before : E .State) (last at : ℕ) → replayFrom E k s before last at [] ≡ ends s before last
   unfolding replayFrom
   replay-end zero s before last at = refl
   replay-end (suc k) s before last at = refl
 
-  -- one command of a replay of bytes
-  replay-command : (k : ℕ) (s before : E .State) (last at : ℕ) (c rest : Bytes) (t : E .State) (a : E .Answer) → Whole E c
-      → classify E s c ≡ apply c → E .perform s c ≡ performed t a
-      → replayFrom E (suc k) s before last at (c ++ rest) ≡ replayFrom E k t s at (at + length c) rest
-  unfolding replayFrom
-  replay-command k s before last at [] rest t a w q e = absurd (not-suc-le-zero (w .pos))
-  replay-command k s before last at (b ∷ bs) rest t a w q e =
-      let h : commandAt E s (classify E s ((b ∷ bs) ++ rest)) ≡ some (t, length (b ∷ bs)) =
-      ap (commandAt E s) (classify-front s (b ∷ bs) rest (asks s (b ∷ bs) (b ∷ bs) q .ok) w) ∙ ap (widthAfter E (b ∷ bs)) e in
-      rw (h, replayFrom) (ap (replayFrom E k t s at (at + length (b ∷ bs))) (drop-at bs rest (length bs) refl))
-
-  -- the bytes of commands that a replay runs are replayed to the state where it ends, with the state before the last
-  pub record ReplaysTo (k : ℕ) (s before : E .State) (last at : ℕ) (cs : List Bytes) (v : E .State) : Type 0 where
-    pub rest : E .State
-    pub scans : replayFrom E k s before last at (concat cs) ≡ ends v rest (at + length (concat (init cs)))
-    pub ran : replay E (some s) (init cs) ≡ some rest
-
-  pub replays-to : (k : ℕ) (s before : E .State) (last at : ℕ) (cs : List Bytes) (v : E .State) → length (concat cs) ≤ k
-      → 0 < length (concat cs)
-      → AllWhole E cs → replay E (some s) cs ≡ some v → ReplaysTo k s before last at cs v
-  unfolding replay replayFrom
-  replays-to k s before last at [] v l p h e = absurd (not-suc-le-zero p)
-  replays-to zero s before last at (c ∷ cs) v l p h e = absurd (omega arith)
-  replays-to (suc k) s before last at (c ∷ []) v l p h e =
-      let f : First s c [] v = first s c [] v (h .0) e in
-      let q : f .next ≡ v = cc (f .rest) in
-      let z : at ≡ at + 0 = omega arith in
-      record {
-        rest = s;
-        scans =
-            replay-command k s before last at c [] (f .next) (f .answer) (h .0) (f .asked) (f .did)
-            ∙ replay-end k (f .next) s at (at + length c)
-            ∙ cc;
-        ran = refl;
-      }
-  replays-to (suc k) s before last at (c ∷ d ∷ cs) v l p h e =
-      let f : First s c (d ∷ cs) v = first s c (d ∷ cs) v (h .0) e in
-      let n : length (c ++ concat (d ∷ cs)) ≡ length c + length (concat (d ∷ cs)) = length-append c (concat (d ∷ cs)) in
-      let m : length (d ++ concat cs) ≡ length d + length (concat cs) = length-append d (concat cs) in
-      let o : length (c ++ concat (init (d ∷ cs))) ≡ length c + length (concat (init (d ∷ cs))) = length-append c
-      (concat (init (d ∷ cs))) in
-      let l′ : length (concat (d ∷ cs)) ≤ k = omega (arith, h .0 .pos) in
-      let p′ : 0 < length (concat (d ∷ cs)) = omega (arith, h .1 .0 .pos) in
-      let r : ReplaysTo k (f .next) s at (at + length c) (d ∷ cs) v =
-      replays-to k (f .next) s at (at + length c) (d ∷ cs) v l′ p′ (h .1) (f .rest) in
-      let z : at + length c + length (concat (init (d ∷ cs))) ≡ at + length (concat (init (c ∷ d ∷ cs))) = omega arith in
-      record {
-        rest = r .rest;
-        scans =
-            replay-command k s before last at c (concat (d ∷ cs)) (f .next) (f .answer) (h .0) (f .asked) (f .did)
-            ∙ r .scans
-            ∙ ap (ends v (r .rest)) z;
-        ran =
-            ap (λ (x : Option (E .State)). replay E x (init (d ∷ cs))) (ap (afterOne E s) (f .asked) ∙ ap (stateOf E) (f .did)) ∙ r .ran;
-      }
+  -- where commands give a state, so do all but the last
+  pub replay-init : (o : Option (E .State)) (cs : List Bytes) (v : E .State) → replay E o cs ≡ some v
+      → (rest : E .State) × (replay E o (init cs) ≡ some rest)
+  unfolding replay
+  replay-init o [] v e = (v, e)
+  replay-init none (c ∷ []) v e = absurd (none-some v e)
+  replay-init (some s) (c ∷ []) v e = (s, refl)
+  replay-init none (c ∷ d ∷ cs) v e = replay-init none (d ∷ cs) v e
+  replay-init (some s) (c ∷ d ∷ cs) v e = replay-init (thenOne E (some s) c) (d ∷ cs) v e

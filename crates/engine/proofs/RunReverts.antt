@@ -1,5 +1,5 @@
--- An accepted command of a batch run that the next input, an UNDO, reverts: after both, what is left of the run goes on from the state and
--- the journal before it.
+-- An accepted command of a batch run that the next input, an UNDO, reverts: after both, what is left of the run goes on from the state
+-- and the journal before it.
 use mathlib.Core.Path.{_≡_, refl, sym, ap, _∙_}
 use mathlib.Core.Bool.{Bool, true, false, cond, _&&_}
 use Prim.Native.Nat.{ℕ, _+_, _*_, _<_, _≤_}
@@ -8,17 +8,18 @@ use borrow.Author.Tests.{eqb-true, leb-true, leb-false}
 use lib.Dec.{eqb, leb}
 use lib.ListN.{length, drop, length-drop, drop-of-length-le}
 use lib.Seq.{paste, length-paste}
-use Rattle.hazards.specs.Answers.{noEvent, withAnswer}
+use Rattle.hazards.specs.Answers.{answerWidth, noEvent, withAnswer}
 use Rattle.engine.specs.Commands as commands
 use Rattle.engine.specs.Commands.{widthOf}
 use Rattle.engine.specs.State.{slotAt, withSlot}
-use Rattle.engine.specs.Journal.{Bytes, code, undo}
+use Rattle.engine.specs.Engine.{Bytes, code}
+use Rattle.engine.specs.Replay.{undo}
 use Rattle.engine.specs.Execution.{performOn, target}
-use Rattle.engine.specs.ExecutionCode.{onSlotOf}
-use Rattle.engine.specs.Answers.{after, left}
+use Rattle.engine.specs.ExecutionInternals.{onSlotOf}
+use Rattle.engine.specs.Answers.{after, returned}
 use Rattle.engine.specs.Instance.{engineOf}
 use Rattle.engine.specs.Run.{Ran}
-use Rattle.engine.specs.RunCode.{isReverted, bothAnswered}
+use Rattle.engine.specs.RunInternals.{isReverted, bothAnswered}
 use Rattle.engine.specs.declared.execution.SlotOutcome.{SlotOutcome}
 use Rattle.engine.specs.declared.state.ClockSlot.{ClockSlot}
 use Rattle.engine.specs.declared.state.EngineState.{EngineState}
@@ -46,12 +47,15 @@ code-within bytes at e = go (leb (length bytes) at) refl
         absurd (omega (arith, none, e))
     go false l = leb-false (length bytes) at l
 
+abbrev twoAnswers : ℕ
+twoAnswers = answerWidth + answerWidth
+
 -- the next input is an UNDO
 reverted-code : (number : ℕ) (bytes : Bytes) (at : ℕ) (answers : Bytes) (place : ℕ)
     → isReverted number (restOf bytes at) answers place ≡ true → code (drop at bytes) ≡ commands.undo
 reverted-code number bytes at answers place r =
-    let p = both-true (eqb number 0) (eqb (code (restOf bytes at)) commands.undo && leb (place + 64) (length answers)) r in
-    let q = both-true (eqb (code (restOf bytes at)) commands.undo) (leb (place + 64) (length answers)) (p .1) in
+    let p = both-true (eqb number 0) (eqb (code (restOf bytes at)) commands.undo && leb (place + twoAnswers) (length answers)) r in
+    let q = both-true (eqb (code (restOf bytes at)) commands.undo) (leb (place + twoAnswers) (length answers)) (p .1) in
     ap code (sym (part-all bytes at)) ∙ eqb-true (code (restOf bytes at)) commands.undo (q .0)
 
 pub reverted-within : (number : ℕ) (bytes : Bytes) (at : ℕ) (answers : Bytes) (place : ℕ)
@@ -64,26 +68,27 @@ undo-wide i e = ap widthOf e
 
 module _ (bytes stream : Bytes) (n size : ℕ) (all : Ran) {j answers result : Bytes} {s : EngineState} {count at : ℕ}
     (x : Input bytes stream n size all j answers result s count at) (w : ℕ) (ew : w ≡ widthOf (code (drop at bytes)))
-    (u : code (drop at bytes) ≡ commands.undo → ⊥) (o : SlotOutcome) (t : ℕ) (named : t ≡ target (s .progress) (partOf bytes at w))
+    (u : code (drop at bytes) ≡ commands.undo → ⊥) (o : SlotOutcome) (t : ℕ) (named : t ≡ target (s .shared) (partOf bytes at w))
     (slot : ClockSlot) (there : t < 16 → slot ≡ slotAt s t)
-    (e : onSlotOf o ≡ performOn stream (length j) slot (s .progress) (partOf bytes at w)) where
+    (e : onSlotOf o ≡ performOn stream (length j) slot (s .shared) (partOf bytes at w)) where
   abbrev next : EngineState
-  next = withSlot s t (o .slot) (o .progress)
+  next = withSlot s t (o .slot) (o .shared)
 
   abbrev pasted : Bytes
-  pasted = paste j (s .progress .«applied_length») (partOf bytes at w) (length (partOf bytes at w))
+  pasted = paste j (s .shared .«applied_length») (partOf bytes at w) (length (partOf bytes at w))
 
   abbrev first : Bytes
-  first = withAnswer answers (32 * count) (o .answer)
+  first = withAnswer answers (answerWidth * count) (o .answer)
 
-  module _ (z : o .number ≡ 0) (after-it : code (drop (at + w) bytes) ≡ commands.undo) (space : 32 * count + 64 ≤ length answers) where
+  module _ (z : o .number ≡ 0) (after-it : code (drop (at + w) bytes) ≡ commands.undo)
+      (space : answerWidth * count + twoAnswers ≤ length answers) where
     pasted-length : length pasted ≡ n
     pasted-length =
         let fits = next-fits bytes stream n size all x w ew u o t named slot there e z in
         length-paste j _ (partOf bytes at w) _ fits (omega arith) ∙ x .running .same-journal
 
     first-length : length first ≡ length answers
-    first-length = answer-length answers (32 * count) (o .answer)
+    first-length = answer-length answers (answerWidth * count) (o .answer)
 
     undo-input : Input bytes stream n size all pasted first result next (count + 1) (at + w)
     undo-input =
@@ -93,7 +98,9 @@ module _ (bytes stream : Bytes) (n size : ℕ) (all : Ran) {j answers result : B
         record {
           running =
               next-performed bytes stream n size all x w ew u o t named slot there e
-              (sym (answer-copied (o .number) (o .answer) (s .progress .«applied_length») j answers (32 * count) (partOf bytes at w) z))
+              (sym
+              (answer-copied (o .number) (o .answer) (s .shared .«applied_length») j answers (answerWidth * count)
+              (partOf bytes at w) z))
               pasted-length (first-length ∙ x .running .same-answers) z;
           more = within;
           space = omega (arith, first-length, space);
@@ -101,7 +108,7 @@ module _ (bytes stream : Bytes) (n size : ℕ) (all : Ran) {j answers result : B
           long = omega (arith, one, l, within);
         }
 
-    undone : left (onlyNumber 0 s) j ≡ after stream (length pasted) (undo (engineOf stream (length pasted)) next pasted)
+    undone : returned (onlyNumber 0 s) j ≡ after stream (length pasted) (undo (engineOf stream (length pasted)) next pasted)
     undone =
         sym
         (ap (λ (m : ℕ). after stream m (undo (engineOf stream m) next pasted)) pasted-length
@@ -109,19 +116,19 @@ module _ (bytes stream : Bytes) (n size : ℕ) (all : Ran) {j answers result : B
         (reached-back stream n s j (x .running .reached) (drop at bytes) (o .answer) next pasted
         (input-performs bytes stream n size all x w ew u o t named slot there e z)))
 
-    reverted-turn : {written : Bytes} → written ≡ bothAnswered (o .answer) answers (32 * count) → length written ≡ size
+    reverted-turn : {written : Bytes} → written ≡ bothAnswered (o .answer) answers (answerWidth * count) → length written ≡ size
         → Running bytes stream n size all j written result s (count + 1 + 1) (at + w + 1)
     reverted-turn q lw =
-        let place : 32 * count + 32 ≡ 32 * (count + 1) = omega arith in
+        let place : answerWidth * count + answerWidth ≡ answerWidth * (count + 1) = omega arith in
         next-undo bytes stream n size all undo-input 1 (sym (undo-wide (drop (at + w) bytes) after-it)) after-it (onlyNumber 0 s) undone
         (q ∙ ap (λ (k : ℕ). withAnswer first k (noEvent 0)) place) (x .running .same-journal) lw
 
-  pub next-reverted : isReverted (o .number) (restOf bytes (at + w)) answers (32 * count) ≡ true → {written : Bytes}
-      → written ≡ bothAnswered (o .answer) answers (32 * count) → length written ≡ size
+  pub next-reverted : isReverted (o .number) (restOf bytes (at + w)) answers (answerWidth * count) ≡ true → {written : Bytes}
+      → written ≡ bothAnswered (o .answer) answers (answerWidth * count) → length written ≡ size
       → Running bytes stream n size all j written result s (count + 1 + 1) (at + w + 1)
   next-reverted r q lw =
       let i : Bytes = restOf bytes (at + w) in
-      let room : Bool = leb (32 * count + 64) (length answers) in
+      let room : Bool = leb (answerWidth * count + twoAnswers) (length answers) in
       let p = both-true (eqb (o .number) 0) (eqb (code i) commands.undo && room) r in
-      reverted-turn (eqb-true (o .number) 0 (p .0)) (reverted-code (o .number) bytes (at + w) answers (32 * count) r)
-      (leb-true (32 * count + 64) (length answers) (both-true (eqb (code i) commands.undo) room (p .1) .1)) q lw
+      reverted-turn (eqb-true (o .number) 0 (p .0)) (reverted-code (o .number) bytes (at + w) answers (answerWidth * count) r)
+      (leb-true (answerWidth * count + twoAnswers) (length answers) (both-true (eqb (code i) commands.undo) room (p .1) .1)) q lw

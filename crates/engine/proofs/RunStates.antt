@@ -1,25 +1,24 @@
--- The states that a batch run reaches: each is one of an engine in use, so it is good, and the replay of its applied commands ends in it.
-use mathlib.Core.Path.{_≡_, refl, sym, ap, _∙_, subst}
-use mathlib.Core.Bool.{Bool, true, false}
+-- The states that a batch run reaches: each is one of an engine in use, so it is sound, and the replay of its applied commands ends in it.
+use mathlib.Core.Path.{_≡_, subst}
 use mathlib.Core.List.{List, [], _∷_}
 use Prim.Native.Nat.{ℕ, _<_}
-use native.Mathlib.Omega.{arith}
-use borrow.Author.Tests.{ltb-true, ltb-false}
-use lib.Dec.{ltb}
 use lib.ListN.{length, replicate, take}
-use Rattle.engine.specs.State.{openedState}
-use Rattle.engine.specs.Journal.{Bytes, Engine, Outcome, reverted, answered, concat, init, ends, replayAll, cleared, undo, execute}
+use Rattle.engine.specs.Opening.{openedState}
+use Rattle.engine.specs.Engine.{Bytes, Engine, Outcome, reverted, completed, concat, init}
+use Rattle.engine.specs.Replay.{cleared, undo}
+use Rattle.engine.specs.Execute.{execute}
+use Rattle.engine.specs.ReplayInternals.{ends, replayAll}
 use Rattle.engine.specs.Sessions.{Session, appliedAfter, feed, feedAll, newSession}
 use Rattle.engine.specs.Instance.{engineOf}
 use Rattle.hazards.specs.declared.answers.Answer.{Answer}
 use Rattle.engine.specs.declared.state.EngineState.{EngineState}
-use Rattle.engine.proofs.Good.{Good}
-use Rattle.engine.proofs.Applied.{Inv, inv-open, inv-all, AppliedReplay, applied-replay, rest-counted, nothing-applied, reverts, taken-back}
+use Rattle.engine.proofs.SoundState.{SoundState}
+use Rattle.engine.proofs.Applied.{Inv, inv-open, inv-all, AppliedReplay, applied-replay, rest-counted, reverts, taken-back}
 use Rattle.engine.proofs.ComparisonLaws.{state-same}
-use Rattle.engine.proofs.Reached.{good-replay}
+use Rattle.engine.proofs.Reached.{sound-replay}
 use Rattle.engine.proofs.Replays.{replay-end}
 use Rattle.engine.proofs.EngineLaws.{engine-laws}
-use Rattle.engine.proofs.GoodKept.{engine-sound}
+use Rattle.engine.proofs.SoundKept.{engine-sound}
 
 module _ (stream : Bytes) (n : ℕ) where
   abbrev E : Engine
@@ -51,14 +50,14 @@ module _ (stream : Bytes) (n : ℕ) where
           inv = inv-all E n (engine-laws stream n) session (i ∷ []) (r .inv);
         })
 
-    pub reached-good : Good stream n s
-    reached-good =
-        good-replay E (Good stream n) (engine-sound stream n) openedState (r .applied) s (r .inv .whole) (r .inv .ran)
+    pub reached-sound : SoundState stream n s
+    reached-sound =
+        sound-replay E (SoundState stream n) (engine-sound stream n) openedState (r .applied) s (r .inv .whole) (r .inv .ran)
         (engine-sound stream n .opens)
 
     -- an accepted command that UNDO reverts at once
     pub reached-back : (i : Bytes) (a : Answer) (t : EngineState) (k : Bytes)
-        → execute E s j i ≡ record { reply = answered a; state = t; journal = k }
+        → execute E s j i ≡ record { reply = completed a; state = t; journal = k }
         → undo E t k ≡ record { reply = reverted; state = s; journal = j }
     reached-back i a t k e = taken-back E n (engine-laws stream n) state-same session i a t k (r .inv) e
 
@@ -66,19 +65,19 @@ module _ (stream : Bytes) (n : ℕ) where
     pub record Undone : Type 0 where
       pub before : EngineState
       pub last : ℕ
-      pub ending : replayAll E (take (s .progress .«applied_length») j) ≡ ends s before last
-      pub outcome : undo E s j ≡ record { reply = reverted; state = before; journal = cleared E j last (s .progress .«applied_length») }
-      pub counted : before .progress .«applied_length» ≡ last
+      pub ending : replayAll E (take (s .shared .«applied_length») j) ≡ ends s before last
+      pub outcome : undo E s j ≡ record { reply = reverted; state = before; journal = cleared E j last (s .shared .«applied_length») }
+      pub counted : before .shared .«applied_length» ≡ last
 
-    pub reached-undo : 0 < s .progress .«applied_length» → Undone
+    pub reached-undo : 0 < s .shared .«applied_length» → Undone
     reached-undo p =
         let d : AppliedReplay E n (engine-laws stream n) session =
-        applied-replay E n (engine-laws stream n) session (r .inv) (omega (arith, r .inv .counted)) in
+        applied-replay E n (engine-laws stream n) session (r .inv) in
         record {
           before = d .rest;
           last = length (concat (init (r .applied)));
           ending = d .scans;
-          outcome = reverts E n (engine-laws stream n) state-same session d p;
+          outcome = reverts E n (engine-laws stream n) state-same session (r .inv) d p;
           counted = rest-counted E n (engine-laws stream n) session (r .inv) d;
         }
 
@@ -86,23 +85,9 @@ module _ (stream : Bytes) (n : ℕ) where
     pub record Replays : Type 0 where
       pub before : EngineState
       pub last : ℕ
-      pub ending : replayAll E (take (s .progress .«applied_length») j) ≡ ends s before last
+      pub ending : replayAll E (take (s .shared .«applied_length») j) ≡ ends s before last
 
     pub reached-replays : Replays
-    reached-replays = go (ltb 0 (s .progress .«applied_length»)) refl
-      where
-        go : (b : Bool) → ltb 0 (s .progress .«applied_length») ≡ b → Replays
-        go true e =
-            let u = reached-undo (ltb-true 0 (s .progress .«applied_length») e) in
-            record { before = u .before; last = u .last; ending = u .ending }
-        go false e =
-            let z : s .progress .«applied_length» ≡ 0 = omega (arith, ltb-false 0 (s .progress .«applied_length») e) in
-            let o : s ≡ openedState = nothing-applied E n (engine-laws stream n) session (r .inv) z in
-            record {
-              before = openedState;
-              last = 0;
-              ending =
-                  ap (λ (k : ℕ). replayAll E (take k j)) z
-                  ∙ replay-nothing
-                  ∙ ap (λ (t : EngineState). ends t openedState 0) (sym o);
-            }
+    reached-replays =
+        let d : AppliedReplay E n (engine-laws stream n) session = applied-replay E n (engine-laws stream n) session (r .inv) in
+        record { before = d .rest; last = length (concat (init (r .applied))); ending = d .scans }

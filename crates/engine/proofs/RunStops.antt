@@ -8,14 +8,14 @@ use borrow.Author.Tests.{eqb-true, eqb-false, leb-true, leb-false, le-ltb, lt-lt
 use lib.Dec.{eqb, ltb, leb}
 use lib.ListN.{length, length-append, drop-of-length-le}
 use Rattle.hazards.specs.Fields.{bytesOf, withField}
-use Rattle.hazards.specs.Answers.{noEvent, withAnswer}
+use Rattle.hazards.specs.Answers.{answerWidth, noEvent, withAnswer}
 use Rattle.hazards.proofs.Bytes.{bytesOf-length}
 use Rattle.hazards.proofs.Overwrite.{over, over-length, over-next, field-over}
-use Rattle.clocks.proofs.Cases.{either-way}
+use Rattle.hazards.proofs.Cases.{by-test}
 use Rattle.engine.specs.Commands.{widthOf}
 use Rattle.engine.specs.Refusals.{noCommand, cutShort, answersFull}
-use Rattle.engine.specs.Journal.{Bytes, code}
-use Rattle.engine.specs.RunCode.{Stop, stop, stopAt, endNumber}
+use Rattle.engine.specs.Engine.{Bytes, code}
+use Rattle.engine.specs.RunInternals.{Stop, stop, stopAt, endNumber}
 
 -- ---- the refusal of an input that ends a run, by the tests on the input
 
@@ -50,34 +50,35 @@ module _ (i : Bytes) where
 -- ---- the three ways
 
 module _ (i answers result : Bytes) (answered read : ℕ) where
-  pub stop-full : length answers < 32 * answered + 32
+  pub stop-full : length answers < answerWidth * answered + answerWidth
       → stop answersFull answers (bytesOf 8 answered ++ bytesOf 8 read) ≡ stopAt i answers result answered read
   unfolding stopAt
-  stop-full l = rw (lt-leb (32 * answered + 32) (length answers) l)
+  stop-full l = rw (lt-leb (answerWidth * answered + answerWidth) (length answers) l)
 
-  module _ (l : 32 * answered + 32 ≤ length answers) (number : ℕ) (e : number ≡ endNumber i) where
+  module _ (l : answerWidth * answered + answerWidth ≤ length answers) (number : ℕ) (e : number ≡ endNumber i) where
     pub stop-not : number ≡ 0 → stop number answers result ≡ stopAt i answers result answered read
     unfolding stopAt
-    stop-not z = rw (le-leb (32 * answered + 32) (length answers) l, ← e, z)
+    stop-not z = rw (le-leb (answerWidth * answered + answerWidth) (length answers) l, ← e, z)
 
     pub stop-number : (number ≡ 0 → ⊥)
-        → stop number (withAnswer answers (32 * answered) (noEvent number)) (bytesOf 8 (answered + 1) ++ bytesOf 8 read)
+        → stop number (withAnswer answers (answerWidth * answered) (noEvent number)) (bytesOf 8 (answered + 1) ++ bytesOf 8 read)
         ≡ stopAt i answers result answered read
     unfolding stopAt
-    stop-number z = rw (le-leb (32 * answered + 32) (length answers) l, ← e, ne-eqb number 0 z)
+    stop-number z = rw (le-leb (answerWidth * answered + answerWidth) (length answers) l, ← e, ne-eqb number 0 z)
 
   pub stop-way : (P : Stop → Type 0)
-      → (length answers < 32 * answered + 32 → P (stop answersFull answers (bytesOf 8 answered ++ bytesOf 8 read)))
-      → (32 * answered + 32 ≤ length answers → endNumber i ≡ 0 → P (stop 0 answers result))
-      → (32 * answered + 32 ≤ length answers → (endNumber i ≡ 0 → ⊥)
+      → (length answers < answerWidth * answered + answerWidth → P (stop answersFull answers (bytesOf 8 answered ++ bytesOf 8 read)))
+      → (answerWidth * answered + answerWidth ≤ length answers → endNumber i ≡ 0 → P (stop 0 answers result))
+      → (answerWidth * answered + answerWidth ≤ length answers → (endNumber i ≡ 0 → ⊥)
       → P
-      (stop (endNumber i) (withAnswer answers (32 * answered) (noEvent (endNumber i))) (bytesOf 8 (answered + 1) ++ bytesOf 8 read)))
+      (stop (endNumber i) (withAnswer answers (answerWidth * answered) (noEvent (endNumber i)))
+      (bytesOf 8 (answered + 1) ++ bytesOf 8 read)))
       → P (stopAt i answers result answered read)
   stop-way P full whole part =
-      either-way (leb (32 * answered + 32) (length answers))
+      by-test (leb (answerWidth * answered + answerWidth) (length answers))
       (λ l.
-      let room : 32 * answered + 32 ≤ length answers = leb-true _ _ l in
-      either-way (eqb (endNumber i) 0)
+      let room : answerWidth * answered + answerWidth ≤ length answers = leb-true _ _ l in
+      by-test (eqb (endNumber i) 0)
       (λ z. subst P (stop-not room 0 (sym (eqb-true _ _ z)) refl) (whole room (eqb-true _ _ z)))
       (λ z. subst P (stop-number room (endNumber i) refl (eqb-false _ _ z)) (part room (eqb-false _ _ z))))
       (λ l. subst P (stop-full (leb-false _ _ l)) (full (leb-false _ _ l)))

@@ -11,35 +11,38 @@ use lib.ListN.{length, take, drop, replicate, length-drop, drop-of-length-le, le
 use lib.Seq.{drop-drop, paste}
 use Rattle.hazards.specs.Answers.{answerWidth, noEvent, withAnswer}
 use Rattle.hazards.specs.declared.answers.Answer.{Answer}
-use Rattle.clocks.proofs.Cases.{either-way}
+use Rattle.hazards.proofs.Cases.{by-test}
 use Rattle.engine.specs.Commands as commands
 use Rattle.engine.specs.Commands.{widthOf}
 use Rattle.engine.specs.Refusals.{noCommand, cutShort, answersFull}
-use Rattle.engine.specs.State.{openedState, slotAt, withSlot}
-use Rattle.engine.specs.Journal.{Bytes, Engine, Performed, Outcome, code, cut, reject, apply, classify, rejected, performed}
-use Rattle.engine.specs.Journal.{unchanged, answered, undo, execute}
+use Rattle.engine.specs.Opening.{openedState}
+use Rattle.engine.specs.State.{slotAt, withSlot}
+use Rattle.engine.specs.Engine.{Bytes, Engine, Performed, Outcome, code, cut, reject, carryOut, classify, rejected, performed}
+use Rattle.engine.specs.Engine.{unchanged, completed}
+use Rattle.engine.specs.Replay.{undo}
+use Rattle.engine.specs.Execute.{execute}
 use Rattle.engine.specs.Instance.{engineOf}
 use Rattle.engine.specs.Validation.{validState}
-use Rattle.engine.specs.ExecutionCode.{onSlotOf}
+use Rattle.engine.specs.ExecutionInternals.{onSlotOf}
 use Rattle.engine.specs.Execution.{performOn, target, perform}
 use Rattle.engine.specs.Run.{Ran, finished, endsRun, executed, runFrom, ran}
-use Rattle.engine.specs.RunCode.{Stop, stop, stopAt, Answered, answeredBy, answerAt, openedRun, endNumber}
-use Rattle.engine.specs.Answers.{AfterInput, after, answerOf, left}
+use Rattle.engine.specs.RunInternals.{Stop, stop, stopAt, JournalAndAnswers, journalAndAnswers, answerAt, openedRun, endNumber}
+use Rattle.engine.specs.Answers.{AfterInput, after, answerOf, returned}
 use Rattle.engine.specs.declared.execute.Executed.{Executed}
 use Rattle.engine.specs.declared.execution.SlotOutcome.{SlotOutcome}
 use Rattle.engine.specs.declared.state.ClockSlot.{ClockSlot}
 use Rattle.engine.specs.declared.state.EngineState.{EngineState}
-use Rattle.engine.proofs.Good.{Good}
+use Rattle.engine.proofs.SoundState.{SoundState}
 use Rattle.engine.proofs.CommandLists.{Whole}
 use Rattle.engine.proofs.Asking.{asks-no-command, asks-part, asks-undo, asks-command}
 use Rattle.engine.proofs.Asking.{execute-rejects, execute-undo, execute-refused, execute-performs}
-use Rattle.engine.proofs.GoodValid.{good-valid}
+use Rattle.engine.proofs.SoundValid.{sound-state-valid}
 use Rattle.engine.proofs.JournalBytes.{restOf, partOf, part-all, part-of}
 use Rattle.engine.proofs.PerformedTargets.{same-past}
 use Rattle.engine.proofs.Replays.{cut-whole}
 use Rattle.engine.proofs.RunAnswers.{answer-refused, answer-copied}
-use Rattle.engine.proofs.RunNumbers.{performedNumber, perform-goes, undo-goes}
-use Rattle.engine.proofs.RunStates.{Reached, reached-open, reached-next, reached-good}
+use Rattle.engine.proofs.RunNumbers.{performedReply, perform-goes, reply-goes, undo-goes}
+use Rattle.engine.proofs.RunStates.{Reached, reached-open, reached-next, reached-sound}
 use Rattle.engine.proofs.RunStops.{numbered, end-number, stop-way}
 use Rattle.engine.proofs.SlotLaws.{outcome-done, done-fits, rejects, performs, accepted-below}
 
@@ -116,7 +119,7 @@ module _ (bytes stream : Bytes) (n size : ℕ) (all : Ran) where
     pub reached : Reached stream n s j
     pub few : count ≤ at
     pub below : at ≤ length bytes
-    pub room : 32 * count ≤ length answers
+    pub room : answerWidth * count ≤ length answers
     pub same-journal : length j ≡ n
     pub bound : n < 2 ^ 63
     pub same-answers : length answers ≡ size
@@ -126,7 +129,7 @@ module _ (bytes stream : Bytes) (n size : ℕ) (all : Ran) where
   pub record Input (j answers result : Bytes) (s : EngineState) (count at : ℕ) : Type 0 where
     pub running : Running j answers result s count at
     pub more : at < length bytes
-    pub space : 32 * count + 32 ≤ length answers
+    pub space : answerWidth * count + answerWidth ≤ length answers
     pub wide : 0 < widthOf (code (drop at bytes))
     pub long : widthOf (code (drop at bytes)) ≤ length (drop at bytes)
 
@@ -134,11 +137,11 @@ module _ (bytes stream : Bytes) (n size : ℕ) (all : Ran) where
     abbrev input : Bytes
     input = drop at bytes
 
-    pub running-good : Good stream n s
-    running-good = reached-good stream n s j (r .reached)
+    pub running-sound : SoundState stream n s
+    running-sound = reached-sound stream n s j (r .reached)
 
     valid : validState stream n s ≡ true
-    valid = good-valid s stream n running-good
+    valid = sound-state-valid s stream n running-sound
 
     executes : (o : Outcome E) → execute E s j input ≡ o → executed stream s j input ≡ after stream n o
     executes o e = ap (λ (m : ℕ). after stream m (execute (engineOf stream m) s j input)) (r .same-journal) ∙ ap (after stream n) e
@@ -162,18 +165,19 @@ module _ (bytes stream : Bytes) (n size : ℕ) (all : Ran) where
           let k : suc turns ≡ length bytes - count = omega (arith, r .few) in
           ap (λ (m : ℕ). runFrom m stream s j answers count at input) k ∙ r .goes
 
-      stops-full : length answers < 32 * count + 32 → finished answersFull j answers count at ≡ all
+      stops-full : length answers < answerWidth * count + answerWidth → finished answersFull j answers count at ≡ all
       stops-full l = sym (run-full stream s j answers count at input input-pos turns l) ∙ fuel
 
       -- by the tests on the input
       abbrev Numbered : ℕ → Type 0
       Numbered number =
           (number ≡ 0 → (0 < widthOf (code input)) × (widthOf (code input) ≤ length input))
-          × (32 * count + 32 ≤ length answers → (number ≡ 0 → ⊥)
-          → finished number j (withAnswer answers (32 * count) (noEvent number)) (count + 1) at ≡ all)
+          × (answerWidth * count + answerWidth ≤ length answers → (number ≡ 0 → ⊥)
+          → finished number j (withAnswer answers (answerWidth * count) (noEvent number)) (count + 1) at ≡ all)
 
-      rejected-ends : (m : ℕ) → classify E s input ≡ reject m → endsRun m ≡ true → 32 * count + 32 ≤ length answers
-          → finished m j (withAnswer answers (32 * count) (noEvent m)) (count + 1) at ≡ all
+      rejected-ends : (m : ℕ) → classify E s input ≡ reject m → endsRun m ≡ true
+          → answerWidth * count + answerWidth ≤ length answers
+          → finished m j (withAnswer answers (answerWidth * count) (noEvent m)) (count + 1) at ≡ all
       rejected-ends m k t l =
           sym
           (run-ends stream s j answers count at input input-pos turns l (after stream n (unchanged E s j m))
@@ -245,7 +249,8 @@ module _ (bytes stream : Bytes) (n size : ℕ) (all : Ran) where
         (omega arith, omega arith)
 
     turned : (o : Outcome E) → execute E s j i ≡ o → endsRun (answerOf (o .reply) .number) ≡ false → {written : Bytes}
-        → written ≡ withAnswer answers (32 * count) (answerOf (o .reply)) → length (o .journal) ≡ n → length written ≡ size
+        → written ≡ withAnswer answers (answerWidth * count) (answerOf (o .reply)) → length (o .journal) ≡ n
+        → length written ≡ size
         → Running (o .journal) written result (o .state) (count + 1) (at + w)
     turned o e t {written} q lj lw =
         let space = x .space in
@@ -273,28 +278,29 @@ module _ (bytes stream : Bytes) (n size : ℕ) (all : Ran) where
         later = length bytes - (count + 1)
 
         answer : Bytes
-        answer = withAnswer answers (32 * count) (answerOf (o .reply))
+        answer = withAnswer answers (answerWidth * count) (answerOf (o .reply))
 
     pub next-undo : code i ≡ commands.undo → (y : Executed) {k written : Bytes}
-        → left y k ≡ after stream (length j) (undo (engineOf stream (length j)) s j)
-        → written ≡ withAnswer answers (32 * count) (y .answer) → length k ≡ n → length written ≡ size
+        → returned y k ≡ after stream (length j) (undo (engineOf stream (length j)) s j)
+        → written ≡ withAnswer answers (answerWidth * count) (y .answer) → length k ≡ n → length written ≡ size
         → Running k written result (y .state) (count + 1) (at + w)
     next-undo u y {k} {written} e q lk lw =
-        let f : left y k ≡ after stream n (undo E s j) =
+        let f : returned y k ≡ after stream n (undo E s j) =
         e ∙ ap (λ (m : ℕ). after stream m (undo (engineOf stream m) s j)) (r .same-journal) in
         let ek : k ≡ undo E s j .journal = ap (λ (a : AfterInput). a .journal) f in
         let ea : y .answer ≡ answerOf (undo E s j .reply) = ap (λ (a : AfterInput). a .answer) f in
         let h =
-        turned (undo E s j) (execute-undo E s j i (asks-undo E s i (valid r) i-pos (x .wide) (x .long) u)) (undo-goes stream n s j)
-        (q ∙ ap (withAnswer answers (32 * count)) ea) (ap length (sym ek) ∙ lk) lw in
+        turned (undo E s j) (execute-undo E s j i (asks-undo E s i (valid r) i-pos (x .wide) (x .long) u))
+        (reply-goes (undo E s j .reply) (undo-goes stream n s j))
+        (q ∙ ap (withAnswer answers (answerWidth * count)) ea) (ap length (sym ek) ∙ lk) lw in
         subst (λ (b : Bytes). Running b written result (y .state) (count + 1) (at + w)) (sym ek)
         (subst (λ (t : EngineState). Running (undo E s j .journal) written result t (count + 1) (at + w))
         (sym (ap (λ (a : AfterInput). a .state) f)) h)
 
     -- a command but UNDO, on the slot of its clock
-    module _ (u : code i ≡ commands.undo → ⊥) (o : SlotOutcome) (t : ℕ) (named : t ≡ target (s .progress) (partOf bytes at w))
+    module _ (u : code i ≡ commands.undo → ⊥) (o : SlotOutcome) (t : ℕ) (named : t ≡ target (s .shared) (partOf bytes at w))
         (slot : ClockSlot) (there : t < 16 → slot ≡ slotAt s t)
-        (e : onSlotOf o ≡ performOn stream (length j) slot (s .progress) (partOf bytes at w)) where
+        (e : onSlotOf o ≡ performOn stream (length j) slot (s .shared) (partOf bytes at w)) where
       abbrev c : Bytes
       c = partOf bytes at w
 
@@ -304,63 +310,66 @@ module _ (bytes stream : Bytes) (n size : ℕ) (all : Ran) where
       whole : Whole E c
       whole = subst (Whole E) (sym is-cut) (cut-whole E i (x .wide) (x .long) u)
 
-      asked : classify E s i ≡ apply c
-      asked = asks-command E s i (valid r) i-pos (x .wide) (x .long) u ∙ ap apply (sym is-cut)
+      asked : classify E s i ≡ carryOut c
+      asked = asks-command E s i (valid r) i-pos (x .wide) (x .long) u ∙ ap carryOut (sym is-cut)
 
       -- as on the slot of its clock; above the sixteen every slot does
-      on-slot : performOn stream n slot (s .progress) c ≡ performOn stream n (slotAt s t) (s .progress) c
+      on-slot : performOn stream n slot (s .shared) c ≡ performOn stream n (slotAt s t) (s .shared) c
       on-slot =
-          either-way (ltb t 16) (λ b. ap (λ (y : ClockSlot). performOn stream n y (s .progress) c) (there (ltb-true t 16 b)))
+          by-test (ltb t 16) (λ b. ap (λ (y : ClockSlot). performOn stream n y (s .shared) c) (there (ltb-true t 16 b)))
           (λ b.
-          same-past stream n s c (running-good r) whole (subst (λ (k : ℕ). 16 ≤ k) named (ltb-false t 16 b)) slot (slotAt s t))
+          same-past stream n s c (running-sound r) whole (subst (λ (k : ℕ). 16 ≤ k) named (ltb-false t 16 b)) slot (slotAt s t))
 
-      did : onSlotOf o ≡ performOn stream n (slotAt s t) (s .progress) c
-      did = e ∙ ap (λ (m : ℕ). performOn stream m slot (s .progress) c) (r .same-journal) ∙ on-slot
+      did : onSlotOf o ≡ performOn stream n (slotAt s t) (s .shared) c
+      did = e ∙ ap (λ (m : ℕ). performOn stream m slot (s .shared) c) (r .same-journal) ∙ on-slot
 
-      goes-on : {d : Performed EngineState Answer} → perform stream n s c ≡ d → endsRun (performedNumber d) ≡ false
-      goes-on q = sym (ap (λ (d : Performed EngineState Answer). endsRun (performedNumber d)) q) ∙ perform-goes stream n s c
+      goes-on : {d : Performed EngineState Answer} → perform stream n s c ≡ d → endsRun (answerOf (performedReply d) .number) ≡ false
+      goes-on q =
+          sym (ap (λ (d : Performed EngineState Answer). endsRun (answerOf (performedReply d) .number)) q)
+          ∙ reply-goes (performedReply (perform stream n s c)) (perform-goes stream n s c)
 
       -- an accepted command is about one of the sixteen, and has room in the journal
       pub next-below : o .number ≡ 0 → t < 16
-      next-below z = accepted-below stream n s c o t named (slotAt s t) refl did z (running-good r) whole
+      next-below z = accepted-below stream n s c o t named (slotAt s t) refl did z (running-sound r) whole
 
-      pub next-fits : o .number ≡ 0 → s .progress .«applied_length» + length c ≤ length j
-      next-fits z = done-fits stream (length j) slot (s .progress) c (o .slot) (o .progress) (o .answer) (outcome-done o e z)
+      pub next-fits : o .number ≡ 0 → s .shared .«applied_length» + length c ≤ length j
+      next-fits z = done-fits stream (length j) slot (s .shared) c (o .slot) (o .shared) (o .answer) (outcome-done o e z)
 
       -- what the definition gives for it
       pub input-performs : o .number ≡ 0 → execute E s j i ≡ record {
-        reply = answered (o .answer);
-        state = withSlot s t (o .slot) (o .progress);
-        journal = paste j (s .progress .«applied_length») c (length c);
+        reply = completed (o .answer);
+        state = withSlot s t (o .slot) (o .shared);
+        journal = paste j (s .shared .«applied_length») c (length c);
       }
       input-performs z =
-          execute-performs E s j i c (withSlot s t (o .slot) (o .progress)) (o .answer) asked
+          execute-performs E s j i c (withSlot s t (o .slot) (o .shared)) (o .answer) asked
           (performs stream n s c o t named (slotAt s t) refl did z)
 
       -- the journal and the answers after it
       module _ {k written : Bytes}
-          (f : answeredBy k written ≡ answerAt (o .number) (o .answer) (s .progress .«applied_length») j answers (32 * count) c)
+          (f : journalAndAnswers k written
+          ≡ answerAt (o .number) (o .answer) (s .shared .«applied_length») j answers (answerWidth * count) c)
           (lk : length k ≡ n) (lw : length written ≡ size) where
         pub next-refused : (o .number ≡ 0 → ⊥) → Running k written result s (count + 1) (at + w)
         next-refused z =
             let d : perform stream n s c ≡ rejected (o .number) = rejects stream n s c o t named (slotAt s t) refl did z in
-            let g = f ∙ answer-refused (o .number) (o .answer) (s .progress .«applied_length») j answers (32 * count) c z in
-            let ek : k ≡ j = ap (λ (a : Answered). a .journal) g in
+            let g = f ∙ answer-refused (o .number) (o .answer) (s .shared .«applied_length») j answers (answerWidth * count) c z in
+            let ek : k ≡ j = ap (λ (a : JournalAndAnswers). a .journal) g in
             let h =
             turned (unchanged E s j (o .number)) (execute-refused E s j i c (o .number) asked d) (goes-on d)
-            (ap (λ (a : Answered). a .answers) g) (r .same-journal) lw in
+            (ap (λ (a : JournalAndAnswers). a .answers) g) (r .same-journal) lw in
             subst (λ (b : Bytes). Running b written result s (count + 1) (at + w)) (sym ek) h
 
-        pub next-performed : o .number ≡ 0 → Running k written result (withSlot s t (o .slot) (o .progress)) (count + 1) (at + w)
+        pub next-performed : o .number ≡ 0 → Running k written result (withSlot s t (o .slot) (o .shared)) (count + 1) (at + w)
         next-performed z =
-            let next : EngineState = withSlot s t (o .slot) (o .progress) in
+            let next : EngineState = withSlot s t (o .slot) (o .shared) in
             let d : perform stream n s c ≡ performed next (o .answer) = performs stream n s c o t named (slotAt s t) refl did z in
-            let pasted : Bytes = paste j (s .progress .«applied_length») c (length c) in
-            let g = f ∙ answer-copied (o .number) (o .answer) (s .progress .«applied_length») j answers (32 * count) c z in
-            let ek : k ≡ pasted = ap (λ (a : Answered). a .journal) g in
+            let pasted : Bytes = paste j (s .shared .«applied_length») c (length c) in
+            let g = f ∙ answer-copied (o .number) (o .answer) (s .shared .«applied_length») j answers (answerWidth * count) c z in
+            let ek : k ≡ pasted = ap (λ (a : JournalAndAnswers). a .journal) g in
             let h =
-            turned (record { reply = answered (o .answer); state = next; journal = pasted })
-            (input-performs z) (goes-on d) (ap (λ (a : Answered). a .answers) g)
+            turned (record { reply = completed (o .answer); state = next; journal = pasted })
+            (input-performs z) (goes-on d) (ap (λ (a : JournalAndAnswers). a .answers) g)
             (ap length (sym ek) ∙ lk) lw in
             subst (λ (b : Bytes). Running b written result next (count + 1) (at + w)) (sym ek) h
 

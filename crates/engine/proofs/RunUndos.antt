@@ -6,16 +6,18 @@ use native.Mathlib.Omega.{arith}
 use borrow.Author.Tests.{eqb-true, eqb-false}
 use lib.Dec.{eqb}
 use lib.ListN.{length, take, drop, replicate}
-use Rattle.hazards.specs.Answers.{noEvent, withAnswer}
+use Rattle.hazards.specs.Answers.{answerWidth, noEvent, withAnswer}
 use Rattle.engine.specs.Commands as commands
 use Rattle.engine.specs.Commands.{widthOf}
 use Rattle.engine.specs.Refusals.{nothingApplied}
-use Rattle.engine.specs.State.{openedState}
-use Rattle.engine.specs.Journal.{Bytes, Engine, code, ends, replayAll, cleared, undo}
+use Rattle.engine.specs.Opening.{openedState}
+use Rattle.engine.specs.Engine.{Bytes, Engine, code}
+use Rattle.engine.specs.Replay.{cleared, undo}
+use Rattle.engine.specs.ReplayInternals.{ends, replayAll}
 use Rattle.engine.specs.Instance.{engineOf}
-use Rattle.engine.specs.Answers.{after, left}
+use Rattle.engine.specs.Answers.{after, returned}
 use Rattle.engine.specs.Run.{Ran}
-use Rattle.engine.specs.RunCode.{openedRun}
+use Rattle.engine.specs.RunInternals.{openedRun}
 use Rattle.engine.specs.declared.state.EngineState.{EngineState}
 use Rattle.engine.proofs.Asking.{undo-nothing}
 use Rattle.engine.proofs.ExecuteLaws.{onlyNumber, left-refused}
@@ -31,16 +33,16 @@ module _ (bytes stream : Bytes) (n size : ℕ) (all : Ran) where
     pub current : EngineState
     pub running : Running bytes stream n size all j answers result current count at
     pub fresh : stale ≡ false → state ≡ current
-    pub counted : applied ≡ current .progress .«applied_length»
+    pub counted : applied ≡ current .shared .«applied_length»
 
   -- the state that the run goes on in, where it is not stale
   pub goes-on-in : {j answers result : Bytes} {s : EngineState} {count at : ℕ} → Running bytes stream n size all j answers result s count at
-      → (applied : ℕ) → applied ≡ s .progress .«applied_length» → (stale : Bool) → Deferred j answers result s applied stale count at
+      → (applied : ℕ) → applied ≡ s .shared .«applied_length» → (stale : Bool) → Deferred j answers result s applied stale count at
   goes-on-in {s = s} r applied counted stale = record { current = s; running = r; fresh = λ e. refl; counted = counted }
 
   -- what the code replays is the state of the definition
   pub replayed-current : {j answers result : Bytes} {s : EngineState} {count at : ℕ} → Running bytes stream n size all j answers result s count at
-      → (applied : ℕ) → applied ≡ s .progress .«applied_length» → (state : EngineState)
+      → (applied : ℕ) → applied ≡ s .shared .«applied_length» → (state : EngineState)
       → ((t before : EngineState) (last : ℕ) → replayAll (engineOf stream (length j)) (take applied j) ≡ ends t before last → state ≡ t)
       → state ≡ s
   replayed-current {j = j} {s = s} r applied counted state e =
@@ -51,12 +53,12 @@ module _ (bytes stream : Bytes) (n size : ℕ) (all : Ran) where
 
   module _ {j answers result : Bytes} {s : EngineState} {count at : ℕ} (x : Input bytes stream n size all j answers result s count at)
       (w : ℕ) (ew : w ≡ widthOf (code (drop at bytes))) (u : code (drop at bytes) ≡ commands.undo) (applied : ℕ)
-      (counted : applied ≡ s .progress .«applied_length») {k written : Bytes} {r : ℕ}
+      (counted : applied ≡ s .shared .«applied_length») {k written : Bytes} {r : ℕ}
       (place : (v : Bytes) (m : ℕ) (t before : EngineState) (last : ℕ) → replayAll (engineOf v m) (take applied j) ≡ ends t before last
       → r ≡ last)
       (journal : (v : Bytes) → k ≡ cleared (engineOf v (length j)) j r applied) (lk : length k ≡ n) (lw : length written ≡ size)
       (state : EngineState) where
-    nothing-undone : applied ≡ 0 → written ≡ withAnswer answers (32 * count) (noEvent nothingApplied)
+    nothing-undone : applied ≡ 0 → written ≡ withAnswer answers (answerWidth * count) (noEvent nothingApplied)
         → Deferred k written result state r true (count + 1) (at + w)
     nothing-undone z q =
         let er : r ≡ 0 = place stream n openedState openedState 0
@@ -66,7 +68,7 @@ module _ (bytes stream : Bytes) (n size : ℕ) (all : Ran) where
           current = s;
           running =
               next-undo bytes stream n size all x w ew u (onlyNumber nothingApplied s)
-              (ap (left (onlyNumber nothingApplied s)) ek
+              (ap (returned (onlyNumber nothingApplied s)) ek
               ∙ left-refused stream (length j) (onlyNumber nothingApplied s) s j (refl, refl)
               (undo-nothing (engineOf stream (length j)) s j (omega (arith, counted, z))))
               q lk lw;
@@ -74,19 +76,19 @@ module _ (bytes stream : Bytes) (n size : ℕ) (all : Ran) where
           counted = er ∙ sym z ∙ counted;
         }
 
-    last-undone : 0 < applied → written ≡ withAnswer answers (32 * count) (noEvent 0)
+    last-undone : 0 < applied → written ≡ withAnswer answers (answerWidth * count) (noEvent 0)
         → Deferred k written result state r true (count + 1) (at + w)
     last-undone p q =
         let own = reached-undo stream n s j (x .running .reached) (omega (arith, counted, p)) in
         let er : r ≡ own .last =
         place stream n s (own .before) (own .last) (ap (λ (m : ℕ). replayAll E (take m j)) counted ∙ own .ending) in
-        let ek : k ≡ cleared E j (own .last) (s .progress .«applied_length») =
+        let ek : k ≡ cleared E j (own .last) (s .shared .«applied_length») =
         journal stream ∙ λ i. cleared E j (er i) (counted i) in
         record {
           current = own .before;
           running =
               next-undo bytes stream n size all x w ew u (onlyNumber 0 (own .before))
-              (ap (left (onlyNumber 0 (own .before))) ek
+              (ap (returned (onlyNumber 0 (own .before))) ek
               ∙ sym
               (ap (λ (m : ℕ). after stream m (undo (engineOf stream m) s j)) (x .running .same-journal)
               ∙ ap (after stream n) (own .outcome)))
@@ -95,12 +97,12 @@ module _ (bytes stream : Bytes) (n size : ℕ) (all : Ran) where
           counted = er ∙ sym (own .counted);
         }
 
-    pub next-deferred : written ≡ withAnswer answers (32 * count) (noEvent (cond (eqb applied 0) nothingApplied 0))
+    pub next-deferred : written ≡ withAnswer answers (answerWidth * count) (noEvent (cond (eqb applied 0) nothingApplied 0))
         → Deferred k written result state r true (count + 1) (at + w)
     next-deferred q = go (eqb applied 0) refl
       where
         by : Bool → Bytes
-        by b = withAnswer answers (32 * count) (noEvent (cond b nothingApplied 0))
+        by b = withAnswer answers (answerWidth * count) (noEvent (cond b nothingApplied 0))
 
         go : (b : Bool) → eqb applied 0 ≡ b → Deferred k written result state r true (count + 1) (at + w)
         go true e = nothing-undone (eqb-true applied 0 e) (q ∙ ap by e)
@@ -108,7 +110,7 @@ module _ (bytes stream : Bytes) (n size : ℕ) (all : Ran) where
             let some = eqb-false applied 0 e in
             last-undone (omega (arith, some)) (q ∙ ap by e)
 
-opened-length : openedState .progress .«applied_length» ≡ 0
+opened-length : openedState .shared .«applied_length» ≡ 0
 unfolding openedState
 opened-length = refl
 
@@ -119,4 +121,4 @@ pub deferred-begins : (bytes stream : Bytes) (n : ℕ) (answers result : Bytes) 
 deferred-begins bytes stream n answers result {s} es ej bound width =
     goes-on-in bytes stream n (length answers) (openedRun bytes stream n answers)
     (running-begins bytes stream n answers result es ej bound width) 0
-    (sym (ap (λ (t : EngineState). t .progress .«applied_length») es ∙ opened-length)) false
+    (sym (ap (λ (t : EngineState). t .shared .«applied_length») es ∙ opened-length)) false

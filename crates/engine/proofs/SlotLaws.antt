@@ -7,15 +7,15 @@ use lib.ListN.{length, List·getD-eq-default}
 use lib.Seq.{set-set, set-getD}
 use Rattle.hazards.specs.declared.answers.Answer.{Answer}
 use Rattle.engine.specs.State.{emptySlot, slotAt, withSlot}
-use Rattle.engine.specs.Journal.{rejected, performed}
+use Rattle.engine.specs.Engine.{rejected, performed}
 use Rattle.engine.specs.Execution.{OnSlot, refused, done, performOn, target, stored, perform}
-use Rattle.engine.specs.ExecutionCode.{onSlotOf}
+use Rattle.engine.specs.ExecutionInternals.{onSlotOf}
 use Rattle.engine.specs.Instance.{engineOf}
 use Rattle.engine.specs.declared.execution.SlotOutcome.{SlotOutcome}
 use Rattle.engine.specs.declared.state.ClockSlot.{ClockSlot}
-use Rattle.engine.specs.declared.state.Progress.{Progress}
+use Rattle.engine.specs.declared.state.SharedState.{SharedState}
 use Rattle.engine.specs.declared.state.EngineState.{EngineState}
-use Rattle.engine.proofs.Good.{Good}
+use Rattle.engine.proofs.SoundState.{SoundState}
 use Rattle.engine.proofs.CommandLists.{Whole}
 use Rattle.engine.proofs.PerformedWays.{performed-way}
 use Rattle.engine.proofs.PerformedTargets.{target-below}
@@ -24,53 +24,53 @@ use Rattle.engine.proofs.PerformedTargets.{target-below}
 pub slot-past : (s : EngineState) (i : ℕ) → length (s .slots) ≤ i → emptySlot ≡ slotAt s i
 slot-past s i h = sym (List·getD-eq-default (s .slots) emptySlot h)
 
--- with its slot and progress put back, a state is what it was
-pub put-back : (s : EngineState) (i : ℕ) (slot : ClockSlot) (p : Progress) → withSlot (withSlot s i slot p) i (slotAt s i) (s .progress) ≡ s
+-- with its slot and shared state put back, a state is what it was
+pub put-back : (s : EngineState) (i : ℕ) (slot : ClockSlot) (p : SharedState) → withSlot (withSlot s i slot p) i (slotAt s i) (s .shared) ≡ s
 put-back s i slot p =
-    ap (λ (l : List ClockSlot). record { slots = l; progress = s .progress })
+    ap (λ (l : List ClockSlot). record { slots = l; shared = s .shared })
     (set-set (s .slots) i slot (slotAt s i) ∙ set-getD (s .slots) i emptySlot)
 
 -- the outcome in the code, by its number
 module _ (o : SlotOutcome) {d : OnSlot} (e : onSlotOf o ≡ d) where
-  pub outcome-done : o .number ≡ 0 → d ≡ done (o .slot) (o .progress) (o .answer)
+  pub outcome-done : o .number ≡ 0 → d ≡ done (o .slot) (o .shared) (o .answer)
   outcome-done z = sym e ∙ rw (eq-eqb (o .number) 0 z)
 
   pub outcome-refused : (o .number ≡ 0 → ⊥) → d ≡ refused (o .number)
   outcome-refused z = sym e ∙ rw (ne-eqb (o .number) 0 z)
 
 -- an accepted command has room in the journal
-pub done-fits : (stream : List ℕ) (n : ℕ) (old : ClockSlot) (p : Progress) (c : List ℕ) (slot : ClockSlot) (p′ : Progress) (a : Answer)
+pub done-fits : (stream : List ℕ) (n : ℕ) (old : ClockSlot) (p : SharedState) (c : List ℕ) (slot : ClockSlot) (p′ : SharedState) (a : Answer)
     → performOn stream n old p c ≡ done slot p′ a → p .«applied_length» + length c ≤ n
 done-fits stream n old p c =
     performed-way stream n old p c (λ _ _ _. p .«applied_length» + length c ≤ n) (λ k f o room. room) (λ k f o room. room)
     (λ k f o room. room) (λ k f o room. room) (λ k f o room. room) (λ k f o room. room) (λ k r q room. room)
 
 module _ (stream : List ℕ) (n : ℕ) (s : EngineState) (c : List ℕ) where
-  pub stored-performed : (slot : ClockSlot) (p : Progress) (a : Answer)
-      → performOn stream n (slotAt s (target (s .progress) c)) (s .progress) c ≡ done slot p a
-      → perform stream n s c ≡ performed (withSlot s (target (s .progress) c) slot p) a
+  pub stored-performed : (slot : ClockSlot) (p : SharedState) (a : Answer)
+      → performOn stream n (slotAt s (target (s .shared) c)) (s .shared) c ≡ done slot p a
+      → perform stream n s c ≡ performed (withSlot s (target (s .shared) c) slot p) a
   unfolding perform
-  stored-performed slot p a e = ap (stored s (target (s .progress) c)) e
+  stored-performed slot p a e = ap (stored s (target (s .shared) c)) e
 
-  pub stored-rejected : (number : ℕ) → performOn stream n (slotAt s (target (s .progress) c)) (s .progress) c ≡ refused number
+  pub stored-rejected : (number : ℕ) → performOn stream n (slotAt s (target (s .shared) c)) (s .shared) c ≡ refused number
       → perform stream n s c ≡ rejected number
   unfolding perform
-  stored-rejected number e = ap (stored s (target (s .progress) c)) e
+  stored-rejected number e = ap (stored s (target (s .shared) c)) e
 
   -- the outcome on the slot that was fetched
-  module _ (o : SlotOutcome) (t : ℕ) (named : t ≡ target (s .progress) c) (old : ClockSlot) (there : old ≡ slotAt s t)
-      (did : onSlotOf o ≡ performOn stream n old (s .progress) c) where
-    on-slot : onSlotOf o ≡ performOn stream n (slotAt s (target (s .progress) c)) (s .progress) c
+  module _ (o : SlotOutcome) (t : ℕ) (named : t ≡ target (s .shared) c) (old : ClockSlot) (there : old ≡ slotAt s t)
+      (did : onSlotOf o ≡ performOn stream n old (s .shared) c) where
+    on-slot : onSlotOf o ≡ performOn stream n (slotAt s (target (s .shared) c)) (s .shared) c
     on-slot = rw (← named, ← there) did
 
     pub rejects : (o .number ≡ 0 → ⊥) → perform stream n s c ≡ rejected (o .number)
     rejects z = stored-rejected (o .number) (outcome-refused o on-slot z)
 
     module _ (z : o .number ≡ 0) where
-      pub performs : perform stream n s c ≡ performed (withSlot s t (o .slot) (o .progress)) (o .answer)
-      performs = rw (← named) at (stored-performed (o .slot) (o .progress) (o .answer) (outcome-done o on-slot z))
+      pub performs : perform stream n s c ≡ performed (withSlot s t (o .slot) (o .shared)) (o .answer)
+      performs = rw (← named) at (stored-performed (o .slot) (o .shared) (o .answer) (outcome-done o on-slot z))
 
       -- an accepted command is about one of the sixteen
-      pub accepted-below : Good stream n s → Whole (engineOf stream n) c → t < 16
+      pub accepted-below : SoundState stream n s → Whole (engineOf stream n) c → t < 16
       accepted-below g whole =
-          rw (← named) at (target-below stream n s c g whole (o .slot) (o .progress) (o .answer) (outcome-done o on-slot z))
+          rw (← named) at (target-below stream n s c g whole (o .slot) (o .shared) (o .answer) (outcome-done o on-slot z))

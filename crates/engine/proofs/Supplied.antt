@@ -1,5 +1,5 @@
 -- What an engine supplies so that demand 3 holds of it: laws of its applied length, an invariant of the states that it reaches, and laws of
--- its queue. Document 01's engine supplies them in EngineLaws and GoodKept.
+-- its queue. Document 01's engine supplies them in EngineLaws and SoundKept.
 use Prim.Native.Nat.{ℕ, _+_, _≤_, _<_}
 use mathlib.Core.Path.{_≡_}
 use mathlib.Core.Bool.{true, false, cond}
@@ -9,8 +9,8 @@ use lib.ListN.{length}
 use Rattle.engine.specs.Commands as commands
 use Rattle.engine.specs.State.{queuedRequests}
 use Rattle.engine.specs.Queue.{nextRequest, keepIf, without, countFor}
-use Rattle.engine.specs.Journal.{Bytes, performed, Engine, code}
-use Rattle.engine.specs.Ledger.{Requests}
+use Rattle.engine.specs.Engine.{Bytes, performed, Engine, code}
+use Rattle.engine.specs.Ledger.{LedgerFields}
 use Rattle.engine.specs.Instance.{engineOf}
 use Rattle.engine.specs.declared.state.Request.{Request}
 use Rattle.engine.proofs.CommandLists.{Whole}
@@ -25,10 +25,10 @@ pub record Laws (E : Engine) (n : ℕ) : Type 0 where
 
 -- a claim that the opened state meets, that each performed command keeps, and from which refusal 1's test follows. The test itself is not
 -- kept: a finite float may become an infinity
-pub record Sound (E : Engine) (Good : E .State → Type 0) : Type 0 where
-  pub opens : Good (E .opened)
-  pub keeps : (s t : E .State) (c : Bytes) (a : E .Answer) → Whole E c → Good s → E .perform s c ≡ performed t a → Good t
-  pub passes : (s : E .State) → Good s → E .valid s ≡ true
+pub record Sound (E : Engine) (SoundState : E .State → Type 0) : Type 0 where
+  pub opens : SoundState (E .opened)
+  pub keeps : (s t : E .State) (c : Bytes) (a : E .Answer) → Whole E c → SoundState s → E .perform s c ≡ performed t a → SoundState t
+  pub passes : (s : E .State) → SoundState s → E .valid s ≡ true
 
 -- the engine's queue and request counter
 pub record Queueing (E : Engine) : Type 0 where
@@ -37,9 +37,9 @@ pub record Queueing (E : Engine) : Type 0 where
 
 -- those of document 01's engine
 abbrev pub queueingOf : (stream : List ℕ) (n : ℕ) → Queueing (engineOf stream n)
-queueingOf stream n = record { queue = λ s. queuedRequests (s .progress); counter = λ s. s .progress .«request_count» }
+queueingOf stream n = record { queue = λ s. queuedRequests (s .shared); counter = λ s. s .shared .«request_count» }
 
-module _ (E : Engine) (R : Requests E) (K : Queueing E) where
+module _ (E : Engine) (R : LedgerFields E) (K : Queueing E) where
   -- the queue after a command but DELIVER, by its answer
   abbrev pub queueAfter : E .State → Bytes → E .Answer → List Request
   queueAfter s c a =
@@ -63,10 +63,10 @@ module _ (E : Engine) (R : Requests E) (K : Queueing E) where
     pub one : R .event a ≡ true → R .withdrawn a ≡ false → countFor (R .clockOf c) (K .queue s) ≡ 0
     pub clock : R .event a ≡ true → R .clockOf c < 16
 
-  pub record QueueLaws (Good : E .State → Type 0) : Type 0 where
+  pub record QueueLaws (SoundState : E .State → Type 0) : Type 0 where
     pub none-queued : K .queue (E .opened) ≡ []
     pub none-made : K .counter (E .opened) ≡ 0
-    pub delivers : (s t : E .State) (c : Bytes) (a : E .Answer) → Good s → code c ≡ commands.deliver → E .perform s c ≡ performed t a
+    pub delivers : (s t : E .State) (c : Bytes) (a : E .Answer) → SoundState s → code c ≡ commands.deliver → E .perform s c ≡ performed t a
         → Delivers s t
-    pub queues : (s t : E .State) (c : Bytes) (a : E .Answer) → Whole E c → Good s → (code c ≡ commands.deliver → ⊥)
+    pub queues : (s t : E .State) (c : Bytes) (a : E .Answer) → Whole E c → SoundState s → (code c ≡ commands.deliver → ⊥)
         → E .perform s c ≡ performed t a → Queues s t c a

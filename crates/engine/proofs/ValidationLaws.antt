@@ -155,7 +155,7 @@ slotNames s r slot =
     slot .present
     && (slot .clock .«scheduled_event_id» .present
     && (eqb (slot .clock .«scheduled_event_id» .index) (r .index)
-    && (slot .clock .«current_winner» .present && ltb (r .index) (s .progress .«request_count»))))
+    && (slot .clock .«current_winner» .present && ltb (r .index) (s .shared .«request_count»))))
 
 module _ (s : EngineState) (r : Request) where
   pub request-past : 16 ≤ r .clock → validRequest s r ≡ false
@@ -170,11 +170,11 @@ module _ (s : EngineState) (r : Request) where
 -- ---- the queue
 
 module _ (s : EngineState) where
-  pub queue-over : 16 < s .progress .queued → validQueue s ≡ false
+  pub queue-over : 16 < s .shared .queued → validQueue s ≡ false
   unfolding validQueue
-  queue-over h = rw (lt-leb (s .progress .queued) 16 h)
+  queue-over h = rw (lt-leb (s .shared .queued) 16 h)
 
-  pub queue-is : s .progress .queued ≤ 16
-      → validQueue s ≡ (all (validRequest s) (queuedRequests (s .progress)) && distinct (queuedRequests (s .progress)))
+  pub queue-is : s .shared .queued ≤ 16
+      → validQueue s ≡ (all (validRequest s) (queuedRequests (s .shared)) && distinct (queuedRequests (s .shared)))
   unfolding validQueue
-  queue-is h = rw (le-leb (s .progress .queued) 16 h)
+  queue-is h = rw (le-leb (s .shared .queued) 16 h)

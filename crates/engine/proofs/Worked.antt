@@ -6,7 +6,8 @@ use Rattle.hazards.specs.Floats.{z}
 use Rattle.hazards.specs.declared.answers.Answer.{Answer}
 use Rattle.clocks.specs.Clocks.{one}
 use Rattle.engine.specs.Commands as commands
-use Rattle.engine.specs.Journal.{Bytes, Engine, Reply, refusal, reverted, answered, execute}
+use Rattle.engine.specs.Engine.{Bytes, Engine, Reply, refusal, reverted, completed}
+use Rattle.engine.specs.Execute.{execute}
 use Rattle.engine.specs.Sessions.{Session, feed, newSession}
 use Rattle.engine.specs.Instance.{engineOf}
 use Rattle.engine.specs.Demand3 as demand
@@ -51,7 +52,7 @@ inputs =
 abbrev numberIn : Reply Answer → ℕ
 numberIn (refusal n) = n
 numberIn reverted = 0
-numberIn (answered a) = a .number
+numberIn (completed a) = a .number
 
 abbrev engine : Engine
 engine = engineOf stream 236
@@ -67,8 +68,8 @@ end = demand.sessionAfter stream 236 inputs
 pub worked : (numbers (newSession engine 236) inputs ≡ 12 ∷ 3 ∷ 2 ∷ 0 ∷ 8 ∷ 0 ∷ 0 ∷ 0 ∷ 0 ∷ 0 ∷ 3 ∷ 0 ∷ 0 ∷ 0 ∷ 11 ∷ 14 ∷ [])
     × (end .applied ≡ create 0 ∷ setBytes z ∷ reschedule ∷ reschedule ∷ deliver ∷ [])
     × (end .journal ≡ create 0 ++ (setBytes z ++ (reschedule ++ (reschedule ++ deliver))))
-    × (channelIn (end .state) .«target_threshold» ≡ two) × (end .state .progress .position ≡ 1)
-    × (end .state .progress .«request_count» ≡ 2)
+    × (channelIn (end .state) .«target_threshold» ≡ two) × (end .state .shared .position ≡ 1)
+    × (end .state .shared .«request_count» ≡ 2)
     × (demand.ledger stream 236 inputs .rows 0 .made ≡ 2) × (demand.ledger stream 236 inputs .rows 0 .withdrawn ≡ 1)
     × (demand.ledger stream 236 inputs .rows 0 .delivered ≡ 1) × (demand.queued stream 236 inputs 0 ≡ 0)
 unfolding computed

@@ -3,7 +3,7 @@ use mathlib.Core.List.{List}
 use Prim.Native.Nat.{ℕ}
 use Rattle.hazards.specs.Answers.{noEvent}
 use Rattle.hazards.specs.declared.answers.Answer.{Answer}
-use Rattle.engine.specs.Journal.{Bytes, Reply, refusal, reverted, answered, Outcome}
+use Rattle.engine.specs.Engine.{Bytes, Reply, refusal, reverted, completed, Outcome}
 use Rattle.engine.specs.Instance.{engineOf}
 use Rattle.engine.specs.declared.execute.Executed.{Executed}
 use Rattle.engine.specs.declared.state.EngineState.{EngineState}
@@ -12,7 +12,7 @@ use Rattle.engine.specs.declared.state.EngineState.{EngineState}
 abbrev pub answerOf : Reply Answer → Answer
 answerOf (refusal number) = noEvent number
 answerOf reverted = noEvent 0
-answerOf (answered a) = a
+answerOf (completed a) = a
 
 -- answer, state and journal after an input
 pub record AfterInput : Type 0 where
@@ -24,5 +24,5 @@ abbrev pub after : (stream : List ℕ) (n : ℕ) → Outcome (engineOf stream n)
 after stream n o = record { answer = answerOf (o .reply); state = o .state; journal = o .journal }
 
 -- as the code returns it: the answer and the state, and the journal that it was lent
-abbrev pub left : Executed → Bytes → AfterInput
-left r journal = record { answer = r .answer; state = r .state; journal = journal }
+abbrev pub returned : Executed → Bytes → AfterInput
+returned r journal = record { answer = r .answer; state = r .state; journal = journal }

@@ -9,24 +9,21 @@ use lib.Signed.{leZ}
 use lib.ListN.{getD}
 use lib.Ieee.{Float, binary64, isNan, toBits}
 use Rattle.hazards.specs.Floats.{z}
-use Rattle.hazards.specs.Checks.{ownRate}
+use Rattle.hazards.specs.Checks.{kindNumber, ownRate}
+use Rattle.hazards.specs.Ties.{tieNumber}
 use Rattle.hazards.specs.declared.rates.HazardRate.{HazardRate}
-use Rattle.hazards.specs.declared.rates.HazardRate.the-variants.{Zero, Constant, Gompertz, Piecewise}
 use Rattle.hazards.specs.declared.rates.Intervals.{Intervals}
-use Rattle.hazards.specs.declared.ties.TieBreaker.{TieBreaker}
-use Rattle.hazards.specs.declared.ties.TieBreaker.the-variants.{LowestCauseId, HighestCauseId, ExplicitPriority}
 use Rattle.clocks.specs.Channels.{emptyChannel}
+use Rattle.clocks.specs.Clocks.{policyNumber}
 use Rattle.clocks.specs.declared.channels.HazardChannelState.{HazardChannelState}
 use Rattle.clocks.specs.declared.clocks.EntityId.{EntityId}
-use Rattle.clocks.specs.declared.clocks.HazardInterruptionPolicy.{HazardInterruptionPolicy}
-use Rattle.clocks.specs.declared.clocks.HazardInterruptionPolicy.the-variants.{Restart, RetainResidual}
 use Rattle.clocks.specs.declared.clocks.ScheduledEvent.{ScheduledEvent}
 use Rattle.clocks.specs.declared.clocks.Winner.{Winner}
 use Rattle.clocks.specs.declared.clocks.SurvivalClock.{SurvivalClock}
 use Rattle.engine.specs.State.{emptySlot, emptyRequest}
 use Rattle.engine.specs.declared.state.ClockSlot.{ClockSlot}
 use Rattle.engine.specs.declared.state.Request.{Request}
-use Rattle.engine.specs.declared.state.Progress.{Progress}
+use Rattle.engine.specs.declared.state.SharedState.{SharedState}
 use Rattle.engine.specs.declared.state.EngineState.{EngineState}
 
 -- ---- single values
@@ -40,22 +37,6 @@ sameInteger a b = leZ a b && leZ b a
 
 unfoldable pub sameFloat : Float → Float → Bool
 sameFloat x y = cond (isNan x) (isNan y) (cond (isNan y) false (eqb (toBits binary64 x) (toBits binary64 y)))
-
--- the choices by their numbers in document 01
-abbrev pub policyNumber : HazardInterruptionPolicy → ℕ
-policyNumber Restart = 0
-policyNumber RetainResidual = 1
-
-abbrev pub tieNumber : TieBreaker → ℕ
-tieNumber LowestCauseId = 0
-tieNumber HighestCauseId = 1
-tieNumber ExplicitPriority = 2
-
-abbrev pub kindNumber : HazardRate → ℕ
-kindNumber Zero = 0
-kindNumber (Constant rate) = 1
-kindNumber (Gompertz eta) = 2
-kindNumber (Piecewise trailing) = 3
 
 -- ---- arrays: a test of every place below n
 
@@ -131,8 +112,8 @@ sameRequest a b =
     && (eqb (a .ticks .high) (b .ticks .high)
     && (sameInteger (a .priority) (b .priority) && eqb (a .index) (b .index))))
 
-unfoldable pub sameProgress : Progress → Progress → Bool
-sameProgress a b =
+unfoldable pub sameShared : SharedState → SharedState → Bool
+sameShared a b =
     everyBelow 16 (λ i. sameRequest (getD (a .queue) i emptyRequest) (getD (b .queue) i emptyRequest))
     && (eqb (a .queued) (b .queued)
     && (eqb (a .«request_count») (b .«request_count»)
@@ -141,4 +122,4 @@ sameProgress a b =
 unfoldable pub sameState : EngineState → EngineState → Bool
 sameState a b =
     everyBelow 16 (λ i. sameSlot (getD (a .slots) i emptySlot) (getD (b .slots) i emptySlot))
-    && sameProgress (a .progress) (b .progress)
+    && sameShared (a .shared) (b .shared)

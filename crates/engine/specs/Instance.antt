@@ -2,14 +2,14 @@
 use mathlib.Core.List.{List, []}
 use Prim.Native.Nat.{ℕ}
 use Rattle.hazards.specs.declared.answers.Answer.{Answer}
-use Rattle.engine.specs.Commands.{widthOf}
-use Rattle.engine.specs.State.{openedState}
+use Rattle.engine.specs.Commands.{widthOf, clockOf, priorityOf}
+use Rattle.engine.specs.Opening.{openedState}
 use Rattle.engine.specs.Validation.{validState}
 use Rattle.engine.specs.Comparison.{sameState}
-use Rattle.engine.specs.Journal.{Bytes, Engine}
+use Rattle.engine.specs.Engine.{Bytes, Engine}
 use Rattle.engine.specs.Sessions.{Session}
-use Rattle.engine.specs.Execution.{clockOf, priorityOf, perform}
-use Rattle.engine.specs.Ledger.{Requests}
+use Rattle.engine.specs.Execution.{perform}
+use Rattle.engine.specs.Ledger.{LedgerFields}
 use Rattle.engine.specs.declared.state.EngineState.{EngineState}
 
 abbrev pub engineOf : List ℕ → ℕ → Engine
@@ -17,7 +17,7 @@ engineOf stream n = record {
   State = EngineState;
   Answer = Answer;
   opened = openedState;
-  appliedLength = λ s. s .progress .«applied_length»;
+  appliedLength = λ s. s .shared .«applied_length»;
   valid = validState stream n;
   same = sameState;
   width = widthOf;
@@ -28,8 +28,8 @@ engineOf stream n = record {
 abbrev pub openedWith : (stream : List ℕ) (n : ℕ) → EngineState → Bytes → Session (engineOf stream n)
 openedWith stream n s journal = record { state = s; journal = journal; applied = [] }
 
-abbrev pub requestsOf : (stream : List ℕ) (n : ℕ) → Requests (engineOf stream n)
-requestsOf stream n = record {
+abbrev pub ledgerFieldsOf : (stream : List ℕ) (n : ℕ) → LedgerFields (engineOf stream n)
+ledgerFieldsOf stream n = record {
   clockOf = clockOf;
   priorityOf = priorityOf;
   event = λ a. a .event;

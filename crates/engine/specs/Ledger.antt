@@ -9,7 +9,8 @@ use lib.IntN.{ℤ}
 use Rattle.clocks.specs.declared.ticks.Ticks.{Ticks}
 use Rattle.engine.specs.Commands as commands
 use Rattle.engine.specs.Queue.{earlierOf}
-use Rattle.engine.specs.Journal.{Bytes, Engine, code, Reply, refusal, reverted, answered, execute}
+use Rattle.engine.specs.Engine.{Bytes, Engine, code, Reply, refusal, reverted, completed}
+use Rattle.engine.specs.Execute.{execute}
 use Rattle.engine.specs.Sessions.{Session, feed}
 use Rattle.engine.specs.declared.state.Request.{Request}
 
@@ -68,14 +69,14 @@ recordDelivery b none = b
 recordDelivery b (some r) = record { rows = putRow (b .rows) (r .clock) (deliveredRow (b .rows (r .clock))); all = b .all }
 
 -- what the ledger reads of a command and of its answer
-pub record Requests (E : Engine) : Type 0 where
+pub record LedgerFields (E : Engine) : Type 0 where
   pub clockOf : Bytes → ℕ
   pub priorityOf : Bytes → ℤ
   pub event : E .Answer → Bool
   pub withdrawn : E .Answer → Bool
   pub answerTicks : E .Answer → Ticks
 
-module _ (E : Engine) (R : Requests E) where
+module _ (E : Engine) (R : LedgerFields E) where
   -- any command but DELIVER: first the withdrawn byte, then the event byte
   abbrev pub recordAnswer : Ledger → Bytes → E .Answer → Ledger
   recordAnswer b c a =
@@ -89,7 +90,7 @@ module _ (E : Engine) (R : Requests E) where
   abbrev pub recordReply : Ledger → Bytes → Reply (E .Answer) → Ledger
   recordReply b c (refusal n) = b
   recordReply b c reverted = b
-  recordReply b c (answered a) = recordCommand b c a
+  recordReply b c (completed a) = recordCommand b c a
 
   -- the ledger after the commands, given to the session u one after another
   unfoldable pub ledgerOf : Session E → Ledger → List Bytes → Ledger

@@ -1,23 +1,34 @@
--- The definitions of the engine crate: commands, queue, execution, journal and undo, the batch run, demand 3 and the table of rows. The
--- files named ..Code tell what the answers of the code's own functions mean; the others are document 01's.
-pub mod Answers
-pub mod Commands
-pub mod Comparison
-pub mod Demand3
-pub mod ExecuteCode
-pub mod Execution
-pub mod ExecutionCode
-pub mod Instance
-pub mod Journal
-pub mod Ledger
-pub mod Parts
-pub mod Queue
-pub mod QueueCode
+-- The definitions of the engine crate, in the order in which they build on each other. A file has the name of the module of src/ that it
+-- defines; theorem.rt has Demand3 and Rows.
+
+-- commands and refusals
 pub mod Refusals
-pub mod ReplayCode
-pub mod Rows
-pub mod Run
-pub mod RunCode
-pub mod Sessions
+pub mod Commands
+-- the state and its queue
 pub mod State
+pub mod Opening
+pub mod Queue
 pub mod Validation
+pub mod Comparison
+-- what each command does
+pub mod Execution
+-- journal, undo, and the execution of one input, over any engine
+pub mod Engine
+pub mod Journal
+pub mod Replay
+pub mod Execute
+-- document 01's engine, its answers and the batch run
+pub mod Instance
+pub mod Answers
+pub mod Run
+-- demand 3 and the table of rows
+pub mod Sessions
+pub mod Ledger
+pub mod Demand3
+pub mod Rows
+-- internals: what the answers of the code's inner functions mean; no call that document 01 names cites these
+pub mod QueueInternals
+pub mod ExecutionInternals
+pub mod ExecuteInternals
+pub mod ReplayInternals
+pub mod RunInternals

@@ -39,9 +39,9 @@ unfoldable pub without : ℕ → List Request → List Request
 without index rs = keepIf (λ r. not (eqb (r .index) index)) rs
 
 -- whether a request with an index is there
-unfoldable pub isThere : ℕ → List Request → Bool
-isThere index [] = false
-isThere index (r ∷ rs) = cond (eqb (r .index) index) true (isThere index rs)
+unfoldable pub isQueued : ℕ → List Request → Bool
+isQueued index [] = false
+isQueued index (r ∷ rs) = cond (eqb (r .index) index) true (isQueued index rs)
 
 -- how many are for a clock
 abbrev pub countFor : ℕ → List Request → ℕ

@@ -27,7 +27,8 @@ use Rattle.clocks.specs.declared.channels.HazardChannelState.{HazardChannelStat
 use Rattle.clocks.specs.declared.ticks.Ticks.{Ticks}
 use Rattle.engine.specs.Commands as commands
 use Rattle.engine.specs.State.{slotAt, queuedRequests}
-use Rattle.engine.specs.Journal.{Bytes, execute}
+use Rattle.engine.specs.Engine.{Bytes}
+use Rattle.engine.specs.Execute.{execute}
 use Rattle.engine.specs.Sessions.{Session}
 use Rattle.engine.specs.Instance.{engineOf}
 use Rattle.engine.specs.Demand3 as demand
@@ -101,7 +102,7 @@ sampledBy tie = sampleNext causes 2 (settings tie) (f64 two ++ f64 two) 0
 
 -- the cause's event after 4.0; two thresholds are drawn
 abbrev pub eventAfterFour : ℕ → Sampled
-eventAfterFour cause = record { answer = eventOf cause four false; position = 2 }
+eventAfterFour cause = record { answer = eventOf cause four false; position = record { next = 2 } }
 
 -- ---- row 8: ticks as low and high word
 
@@ -168,7 +169,7 @@ channelIn s = getD (slotAt s 0 .clock .channels) 0 emptyChannel
 
 -- the ticks of the queued requests
 abbrev pub queuedTicks : List Bytes → List Ticks
-queuedTicks inputs = map (λ r. r .ticks) (queuedRequests (rowSession inputs .state .progress))
+queuedTicks inputs = map (λ r. r .ticks) (queuedRequests (rowSession inputs .state .shared))
 
 -- RetainResidual, scale 10; Constant 0.5 set at 0
 abbrev pub started : List Bytes
@@ -224,6 +225,6 @@ pub record TwelveRows : Type 0 where
   pub row-11 : (settledHazard (channelIn (rowSession rescheduled .state)) four ≡ two)
       × (channelIn (rowSession rescheduled .state) .«target_threshold» ≡ two)
       × (channelIn (rowSession setLater .state) .«target_threshold» ≡ one)
-      × (rowSession setLater .state .progress .position ≡ 2)
+      × (rowSession setLater .state .shared .position ≡ 2)
   -- Censor time equal to the event's: not censored
   pub row-12 : answerBytes (answerTo started (rescheduleBytes z (censorAt four))) ≡ rowNineBytes

@@ -2,7 +2,8 @@
 use Prim.Native.Nat.{ℕ}
 use mathlib.Core.List.{List, [], _∷_, _++_}
 use lib.ListN.{replicate}
-use Rattle.engine.specs.Journal.{Bytes, Engine, Reply, refusal, reverted, answered, init, cut, execute}
+use Rattle.engine.specs.Engine.{Bytes, Engine, Reply, refusal, reverted, completed, init, cut}
+use Rattle.engine.specs.Execute.{execute}
 
 module _ (E : Engine) where
   -- an engine in use, with its applied commands (document 01: the commands that stand)
@@ -16,7 +17,7 @@ module _ (E : Engine) where
   abbrev pub appliedAfter : Reply (E .Answer) → Bytes → List Bytes → List Bytes
   appliedAfter (refusal n) i cs = cs
   appliedAfter reverted i cs = init cs
-  appliedAfter (answered a) i cs = cs ++ (cut E i ∷ [])
+  appliedAfter (completed a) i cs = cs ++ (cut E i ∷ [])
 
   -- one input, given the state and journal that the one before left
   unfoldable pub feed : Session → Bytes → Session
@@ -39,7 +40,7 @@ module _ (E : Engine) where
   abbrev pub Accepted : Reply (E .Answer) → Type 0
   Accepted (refusal n) = ⊥
   Accepted reverted = Unit {0}
-  Accepted (answered a) = Unit {0}
+  Accepted (completed a) = Unit {0}
 
   -- every input is accepted
   unfoldable pub AcceptsEach : Session → List Bytes → Type 0

@@ -1,4 +1,4 @@
--- The state at opening, and states with a part replaced.
+-- What an unused place of the state holds, and states with a part replaced.
 use mathlib.Core.Bool.{false}
 use mathlib.Core.List.{List, _++_}
 use Prim.Native.Nat.{ℕ, _+_, _-_}
@@ -11,7 +11,7 @@ use Rattle.clocks.specs.declared.clocks.HazardInterruptionPolicy.the-variants.{
 use Rattle.clocks.specs.declared.clocks.SurvivalClock.{SurvivalClock}
 use Rattle.engine.specs.declared.state.ClockSlot.{ClockSlot}
 use Rattle.engine.specs.declared.state.Request.{Request}
-use Rattle.engine.specs.declared.state.Progress.{Progress}
+use Rattle.engine.specs.declared.state.SharedState.{SharedState}
 use Rattle.engine.specs.declared.state.EngineState.{EngineState}
 
 -- what an unused place holds
@@ -24,32 +24,19 @@ emptySlot = record { present = false; clock = emptyClock }
 abbrev pub emptyRequest : Request
 emptyRequest = record { clock = 0; ticks = record { low = 0; high = 0 }; priority = pos 0; index = 0 }
 
-abbrev pub openedProgress : Progress
-openedProgress = record {
-  queue = replicate 16 emptyRequest;
-  queued = 0;
-  «request_count» = 0;
-  position = 0;
-  «applied_length» = 0;
-}
-
--- at opening nothing exists
-unfoldable pub openedState : EngineState
-openedState = record { slots = replicate 16 emptySlot; progress = openedProgress }
-
 abbrev pub slotAt : EngineState → ℕ → ClockSlot
 slotAt s i = getD (s .slots) i emptySlot
 
--- with another slot at a place, and another progress
-abbrev pub withSlot : EngineState → ℕ → ClockSlot → Progress → EngineState
-withSlot s i slot p = record { slots = set (s .slots) i slot; progress = p }
+-- with another slot at a place, and another shared state
+abbrev pub withSlot : EngineState → ℕ → ClockSlot → SharedState → EngineState
+withSlot s i slot p = record { slots = set (s .slots) i slot; shared = p }
 
 -- the requests that are queued, in their order
-abbrev pub queuedRequests : Progress → List Request
+abbrev pub queuedRequests : SharedState → List Request
 queuedRequests p = take (p .queued) (p .queue)
 
 -- with these requests queued and none else
-abbrev pub withQueue : Progress → List Request → Progress
+abbrev pub withQueue : SharedState → List Request → SharedState
 withQueue p rs = record {
   queue = rs ++ replicate (16 - length rs) emptyRequest;
   queued = length rs;
@@ -58,8 +45,9 @@ withQueue p rs = record {
   «applied_length» = p .«applied_length»;
 }
 
--- with one request more, which is counted
-abbrev pub withRequest : Progress → Request → Progress
+-- with one request more, which is counted. RESCHEDULE and RESUME alone put one in, and withdraw their clock's own before it, so that in a
+-- valid state fewer than sixteen are queued then (proofs/QueueRoom.antt: rescheduled-room, resumed-room).
+abbrev pub withRequest : SharedState → Request → SharedState
 withRequest p r = record {
   queue = set (p .queue) (p .queued) r;
   queued = p .queued + 1;
@@ -69,7 +57,7 @@ withRequest p r = record {
 }
 
 -- with another draw position
-abbrev pub withPosition : Progress → ℕ → Progress
+abbrev pub withPosition : SharedState → ℕ → SharedState
 withPosition p position = record {
   queue = p .queue;
   queued = p .queued;
@@ -79,8 +67,8 @@ withPosition p position = record {
 }
 
 -- with n bytes more applied
-abbrev pub applied : ℕ → Progress → Progress
-applied n p = record {
+abbrev pub withAppliedBytes : ℕ → SharedState → SharedState
+withAppliedBytes n p = record {
   queue = p .queue;
   queued = p .queued;
   «request_count» = p .«request_count»;

@@ -8,10 +8,10 @@ use Rattle.hazards.specs.Lists.{all}
 use Rattle.hazards.specs.Draws.{streamLength}
 use Rattle.clocks.specs.Validation.{validClock}
 use Rattle.engine.specs.State.{slotAt, queuedRequests}
-use Rattle.engine.specs.Queue.{isThere}
+use Rattle.engine.specs.Queue.{isQueued}
 use Rattle.engine.specs.declared.state.ClockSlot.{ClockSlot}
 use Rattle.engine.specs.declared.state.Request.{Request}
-use Rattle.engine.specs.declared.state.Progress.{Progress}
+use Rattle.engine.specs.declared.state.SharedState.{SharedState}
 use Rattle.engine.specs.declared.state.EngineState.{EngineState}
 
 unfoldable pub validSlot : ClockSlot → Bool
@@ -25,23 +25,23 @@ validRequest s r =
     && (slot .present
     && (slot .clock .«scheduled_event_id» .present
     && (eqb (slot .clock .«scheduled_event_id» .index) (r .index)
-    && (slot .clock .«current_winner» .present && ltb (r .index) (s .progress .«request_count»)))))
+    && (slot .clock .«current_winner» .present && ltb (r .index) (s .shared .«request_count»)))))
 
 -- no index twice
 unfoldable pub distinct : List Request → Bool
 distinct [] = true
-distinct (r ∷ rs) = not (isThere (r .index) rs) && distinct rs
+distinct (r ∷ rs) = not (isQueued (r .index) rs) && distinct rs
 
 unfoldable pub validQueue : EngineState → Bool
 validQueue s =
-    leb (s .progress .queued) 16
-    && (all (validRequest s) (queuedRequests (s .progress)) && distinct (queuedRequests (s .progress)))
+    leb (s .shared .queued) 16
+    && (all (validRequest s) (queuedRequests (s .shared)) && distinct (queuedRequests (s .shared)))
 
-unfoldable pub validProgress : List ℕ → ℕ → Progress → Bool
-validProgress stream journalLength p =
+unfoldable pub validShared : List ℕ → ℕ → SharedState → Bool
+validShared stream journalLength p =
     leb (p .position) (streamLength stream)
     && (leb (p .«applied_length») journalLength && leb (p .«request_count») (p .«applied_length»))
 
 unfoldable pub validState : List ℕ → ℕ → EngineState → Bool
 validState stream journalLength s =
-    all validSlot (s .slots) && (validQueue s && validProgress stream journalLength (s .progress))
+    all validSlot (s .slots) && (validQueue s && validShared stream journalLength (s .shared))

@@ -4,12 +4,12 @@ ghost use mathlib.Core.Bool.{not, _&&_, _||_};
 ghost use Prim.Native.Nat.{_≤_};
 ghost use lib.Dec.{eqb, ltb};
 ghost use Rattle.hazards.specs.Fields.{fieldAt};
-ghost use Rattle.engine.specs.Commands.{widthOf, entityIndexField, generationField};
-ghost use Rattle.engine.specs.Execution.{byteAt, floatsAt, policyOf, hazardFields, settingOf, createdClock, censorOf};
-ghost use Rattle.engine.specs.Execution.{clockFaults, createFaults, causeFaults, setFaults, rescheduleFaults, pauseFaults};
+ghost use Rattle.engine.specs.Commands.{widthOf, entityIndexField, generationField, byteAt, floatsAt, hazardFields, settingOf};
+ghost use Rattle.engine.specs.Commands.{createdClock, censorOf, clockFaults, createFaults, causeFaults, setFaults, rescheduleFaults};
+ghost use Rattle.engine.specs.Commands.{pauseFaults, faultsOf};
 use clocks::clocks::EntityId;
-use clocks::clocks::HazardInterruptionPolicy;
 use clocks::clocks::SurvivalClock;
+use clocks::clocks::policy_of;
 use clocks::scheduling::Censor;
 use clocks::setting::CauseSetting;
 use hazards::checks::HazardFields;
@@ -133,6 +133,7 @@ fn hazard_fields(command: &[u8]) -> HazardFields
     }
 }
 
+// The cause, priority, hazard and time of a SET.
 pub fn setting_of(command: &[u8]) -> CauseSetting
     ensures { λ r. ⌜ r ≡ settingOf (now (command .entry)) ⌝ }
 {
@@ -148,15 +149,7 @@ pub fn setting_of(command: &[u8]) -> CauseSetting
     }
 }
 
-pub fn policy_of(policy: u8) -> HazardInterruptionPolicy
-    ensures { λ r. ⌜ r ≡ policyOf policy ⌝ }
-{
-    if policy == 0 {
-        return HazardInterruptionPolicy::Restart;
-    }
-    HazardInterruptionPolicy::RetainResidual
-}
-
+// The clock that a CREATE makes.
 pub fn created_clock(command: &[u8]) -> SurvivalClock
     ensures { λ r. ⌜ r ≡ createdClock (now (command .entry)) ⌝ }
 {
@@ -177,6 +170,7 @@ pub fn created_clock(command: &[u8]) -> SurvivalClock
     )
 }
 
+// The censor of a RESCHEDULE or RESUME.
 pub fn censor_of(command: &[u8]) -> Censor
     ensures { λ r. ⌜ r ≡ censorOf (now (command .entry)) ⌝ }
 {
@@ -215,13 +209,14 @@ fn has_fault(has: u8, empty: bool) -> bool
     !empty
 }
 
+// Of CREATE: policy, tie, entity and scale, and its clock.
 pub fn create_faults(command: &[u8]) -> Faults
     ensures { λ r. ⌜ r ≡ createFaults (now (command .entry)) ⌝ }
 {
     let policy = byte_at(command, POLICY_FIELD) > 1;
     let tie = byte_at(command, TIE_FIELD) > 2;
     let entity = has_fault(byte_at(command, HAS_ENTITY_FIELD), unused_entity(command));
-    let scale = hazards::checks::in_range(f64_at(command, SCALE_FIELD));
+    let scale = hazards::floats::in_range(f64_at(command, SCALE_FIELD));
     let own = Faults {
         choice: policy | (tie | entity),
         range: !scale,
@@ -231,6 +226,7 @@ pub fn create_faults(command: &[u8]) -> Faults
     own.joined(clock_faults(command))
 }
 
+// Of REMOVE: its cause and its clock.
 pub fn cause_faults(command: &[u8]) -> Faults
     ensures { λ r. ⌜ r ≡ causeFaults (now (command .entry)) ⌝ }
 {
@@ -238,25 +234,27 @@ pub fn cause_faults(command: &[u8]) -> Faults
     hazards::refusals::identifier_fault_if(reserved).joined(clock_faults(command))
 }
 
+// Of SET: its hazard and now, and what REMOVE is tested for.
 pub fn set_faults(command: &[u8]) -> Faults
     ensures { λ r. ⌜ r ≡ setFaults (now (command .entry)) ⌝ }
 {
     let fields = hazard_fields(command);
-    let now = hazards::checks::is_time(f64_at(command, SET_NOW_FIELD));
+    let now = hazards::floats::is_time(f64_at(command, SET_NOW_FIELD));
     let rest = hazards::refusals::range_fault_unless(now).joined(cause_faults(command));
     fields.faults().joined(rest)
 }
 
+// Of RESCHEDULE and RESUME: now and censor, and their clock.
 pub fn reschedule_faults(command: &[u8]) -> Faults
     ensures { λ r. ⌜ r ≡ rescheduleFaults (now (command .entry)) ⌝ }
 {
-    let now = hazards::checks::is_time(f64_at(command, NOW_FIELD));
+    let now = hazards::floats::is_time(f64_at(command, NOW_FIELD));
     let censor = f64_at(command, CENSOR_FIELD);
-    let time = hazards::checks::is_time(censor);
+    let time = hazards::floats::is_time(censor);
     let own = Faults {
         choice: has_fault(
             byte_at(command, HAS_CENSOR_FIELD),
-            hazards::checks::zero_bits(censor),
+            hazards::floats::zero_bits(censor),
         ),
         range: !(now & time),
         intervals: false,
@@ -265,9 +263,31 @@ pub fn reschedule_faults(command: &[u8]) -> Faults
     own.joined(clock_faults(command))
 }
 
+// Of PAUSE: now, and its clock.
 pub fn pause_faults(command: &[u8]) -> Faults
     ensures { λ r. ⌜ r ≡ pauseFaults (now (command .entry)) ⌝ }
 {
-    let now = hazards::checks::is_time(f64_at(command, NOW_FIELD));
+    let now = hazards::floats::is_time(f64_at(command, NOW_FIELD));
     hazards::refusals::range_fault_unless(now).joined(clock_faults(command))
+}
+
+// What refusals 4 to 7 say of any command, by its code. DELIVER and UNDO have no fields.
+pub fn faults(command: &[u8]) -> Faults
+    ensures { λ r. ⌜ r ≡ faultsOf (now (command .entry)) ⌝ }
+{
+    let code = byte_at(command, 0);
+    match code {
+        CREATE => create_faults(command),
+        SET => set_faults(command),
+        REMOVE => cause_faults(command),
+        RESCHEDULE => reschedule_faults(command),
+        PAUSE => pause_faults(command),
+        RESUME => reschedule_faults(command),
+        _ => Faults {
+            choice: false,
+            range: false,
+            intervals: false,
+            identifier: false,
+        },
+    }
 }

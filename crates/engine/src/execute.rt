@@ -3,15 +3,16 @@ ghost use mathlib.Core.Path.{_≡_};
 ghost use mathlib.Core.Bool.{true};
 ghost use lib.ListN.{length};
 ghost use Rattle.hazards.specs.Answers.{noEvent};
-ghost use Rattle.engine.specs.Journal.{act, apply, execute};
+ghost use Rattle.engine.specs.Execute.{act, execute};
+ghost use Rattle.engine.specs.Engine.{carryOut};
 ghost use Rattle.engine.specs.Validation.{validState};
 ghost use Rattle.engine.specs.Instance.{engineOf};
-ghost use Rattle.engine.specs.ExecuteCode.{Appliable, applyOn, appliedOn};
-ghost use Rattle.engine.specs.Answers.{after, left};
+ghost use Rattle.engine.specs.ExecuteInternals.{Recordable, performAndRecord, recorded};
+ghost use Rattle.engine.specs.Answers.{after, returned};
 use crate::execution::SlotOutcome;
 use crate::state::ClockSlot;
 use crate::state::EngineState;
-use crate::state::Progress;
+use crate::state::SharedState;
 use hazards::answers::Answer;
 
 pub const NO_COMMAND: u8 = 2;
@@ -35,52 +36,57 @@ pub(crate) fn refuse(state: EngineState, number: u8) -> Executed
 }
 
 // A command but UNDO on the slot of its clock; where it is accepted it is copied into the journal's free part.
-pub(crate) fn apply_on(
+pub(crate) fn perform_and_record(
     slot: ClockSlot,
-    progress: Progress,
+    shared: SharedState,
     stream: &[u8],
     journal: &mut [u8],
     command: &[u8],
 ) -> SlotOutcome
-    requires { ⌜ Appliable progress (now journal) ⌝ }
-    ensures { λ r. ⌜ appliedOn r (now (journal .exit))
-        ≡ applyOn (now (stream .entry)) slot progress (now (journal .entry)) (now (command .entry)) ⌝ }
+    requires { ⌜ Recordable shared (now journal) ⌝ }
+    ensures { λ r. ⌜ recorded r (now (journal .exit))
+        ≡ performAndRecord (now (stream .entry)) slot shared (now (journal .entry)) (now (command .entry)) ⌝ }
 {
-    let outcome = crate::execution::perform_on(slot, progress, stream, journal.len(), command);
+    let outcome = crate::execution::perform_on(slot, shared, stream, journal.len(), command);
     if outcome.number != 0 {
         return outcome;
     }
-    let free = progress.applied_length;
+    let free = shared.applied_length;
     crate::journal::copy_into(&mut journal[free..], command);
     outcome
 }
 
 // A command but UNDO, cut to its width.
-fn apply(state: EngineState, stream: &[u8], journal: &mut [u8], command: &[u8]) -> Executed
+fn perform_command(
+    state: EngineState,
+    stream: &[u8],
+    journal: &mut [u8],
+    command: &[u8],
+) -> Executed
     requires { ⌜ validState (now stream) (length (now journal)) state ≡ true ⌝ }
-    ensures { λ r. ⌜ left r (now (journal .exit))
+    ensures { λ r. ⌜ returned r (now (journal .exit))
         ≡ after (now (stream .entry)) (length (now (journal .entry)))
         (act (engineOf (now (stream .entry)) (length (now (journal .entry)))) state (now (journal .entry))
-        (apply (now (command .entry)))) ⌝ }
+        (carryOut (now (command .entry)))) ⌝ }
 {
-    let target = crate::execution::target(state.progress, command);
+    let target = crate::execution::target(state.shared, command);
     let slot = crate::replay::slot_at(state, target);
-    let outcome = apply_on(slot, state.progress, stream, journal, command);
+    let outcome = perform_and_record(slot, state.shared, stream, journal, command);
     if outcome.number != 0 {
         return refuse(state, outcome.number);
     }
     let moved = outcome.slot;
-    let progress = outcome.progress;
+    let shared = outcome.shared;
     let answer = outcome.answer;
     Executed {
         answer,
-        state: crate::replay::with_slot(state, target, moved, progress),
+        state: crate::replay::with_slot(state, target, moved, shared),
     }
 }
 
 // One input (document 01: the command door) on a state and its journal: its answer or refusal, and the state after it.
 pub fn execute(state: EngineState, stream: &[u8], journal: &mut [u8], input: &[u8]) -> Executed
-    ensures { λ r. ⌜ left r (now (journal .exit))
+    ensures { λ r. ⌜ returned r (now (journal .exit))
         ≡ after (now (stream .entry)) (length (now (journal .entry)))
         (execute (engineOf (now (stream .entry)) (length (now (journal .entry)))) state (now (journal .entry))
         (now (input .entry))) ⌝ }
@@ -89,7 +95,7 @@ pub fn execute(state: EngineState, stream: &[u8], journal: &mut [u8], input: &[u
         return refuse(state, hazards::refusals::INVALID_STATE);
     }
     if input.len() == 0 {
-        return refuse(state, CUT_SHORT);
+        return refuse(state, CUT_SHORT); // no byte
     }
     let code = input[0];
     let width = crate::commands::width(code);
@@ -97,10 +103,10 @@ pub fn execute(state: EngineState, stream: &[u8], journal: &mut [u8], input: &[u
         return refuse(state, NO_COMMAND);
     }
     if input.len() < width {
-        return refuse(state, CUT_SHORT);
+        return refuse(state, CUT_SHORT); // fewer than the width
     }
     if code == crate::commands::UNDO {
         return crate::replay::undo(state, stream, journal);
     }
-    apply(state, stream, journal, &input[..width])
+    perform_command(state, stream, journal, &input[..width])
 }

@@ -1,7 +1,7 @@
 // The journal's bytes: a command copied into the free part, bytes cleared, and the part that the applied commands fill.
 ghost use mathlib.Core.Path.{_≡_};
 ghost use Prim.Native.Nat.{min};
-ghost use Rattle.engine.specs.Parts.{copiedInto, clearedFront, appliedPart, appliedNumber};
+ghost use Rattle.engine.specs.Journal.{copiedInto, clearedFront, part, appliedPart};
 
 // The command over the first bytes of the free part; one that is longer changes nothing.
 pub fn copy_into(free: &mut [u8], command: &[u8])
@@ -35,23 +35,20 @@ pub fn clear(bytes: &mut [u8], count: usize)
     }
 }
 
-// The applied commands (document 01: standing commands), as that part of the caller's journal; empty where their length is past its end.
-pub fn applied_commands<'a>(applied_length: usize, journal: &'a [u8]) -> &'a [u8]
-    ensures { λ r. ⌜ now r ≡ appliedPart (now (journal .entry)) «applied_length» ⌝ }
+// The applied commands (document 01: standing commands), as that part of the caller's journal, and its number: 0, or 1 with an empty part
+// where their length is past the journal's end.
+pub fn applied_commands<'a, 'n>(
+    applied_length: usize,
+    journal: &'a [u8],
+    number: &'n mut u8,
+) -> &'a [u8]
+    ensures { λ r. ⌜ part (now r) (now (number .exit)) ≡ appliedPart (now (journal .entry)) «applied_length» ⌝ }
 {
     if applied_length <= journal.len() {
+        *number = 0;
         &journal[..applied_length]
     } else {
+        *number = hazards::refusals::INVALID_STATE;
         &journal[..0]
     }
-}
-
-// The number of the call above: 0, or 1 where the applied commands' length is past the journal's end.
-pub fn applied_number(applied_length: usize, journal: &[u8]) -> u8
-    ensures { λ r. ⌜ r ≡ appliedNumber (now (journal .entry)) «applied_length» ⌝ }
-{
-    if applied_length > journal.len() {
-        return hazards::refusals::INVALID_STATE;
-    }
-    0
 }

@@ -1,5 +1,5 @@
 // The engine: sixteen survival clocks, the queue of their events, commands, the journal and undo.
-// Definitions: specs/, under the modules' names or as docs/DECISIONS.md lists them, and what they share.
+// Definitions: specs/, under the modules' names, and what they share; those of theorem are Demand3 and Rows.
 pub mod commands;
 pub mod comparison;
 pub mod execute;

@@ -3,13 +3,14 @@ ghost use mathlib.Core.List.{List};
 ghost use mathlib.Core.Path.{_≡_};
 ghost use Prim.Native.Nat.{ℕ};
 ghost use lib.ListN.{length};
-ghost use Rattle.engine.specs.State.{emptySlot, openedState};
+ghost use Rattle.engine.specs.State.{emptySlot};
+ghost use Rattle.engine.specs.Opening.{openedState};
 ghost use Rattle.engine.specs.Sessions.{newSession};
 ghost use Rattle.engine.specs.Instance.{engineOf, openedWith};
 use crate::state::ClockSlot;
 use crate::state::EngineState;
-use crate::state::Progress;
 use crate::state::Request;
+use crate::state::SharedState;
 use clocks::clocks::EntityId;
 use clocks::clocks::HazardInterruptionPolicy;
 use clocks::clocks::SurvivalClock;
@@ -51,7 +52,7 @@ pub(crate) fn opened_state() -> EngineState
     };
     EngineState {
         slots: [slot; 16],
-        progress: Progress {
+        shared: SharedState {
             queue: [request; 16],
             queued: 0,
             request_count: 0,

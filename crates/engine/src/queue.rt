@@ -3,11 +3,11 @@ ghost use mathlib.Core.Path.{_≡_};
 ghost use mathlib.Core.Option.{some};
 ghost use Prim.Native.Nat.{_≤_, min};
 ghost use lib.Dec.{ltb};
-ghost use Rattle.engine.specs.Queue.{requestTicks, comesFirst, earlierOf, nextRequest, isThere, without};
+ghost use Rattle.engine.specs.Queue.{requestTicks, comesFirst, earlierOf, nextRequest, isQueued, without};
 ghost use Rattle.engine.specs.State.{emptyRequest, queuedRequests, withQueue, withRequest};
-ghost use Rattle.engine.specs.QueueCode.{pickOf};
-use crate::state::Progress;
+ghost use Rattle.engine.specs.QueueInternals.{pickOf};
 use crate::state::Request;
+use crate::state::SharedState;
 use clocks::ticks::Ticks;
 
 // The earliest request, where there is one.
@@ -16,6 +16,7 @@ pub struct Pick {
     pub request: Request,
 }
 
+// What an unused place holds.
 pub fn empty_request() -> Request
     ensures { λ r. ⌜ r ≡ emptyRequest ⌝ }
 {
@@ -82,28 +83,29 @@ fn used_places(queued: usize) -> usize
 }
 
 // The request that DELIVER takes: from the last to the first, the earlier one kept.
-pub fn next_request(progress: Progress) -> Pick
-    ensures { λ r. ⌜ pickOf r ≡ nextRequest (queuedRequests progress) ⌝ }
+pub fn next_request(shared: SharedState) -> Pick
+    ensures { λ r. ⌜ pickOf r ≡ nextRequest (queuedRequests shared) ⌝ }
 {
     let mut best = Pick {
         found: false,
         request: empty_request(),
     };
-    let mut i = used_places(progress.queued);
+    let mut i = used_places(shared.queued);
     while i > 0 {
         i -= 1;
-        best = earlier_of(progress.queue[i], best);
+        best = earlier_of(shared.queue[i], best);
     }
     best
 }
 
-pub fn is_there(progress: Progress, index: u64) -> bool
-    ensures { λ r. ⌜ r ≡ isThere index (queuedRequests progress) ⌝ }
+// Whether a request with this index is queued.
+pub fn is_queued(shared: SharedState, index: u64) -> bool
+    ensures { λ r. ⌜ r ≡ isQueued index (queuedRequests shared) ⌝ }
 {
-    let used = used_places(progress.queued);
+    let used = used_places(shared.queued);
     let mut i: usize = 0;
     while i < used {
-        if progress.queue[i].index == index {
+        if shared.queue[i].index == index {
             return true;
         }
         i += 1;
@@ -112,39 +114,39 @@ pub fn is_there(progress: Progress, index: u64) -> bool
 }
 
 // The requests but the one with an index, and the rest of the places empty.
-pub fn taken_out(progress: Progress, index: u64) -> Progress
-    ensures { λ r. ⌜ r ≡ withQueue progress (without index (queuedRequests progress)) ⌝ }
+pub fn taken_out(shared: SharedState, index: u64) -> SharedState
+    ensures { λ r. ⌜ r ≡ withQueue shared (without index (queuedRequests shared)) ⌝ }
 {
-    let used = used_places(progress.queued);
+    let used = used_places(shared.queued);
     let empty = empty_request();
     let mut queue = [empty; 16];
     let mut kept: usize = 0;
     let mut i: usize = 0;
     while i < used {
-        let r = progress.queue[i];
+        let r = shared.queue[i];
         if r.index != index {
             queue[kept] = r;
             kept += 1;
         }
         i += 1;
     }
-    let mut after = progress;
+    let mut after = shared;
     after.queue = queue;
     after.queued = kept;
     after
 }
 
 // One request more, which is counted.
-pub(crate) fn put_in(progress: Progress, request: Request) -> Progress
-    requires { ⌜ (progress .queued ≤ 16) × (progress .«request_count» ≤ 0x7fff_ffff_ffff_ffff) ⌝ }
-    ensures { λ r. ⌜ r ≡ withRequest progress request ⌝ }
+pub(crate) fn put_in(shared: SharedState, request: Request) -> SharedState
+    requires { ⌜ (shared .queued ≤ 16) × (shared .«request_count» ≤ 0x7fff_ffff_ffff_ffff) ⌝ }
+    ensures { λ r. ⌜ r ≡ withRequest shared request ⌝ }
 {
-    let mut after = progress;
-    let at = progress.queued;
+    let mut after = shared;
+    let at = shared.queued;
     if at < 16 {
         after.queue[at] = request;
     }
     after.queued = at + 1;
-    after.request_count = progress.request_count + 1;
+    after.request_count = shared.request_count + 1;
     after
 }

@@ -5,27 +5,27 @@ ghost use mathlib.Core.List.{List};
 ghost use Prim.Native.Nat.{ℕ, _≤_, _<_, _^_};
 ghost use lib.ListN.{length, take};
 ghost use Rattle.engine.specs.State.{slotAt, withSlot};
-ghost use Rattle.engine.specs.Journal.{ends, replayAll, cleared, undo};
+ghost use Rattle.engine.specs.Replay.{cleared, undo};
 ghost use Rattle.engine.specs.Instance.{engineOf};
-ghost use Rattle.engine.specs.ReplayCode.{beforeLast, wholeWidth, frontCommand, replayedOf};
-ghost use Rattle.engine.specs.Answers.{after, left};
+ghost use Rattle.engine.specs.ReplayInternals.{beforeLast, wholeWidth, frontCommand, replayEndOf, ends, replayAll};
+ghost use Rattle.engine.specs.Answers.{after, returned};
 use crate::execute::Executed;
 use crate::state::ClockSlot;
 use crate::state::EngineState;
-use crate::state::Progress;
+use crate::state::SharedState;
 
 pub const NOTHING_APPLIED: u8 = 12;
 
 pub const REPLAY_FAILS: u8 = 13;
 
-// Where a replay ends: the state after all commands, and the last command's place with its clock's number, slot and progress before it.
+// Where a replay ends: the state after all commands, and the last command's place with its clock's number, slot and shared state before it.
 pub struct Replay {
     pub ok: bool,
     pub state: EngineState,
     pub last: usize,
     pub clock: usize,
     pub slot: ClockSlot,
-    pub progress: Progress,
+    pub shared: SharedState,
 }
 
 // The command at the front of some bytes.
@@ -44,20 +44,20 @@ pub(crate) fn slot_at(state: EngineState, at: usize) -> ClockSlot
     crate::opening::empty_slot()
 }
 
-// With another slot at a place and another progress.
+// With another slot at a place and another shared state.
 pub(crate) fn with_slot(
     state: EngineState,
     at: usize,
     slot: ClockSlot,
-    progress: Progress,
+    shared: SharedState,
 ) -> EngineState
-    ensures { λ r. ⌜ r ≡ withSlot state at slot progress ⌝ }
+    ensures { λ r. ⌜ r ≡ withSlot state at slot shared ⌝ }
 {
     let mut after = state;
     if at < 16 {
         after.slots[at] = slot;
     }
-    after.progress = progress;
+    after.shared = shared;
     after
 }
 
@@ -78,21 +78,21 @@ fn command_width(bytes: &[u8]) -> usize
 
 // The command at the front of the bytes by its width and its clock's number. The width is 0 where there is no whole command, where it is an
 // UNDO, and where its clock is none of the sixteen, so that it is refused.
-fn front_command(progress: Progress, bytes: &[u8]) -> FrontCommand
-    ensures { λ r. ⌜ r ≡ frontCommand progress (now (bytes .entry)) ⌝ }
+fn front_command(shared: SharedState, bytes: &[u8]) -> FrontCommand
+    ensures { λ r. ⌜ r ≡ frontCommand shared (now (bytes .entry)) ⌝ }
 {
     let width = command_width(bytes);
     if width == 0 {
         return FrontCommand { width: 0, clock: 0 };
     }
-    let clock = crate::execution::target(progress, &bytes[..width]);
+    let clock = crate::execution::target(shared, &bytes[..width]);
     if clock > 15 {
         return FrontCommand { width: 0, clock: 0 };
     }
     FrontCommand { width, clock }
 }
 
-fn failed_replay(state: EngineState, slot: ClockSlot, progress: Progress) -> Replay
+fn failed_replay(state: EngineState, slot: ClockSlot, shared: SharedState) -> Replay
     ensures { λ r. ⌜ (r .ok ≡ false) × (r .last ≡ 0) ⌝ }
 {
     Replay {
@@ -101,45 +101,45 @@ fn failed_replay(state: EngineState, slot: ClockSlot, progress: Progress) -> Rep
         last: 0,
         clock: 0,
         slot,
-        progress,
+        shared,
     }
 }
 
 // Replays commands from opening. A refused command or an UNDO among them ends it.
 fn replay_all(stream: &[u8], journal_length: usize, bytes: &[u8]) -> Replay
     requires { ⌜ «journal_length» < 2 ^ 63 ⌝ }
-    ensures { λ r. ⌜ (replayedOf (now (stream .entry)) «journal_length» r
+    ensures { λ r. ⌜ (replayEndOf (now (stream .entry)) «journal_length» r
         ≡ replayAll (engineOf (now (stream .entry)) «journal_length») (now (bytes .entry))) × (r .last ≤ length (now (bytes .entry))) ⌝ }
 {
     let mut state = crate::opening::opened_state();
     let mut slot = crate::opening::empty_slot();
-    let mut progress = state.progress;
+    let mut shared = state.shared;
     let mut clock: usize = 0;
     let mut last: usize = 0;
     let mut at: usize = 0;
     while at < bytes.len() {
-        let front = front_command(state.progress, &bytes[at..]);
+        let front = front_command(state.shared, &bytes[at..]);
         if front.width == 0 {
-            return failed_replay(state, slot, progress);
+            return failed_replay(state, slot, shared);
         }
         let end = at + front.width;
         let command = &bytes[at..end];
         let target = front.clock;
         let old = state.slots[target];
-        let before = state.progress;
+        let before = state.shared;
         let outcome = crate::execution::perform_on(old, before, stream, journal_length, command);
         if outcome.number != 0 {
-            return failed_replay(state, slot, progress);
+            return failed_replay(state, slot, shared);
         }
         clock = target;
         slot = old;
-        progress = before;
+        shared = before;
         last = at;
         at = end;
         let moved = outcome.slot;
         state.slots[target] = moved;
-        let next = outcome.progress;
-        state.progress = next;
+        let next = outcome.shared;
+        state.shared = next;
     }
     Replay {
         ok: true,
@@ -147,11 +147,11 @@ fn replay_all(stream: &[u8], journal_length: usize, bytes: &[u8]) -> Replay
         last,
         clock,
         slot,
-        progress,
+        shared,
     }
 }
 
-// What UNDO leaves after a replay: the last command's bytes cleared, its clock's slot and the progress as before it.
+// What UNDO leaves after a replay: the last command's bytes cleared, its clock's slot and the shared state as before it.
 fn restored(end: Replay, journal: &mut [u8], applied: usize) -> EngineState
     requires { ⌜ (end .last ≤ applied) × (applied ≤ length (now journal)) ⌝ }
     ensures { λ r. ⌜ (r ≡ beforeLast end)
@@ -162,8 +162,8 @@ fn restored(end: Replay, journal: &mut [u8], applied: usize) -> EngineState
     crate::journal::clear(&mut journal[last..], applied - last);
     let all = end.state;
     let slot = end.slot;
-    let progress = end.progress;
-    with_slot(all, end.clock, slot, progress)
+    let shared = end.shared;
+    with_slot(all, end.clock, slot, shared)
 }
 
 // The place of the last of some applied commands; 0 where there is none.
@@ -202,7 +202,7 @@ pub(crate) fn revert(journal: &mut [u8], applied: usize) -> usize
 }
 
 // The state after applied commands, none of which is refused.
-pub(crate) fn replayed(stream: &[u8], journal_length: usize, bytes: &[u8]) -> EngineState
+pub(crate) fn replayed_state(stream: &[u8], journal_length: usize, bytes: &[u8]) -> EngineState
     requires { ⌜ «journal_length» < 2 ^ 63 ⌝ }
     ensures { λ r. ⌜ ((s before : EngineState) (last : ℕ)
         → replayAll (engineOf (now (stream .entry)) «journal_length») (now (bytes .entry)) ≡ ends s before last → r ≡ s) ⌝ }
@@ -213,12 +213,12 @@ pub(crate) fn replayed(stream: &[u8], journal_length: usize, bytes: &[u8]) -> En
 
 // UNDO (document 01: strikes the last standing command), by a replay of the applied commands; refused by 12 or 13.
 pub(crate) fn undo(state: EngineState, stream: &[u8], journal: &mut [u8]) -> Executed
-    requires { ⌜ state .progress .«applied_length» ≤ length (now journal) ⌝ }
-    ensures { λ r. ⌜ left r (now (journal .exit))
+    requires { ⌜ state .shared .«applied_length» ≤ length (now journal) ⌝ }
+    ensures { λ r. ⌜ returned r (now (journal .exit))
         ≡ after (now (stream .entry)) (length (now (journal .entry)))
         (undo (engineOf (now (stream .entry)) (length (now (journal .entry)))) state (now (journal .entry))) ⌝ }
 {
-    let applied = state.progress.applied_length;
+    let applied = state.shared.applied_length;
     if applied == 0 {
         return crate::execute::refuse(state, NOTHING_APPLIED);
     }

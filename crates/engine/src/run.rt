@@ -6,9 +6,11 @@ ghost use Prim.Native.Nat.{_+_, _*_, _%_, _≤_};
 ghost use lib.Dec.{eqb};
 ghost use lib.ListN.{length, replicate};
 ghost use Rattle.hazards.specs.Fields.{bytesOf};
+ghost use Rattle.hazards.specs.Answers.{answerWidth};
 ghost use Rattle.engine.specs.Refusals.{nothingApplied};
 ghost use Rattle.engine.specs.Run.{runOf, ran};
-ghost use Rattle.engine.specs.RunCode.{stop, endNumber, stopAt, answeredBy, answerAt, isReverted, bothAnswered, openedRun};
+ghost use Rattle.engine.specs.RunInternals.{stop, endNumber, stopAt, journalAndAnswers, answerAt, isReverted, bothAnswered};
+ghost use Rattle.engine.specs.RunInternals.{openedRun};
 use crate::execution::perform_on;
 use hazards::answers::ANSWER_WIDTH;
 use hazards::answers::Answer;
@@ -61,7 +63,7 @@ fn end_number(input: &[u8]) -> u8
 // What ends the run before an input is executed: 17 where its answer has no room, or 2 or 3, which is answered and counted; else 0, and
 // nothing is written.
 fn end_run(input: &[u8], answers: &mut [u8], result: &mut [u8], answered: usize, read: usize) -> u8
-    requires { ⌜ (32 * answered ≤ length (now answers)) × (length (now result) ≡ 16) ⌝ }
+    requires { ⌜ (answerWidth * answered ≤ length (now answers)) × (length (now result) ≡ 16) ⌝ }
     ensures { λ r. ⌜ stop r (now (answers .exit)) (now (result .exit))
         ≡ stopAt (now (input .entry)) (now (answers .entry)) (now (result .entry)) answered read ⌝ }
 {
@@ -90,7 +92,7 @@ fn answer_at(
     command: &[u8],
 )
     requires { ⌜ (refusal ≡ 0 → free + length (now command) ≤ length (now journal)) ⌝ }
-    ensures { λ _. ⌜ answeredBy (now (journal .exit)) (now (answers .exit))
+    ensures { λ _. ⌜ journalAndAnswers (now (journal .exit)) (now (answers .exit))
         ≡ answerAt refusal answer free (now (journal .entry)) (now (answers .entry)) place (now (command .entry)) ⌝ }
 {
     if refusal != 0 {
@@ -110,7 +112,7 @@ fn answer_reverted(
     answers: &mut [u8],
     place: usize,
 ) -> bool
-    requires { ⌜ place + 32 ≤ length (now answers) ⌝ }
+    requires { ⌜ place + answerWidth ≤ length (now answers) ⌝ }
     ensures { λ r. ⌜ (r ≡ isReverted number (now (rest .entry)) (now (answers .entry)) place)
         × (now (answers .exit) ≡ cond r (bothAnswered answer (now (answers .entry)) place) (now (answers .entry))) ⌝ }
 {
@@ -174,15 +176,15 @@ fn run_commands(
             continue;
         }
         if stale {
-            state = crate::replay::replayed(stream, journal.len(), &journal[..applied]);
+            state = crate::replay::replayed_state(stream, journal.len(), &journal[..applied]);
             stale = false;
         }
         let command = &commands[start..at];
-        let target = crate::execution::target(state.progress, command);
+        let target = crate::execution::target(state.shared, command);
         // A clock above 15 is refused before its slot is looked at, so any slot does.
         let near = if target < 16 { target } else { 15 };
         let size = journal.len();
-        let outcome = perform_on(state.slots[near], state.progress, stream, size, command);
+        let outcome = perform_on(state.slots[near], state.shared, stream, size, command);
         let refusal = outcome.number;
         let answer = outcome.answer;
         if answer_reverted(refusal, answer, &commands[at..], answers, place) {
@@ -194,9 +196,9 @@ fn run_commands(
         if refusal == 0 {
             let moved = outcome.slot;
             state.slots[target] = moved;
-            let next = outcome.progress;
-            state.progress = next;
-            applied = state.progress.applied_length;
+            let next = outcome.shared;
+            state.shared = next;
+            applied = state.shared.applied_length;
         }
     }
     finish(result, answered, at);

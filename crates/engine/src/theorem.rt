@@ -1,13 +1,24 @@
 // Theorems as contracts of functions that do nothing, so that the check's log names them.
+ghost use mathlib.Core.Path.{_≡_};
 ghost use Prim.Native.Nat.{ℕ};
 ghost use mathlib.Core.List.{List};
-ghost use Rattle.engine.specs.Demand3.{Demand3};
+ghost use Rattle.engine.specs.Refusals.{badBuffers};
+ghost use Rattle.engine.specs.Run.{runOf};
+ghost use Rattle.engine.specs.Demand3.{Demand3, RunDemand3};
 ghost use Rattle.engine.specs.Rows.{TwelveRows};
 
+// Demand 3 holds, for every threshold stream, journal length and list of inputs.
 pub fn demand_3()
     ensures { λ _. ⌜ ((stream : List ℕ) (n : ℕ) (inputs : List (List ℕ)) → Demand3 stream n inputs) ⌝ }
 {}
 
+// Demand 3 holds of the batch run, for any buffers that 18 does not refuse.
+pub fn demand_3_of_runs()
+    ensures { λ _. ⌜ ((commands stream journal answers result : List ℕ)
+        → (runOf commands stream journal answers result .number ≡ badBuffers → ⊥) → RunDemand3 commands stream journal answers result) ⌝ }
+{}
+
+// Document 01's table of twelve rows holds.
 pub fn twelve_rows()
     ensures { λ _. ⌜ TwelveRows ⌝ }
 {}

@@ -7,12 +7,12 @@ ghost use Rattle.hazards.specs.Lists.{all};
 ghost use Rattle.hazards.specs.Rates.{intervalsFrom};
 ghost use Rattle.hazards.specs.Checks.{rangeFault, intervalsFault};
 ghost use Rattle.clocks.specs.Validation.{isFinite, validClock};
-ghost use Rattle.engine.specs.Queue.{isThere};
+ghost use Rattle.engine.specs.Queue.{isQueued};
 ghost use Rattle.engine.specs.State.{queuedRequests};
-ghost use Rattle.engine.specs.Validation.{validSlot, validRequest, distinct, validQueue, validProgress, validState};
+ghost use Rattle.engine.specs.Validation.{validSlot, validRequest, distinct, validQueue, validShared, validState};
 ghost use Rattle.engine.specs.declared.state.Request.{Request};
 use crate::state::EngineState;
-use crate::state::Progress;
+use crate::state::SharedState;
 use clocks::clocks::SurvivalClock;
 use clocks::clocks::Winner;
 use hazards::rates::HazardRate;
@@ -119,22 +119,22 @@ fn valid_slots(state: EngineState) -> bool
 
 // A request's clock is there, names it and holds a winner; its index is below the requests made.
 fn valid_requests(state: EngineState) -> bool
-    requires { ⌜ state .progress .queued ≤ 16 ⌝ }
-    ensures { λ r. ⌜ r ≡ all (validRequest state) (queuedRequests (state .progress)) ⌝ }
+    requires { ⌜ state .shared .queued ≤ 16 ⌝ }
+    ensures { λ r. ⌜ r ≡ all (validRequest state) (queuedRequests (state .shared)) ⌝ }
 {
-    let progress = state.progress;
-    let queued = progress.queued;
+    let shared = state.shared;
+    let queued = shared.queued;
     let mut i: usize = 0;
     while i < queued {
-        let index = progress.queue[i].index;
-        let at = progress.queue[i].clock;
+        let index = shared.queue[i].index;
+        let at = shared.queue[i].clock;
         if at >= 16 {
             return false;
         }
         let event = state.slots[at].clock.scheduled_event_id.present;
         let named = state.slots[at].clock.scheduled_event_id.index == index;
         let winner = state.slots[at].clock.current_winner.present;
-        let made = index < progress.request_count;
+        let made = index < shared.request_count;
         if !(state.slots[at].present & (event & (named & (winner & made)))) {
             return false;
         }
@@ -145,7 +145,7 @@ fn valid_requests(state: EngineState) -> bool
 
 // Whether an index is among those of some requests.
 fn is_among(indices: &[u64], index: u64) -> bool
-    ensures { λ r. ⌜ ((rs : List Request) → now (indices .entry) ≡ map (λ q. q .index) rs → r ≡ isThere index rs) ⌝ }
+    ensures { λ r. ⌜ ((rs : List Request) → now (indices .entry) ≡ map (λ q. q .index) rs → r ≡ isQueued index rs) ⌝ }
 {
     let mut i: usize = 0;
     while i < indices.len() {
@@ -158,15 +158,15 @@ fn is_among(indices: &[u64], index: u64) -> bool
 }
 
 // No index twice.
-fn distinct_indices(progress: Progress) -> bool
-    requires { ⌜ progress .queued ≤ 16 ⌝ }
-    ensures { λ r. ⌜ r ≡ distinct (queuedRequests progress) ⌝ }
+fn distinct_indices(shared: SharedState) -> bool
+    requires { ⌜ shared .queued ≤ 16 ⌝ }
+    ensures { λ r. ⌜ r ≡ distinct (queuedRequests shared) ⌝ }
 {
-    let queued = progress.queued;
+    let queued = shared.queued;
     let mut before: [u64; 16] = [0; 16];
     let mut i: usize = 0;
     while i < queued {
-        let index = progress.queue[i].index;
+        let index = shared.queue[i].index;
         if is_among(&before[..i], index) {
             return false;
         }
@@ -179,28 +179,29 @@ fn distinct_indices(progress: Progress) -> bool
 fn valid_queue(state: EngineState) -> bool
     ensures { λ r. ⌜ r ≡ validQueue state ⌝ }
 {
-    let queued = state.progress.queued;
+    let queued = state.shared.queued;
     if queued > 16 {
         return false;
     }
     let requests = valid_requests(state);
-    let distinct = distinct_indices(state.progress);
+    let distinct = distinct_indices(state.shared);
     requests & distinct
 }
 
-fn valid_progress(progress: Progress, stream: &[u8], journal_length: usize) -> bool
-    ensures { λ r. ⌜ r ≡ validProgress (now (stream .entry)) «journal_length» progress ⌝ }
+fn valid_shared(shared: SharedState, stream: &[u8], journal_length: usize) -> bool
+    ensures { λ r. ⌜ r ≡ validShared (now (stream .entry)) «journal_length» shared ⌝ }
 {
-    let applied = progress.applied_length;
-    let position = progress.position <= stream.len() / 8;
-    position & ((applied <= journal_length) & (progress.request_count <= applied as u64))
+    let applied = shared.applied_length;
+    let position = shared.position <= stream.len() / 8;
+    position & ((applied <= journal_length) & (shared.request_count <= applied as u64))
 }
 
+// Whether a state passes refusal 1.
 pub fn valid_state(state: EngineState, stream: &[u8], journal_length: usize) -> bool
     ensures { λ r. ⌜ r ≡ validState (now (stream .entry)) «journal_length» state ⌝ }
 {
     let slots = valid_slots(state);
     let queue = valid_queue(state);
-    let progress = valid_progress(state.progress, stream, journal_length);
-    slots & (queue & progress)
+    let shared = valid_shared(state.shared, stream, journal_length);
+    slots & (queue & shared)
 }

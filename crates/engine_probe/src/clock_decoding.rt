@@ -77,7 +77,7 @@ pub fn clock_at(bytes: &[u8], at: usize) -> SurvivalClock
     requires { ⌜ at ≤ 32768 ⌝ }
 {
     let entity = entity_at(bytes, at + 9);
-    let policy = engine::commands::policy_of(u8_at(bytes, at + 21));
+    let policy = clocks::clocks::policy_of(u8_at(bytes, at + 21));
     let tie_breaker = hazards::ties::tie_breaker(u8_at(bytes, at + 22));
     let channels = channels_at(bytes, at + 32);
     let scheduled_event_id = scheduled_at(bytes, at + 1392);

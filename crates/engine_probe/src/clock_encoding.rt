@@ -2,9 +2,8 @@
 ghost use Prim.Native.Nat.{_≤_};
 use clocks::channels::HazardChannelState;
 use clocks::clocks::SurvivalClock;
-use engine::comparison::kind_number;
-use engine::comparison::policy_number;
-use engine::comparison::tie_number;
+use clocks::clocks::policy_number;
+use hazards::checks::kind_number;
 use hazards::checks::own_rate;
 use hazards::fields::put_f64;
 use hazards::fields::put_u8;
@@ -12,6 +11,7 @@ use hazards::fields::put_u32;
 use hazards::fields::put_u64;
 use hazards::rates::HazardRate;
 use hazards::rates::Intervals;
+use hazards::ties::tie_number;
 
 pub fn put_flag(out: &mut [u8], at: usize, flag: bool) {
     put_u8(out, at, if flag { 1 } else { 0 });

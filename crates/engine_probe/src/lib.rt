@@ -11,7 +11,7 @@ pub extern "C" fn probe_open(state: &mut [u8], journal: &mut [u8]) {
     state_encoding::put_state(state, engine::opening::open(journal));
 }
 
-// One input given to the state of a record, which then holds the state after it; the answer's 32 bytes, and its number.
+// One input given to the state of a record, which then holds the state after it; the answer's bytes, and its number.
 #[no_mangle]
 pub extern "C" fn probe_execute(
     state: &mut [u8],
@@ -33,7 +33,8 @@ pub extern "C" fn probe_execute(
 #[no_mangle]
 pub extern "C" fn probe_applied(state: &[u8], journal: &[u8], out: &mut [u8]) -> u64 {
     let applied_length = state_decoding::applied_length_at(state);
-    let applied = engine::journal::applied_commands(applied_length, journal);
+    let mut number: u8 = 0;
+    let applied = engine::journal::applied_commands(applied_length, journal, &mut number);
     engine::journal::copy_into(out, applied);
     applied.len() as u64
 }
@@ -41,5 +42,8 @@ pub extern "C" fn probe_applied(state: &[u8], journal: &[u8], out: &mut [u8]) ->
 // The number that they are given with.
 #[no_mangle]
 pub extern "C" fn probe_applied_number(state: &[u8], journal: &[u8]) -> u8 {
-    engine::journal::applied_number(state_decoding::applied_length_at(state), journal)
+    let applied_length = state_decoding::applied_length_at(state);
+    let mut number: u8 = 0;
+    engine::journal::applied_commands(applied_length, journal, &mut number);
+    number
 }

@@ -5,8 +5,8 @@ use crate::clock_decoding::flag_at;
 use clocks::ticks::Ticks;
 use engine::state::ClockSlot;
 use engine::state::EngineState;
-use engine::state::Progress;
 use engine::state::Request;
+use engine::state::SharedState;
 use hazards::fields::i32_at;
 use hazards::fields::u8_at;
 use hazards::fields::u64_at;
@@ -41,9 +41,9 @@ pub fn applied_length_at(bytes: &[u8]) -> usize {
     u64_at(bytes, 8) as usize
 }
 
-fn progress_at(bytes: &[u8]) -> Progress {
+fn shared_at(bytes: &[u8]) -> SharedState {
     let queue = queue_at(bytes);
-    Progress {
+    SharedState {
         queue,
         queued: u64_at(bytes, 24) as usize,
         request_count: u64_at(bytes, 16),
@@ -76,6 +76,6 @@ fn slots_at(bytes: &[u8]) -> [ClockSlot; 16] {
 
 pub fn state_at(bytes: &[u8]) -> EngineState {
     let slots = slots_at(bytes);
-    let progress = progress_at(bytes);
-    EngineState { slots, progress }
+    let shared = shared_at(bytes);
+    EngineState { slots, shared }
 }

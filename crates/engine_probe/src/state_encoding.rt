@@ -4,8 +4,8 @@ use crate::clock_encoding::put_clock;
 use crate::clock_encoding::put_flag;
 use engine::state::ClockSlot;
 use engine::state::EngineState;
-use engine::state::Progress;
 use engine::state::Request;
+use engine::state::SharedState;
 use hazards::fields::put_i32;
 use hazards::fields::put_u8;
 use hazards::fields::put_u64;
@@ -21,20 +21,20 @@ fn put_request(out: &mut [u8], at: usize, request: Request)
     put_i32(out, at + 25, request.priority);
 }
 
-fn put_queue(out: &mut [u8], progress: Progress) {
+fn put_queue(out: &mut [u8], shared: SharedState) {
     let mut i: usize = 0;
     while i < 16 {
-        put_request(out, 32 + 29 * i, progress.queue[i]);
+        put_request(out, 32 + 29 * i, shared.queue[i]);
         i += 1;
     }
 }
 
-fn put_progress(out: &mut [u8], progress: Progress) {
-    put_u64(out, 0, progress.position as u64);
-    put_u64(out, 8, progress.applied_length as u64);
-    put_u64(out, 16, progress.request_count);
-    put_u64(out, 24, progress.queued as u64);
-    put_queue(out, progress);
+fn put_shared(out: &mut [u8], shared: SharedState) {
+    put_u64(out, 0, shared.position as u64);
+    put_u64(out, 8, shared.applied_length as u64);
+    put_u64(out, 16, shared.request_count);
+    put_u64(out, 24, shared.queued as u64);
+    put_queue(out, shared);
 }
 
 fn put_slot(out: &mut [u8], at: usize, slot: ClockSlot)
@@ -46,7 +46,7 @@ fn put_slot(out: &mut [u8], at: usize, slot: ClockSlot)
 }
 
 pub fn put_state(out: &mut [u8], state: EngineState) {
-    put_progress(out, state.progress);
+    put_shared(out, state.shared);
     let mut i: usize = 0;
     while i < 16 {
         put_slot(out, 496 + 1424 * i, state.slots[i]);

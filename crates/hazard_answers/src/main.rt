@@ -1,11 +1,14 @@
 // Replays the fixed lists of the unchanged Rust's answers to evaluations and samples, and says how many there are and how many differ.
 // The lists' layouts, and how they were made, are in host/README.md.
 ghost use Prim.Native.Nat.{_≤_};
+use hazards::answers::ANSWER_WIDTH;
+use hazards::draws::StreamPosition;
 use hazards::fields::f64_at;
 use hazards::fields::put_u64;
 use hazards::fields::u8_at;
 use hazards::fields::u64_at;
 use libc::STDOUT_FILENO;
+use probe::SAMPLED_WIDTH;
 
 // operation u8, hazard of 138 bytes, t f64, w f64; expected: number u8, found u8, value f64.
 fn evaluation_agrees(case: &[u8]) -> bool {
@@ -35,20 +38,27 @@ fn stream_of(case: &[u8]) -> &[u8] {
     &case[..0]
 }
 
-// n u8, tie u8, age f64, has-censor u8, censor f64, position u64, thresholds, 8 records of 146 bytes; expected: answer of 32 bytes, position u64.
+// Where a sample's expected answer stands, and the bytes of a case.
+const EXPECTED: usize = 1292;
+
+const SAMPLE_CASE: usize = EXPECTED + SAMPLED_WIDTH;
+
+// n u8, tie u8, age f64, has-censor u8, censor f64, position u64, thresholds, 8 records of 146 bytes; expected: answer, position u64.
 fn sample_agrees(case: &[u8]) -> bool {
     let settings = probe::settings_at(case, 1);
     let causes = probe::causes_at(case, 124);
     let n = u8_at(case, 0) as usize;
-    let position = u64_at(case, 19) as usize;
+    let position = StreamPosition {
+        next: u64_at(case, 19) as usize,
+    };
     let sampled = hazards::sampler::sample_next(causes, n, settings, stream_of(case), position);
-    let mut out = [0u8; 40];
+    let mut out = [0u8; SAMPLED_WIDTH];
     hazards::answers::put_answer(&mut out, 0, sampled.answer);
-    put_u64(&mut out, 32, sampled.position as u64);
-    if case.len() < 1332 {
+    put_u64(&mut out, ANSWER_WIDTH, sampled.position.next as u64);
+    if case.len() < SAMPLE_CASE {
         return false;
     }
-    check::same(&out, &case[1292..1332])
+    check::same(&out, &case[EXPECTED..SAMPLE_CASE])
 }
 
 fn one_unless(agrees: bool) -> u64
@@ -88,12 +98,12 @@ fn replay_evaluations(fd: i32) -> Count {
 }
 
 fn replay_samples(fd: i32) -> Count {
-    let mut case = [0u8; 1332];
+    let mut case = [0u8; SAMPLE_CASE];
     let mut cases: u64 = 0;
     let mut differing: u64 = 0;
     let mut left: u64 = 1000000;
     while left > 0 {
-        if io::read_full(fd, &mut case) < 1332 {
+        if io::read_full(fd, &mut case) < SAMPLE_CASE {
             break;
         }
         cases += 1;

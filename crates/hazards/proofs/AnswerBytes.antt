@@ -10,7 +10,7 @@ use lib.Dec.{leb, lit<}
 use lib.ListN.{length, length-append}
 use lib.Ieee.{binary64, toBits}
 use Rattle.hazards.specs.Fields.{bytesOf, withField, withF64}
-use Rattle.hazards.specs.Answers.{headBytes, answerBytes, withAnswer}
+use Rattle.hazards.specs.Answers.{answerWidth, headBytes, answerBytes, withAnswer}
 use Rattle.hazards.specs.declared.answers.Answer.{Answer}
 use Rattle.hazards.proofs.Bytes.{bytesOf-length, withField-length}
 use Rattle.hazards.proofs.Overwrite.{over, over-length, over-next, field-over}
@@ -21,6 +21,11 @@ unfolding bytesOf
 bytes-cons n b x h =
     rw (add-mul-mod-self-left b 256 x, mod-eq-of-lt h, add-mul-div-left b x (lit< tt), div-eq-of-lt h, zero-add)
 
+-- the width of an answer
+pub answerBytes-length : (a : Answer) → length (answerBytes a) ≡ answerWidth
+unfolding answerBytes headBytes
+answerBytes-length a = simp (length-append, bytesOf-length)
+
 -- a field right after a run of bytes
 next : (n : ℕ) (s : List ℕ) (at : ℕ) (xs : List ℕ) (k x : ℕ) → length xs ≡ k → at + k + n ≤ length s
     → withField n (over at xs s) (at + k) x ≡ over at (xs ++ bytesOf n x) s
@@ -29,7 +34,8 @@ next n s at xs k x e h =
     let room : at + length xs + n ≤ length (over at xs s) = rw (over-length s at xs fits) (omega arith) in
     rw (← e) (field-over n (over at xs s) (at + length xs) x room ∙ over-next s at xs fits (bytesOf n x))
 
-module _ (s : List ℕ) (at : ℕ) (a : Answer) (head : ℕ) (is-head : bytesOf 4 head ≡ headBytes a) (fits : at + 32 ≤ length s) where
+module _ (s : List ℕ) (at : ℕ) (a : Answer) (head : ℕ) (is-head : bytesOf 4 head ≡ headBytes a)
+    (fits : at + answerWidth ≤ length s) where
   -- the runs of bytes so far
   one : List ℕ
   one = bytesOf 4 head
@@ -62,10 +68,6 @@ module _ (s : List ℕ) (at : ℕ) (a : Answer) (head : ℕ) (is-head : bytesOf 
   unfolding five four three two one answerBytes
   five-bytes = simp (append-assoc, is-head)
 
-  answer-length : length (answerBytes a) ≡ 32
-  unfolding five
-  answer-length = rw (← five-bytes) (simp (length-append, bytesOf-length, four-length))
-
   one-written : withField 4 s at head ≡ over at one s
   unfolding one
   one-written = field-over 4 s at head (omega arith)
@@ -94,9 +96,9 @@ module _ (s : List ℕ) (at : ℕ) (a : Answer) (head : ℕ) (is-head : bytesOf 
       ≡ withAnswer s at a
   unfolding withF64 withAnswer
   answer-written =
-      rw (one-written, two-written, three-written, four-written, five-written, five-bytes, answer-length, le-leb _ _ fits)
+      rw (one-written, two-written, three-written, four-written, five-written, five-bytes, answerBytes-length, le-leb _ _ fits)
 
 -- an answer that does not lie whole in the buffer
-pub written-cut : (s : List ℕ) (at : ℕ) (a : Answer) → leb (at + 32) (length s) ≡ false → withAnswer s at a ≡ s
+pub written-cut : (s : List ℕ) (at : ℕ) (a : Answer) → leb (at + answerWidth) (length s) ≡ false → withAnswer s at a ≡ s
 unfolding withAnswer
 written-cut s at a h = rw h

@@ -17,6 +17,7 @@ use lib.ListN.{length, getD, set, take, drop, length-append, length-drop, take-a
 use lib.Seq.{drop-cons, drop-set-lt, take-suc-set, take-at, take-take, take-nil, take-append-le}
 use lib.Seq.{drop-at, drop-drop, length-take-le, getD-drop}
 use borrow.Author.Tests.{le-leb, lt-leb, leb-true, leb-false}
+use Rattle.hazards.proofs.Cases.{by-test}
 use Rattle.hazards.specs.Fields.{littleEndian, bytesOf, fieldAt, withField, f64At, withF64, i32At, withI32}
 
 -- ---- reading a word, from the last byte down
@@ -127,11 +128,6 @@ module _ (n : ℕ) (s : List ℕ) (at x : ℕ) (h : at + n ≤ length s) where
   field-whole =
       rw (writes-whole n s at x whole, drop-at (take at s) (bytesOf n x ++ drop (at + n) s) at (length-take-le at s (omega arith)))
       (take-at (bytesOf n x) (drop (at + n) s) n (bytesOf-length n x))
-
--- a test one way or the other
-pub by-test : {X : Type 0} (t : Bool) → (t ≡ true → X) → (t ≡ false → X) → X
-by-test true f g = f refl
-by-test false f g = g refl
 
 module _ (n : ℕ) (s : List ℕ) (at x : ℕ) where
   whole-or-cut : {X : Type 0} → (at + n ≤ length s → X) → (withField n s at x ≡ s → X) → X

@@ -1,18 +1,15 @@
--- What the tests of a hazard come to: ends that ascend, and refusals 5 and 6 from the tests of their parts.
-use mathlib.Core.Path.{_≡_, refl, sym, subst, _∙_}
-use mathlib.Core.Bool.{Bool, true, false, not, _&&_, _||_}
+-- What the tests of a hazard come to: ends that ascend, refusal 6 from the tests of its parts, and a hazard that uses no pairs.
+use mathlib.Core.Path.{_≡_, refl, sym, subst}
+use mathlib.Core.Bool.{Bool, true, false, not, _&&_, true≢false}
 use mathlib.Core.List.{List, [], _∷_}
-use Prim.Native.Nat.{ℕ, zero, suc, _-_, _<_, _≤_, min}
-use native.Mathlib.Omega.{arith}
+use Prim.Native.Nat.{_<_, _≤_}
 use borrow.Author.Tests.{lt-ltb, le-ltb}
-use lib.Dec.{T, eqb, ltb, eqb·suc-zero}
+use lib.Dec.{T}
 use lib.Ieee.{Float, nan, inf, fin, lt, le, isNan}
-use Rattle.hazards.specs.Floats.{z, limit, zeroBits, inRange}
+use Rattle.hazards.specs.Floats.{z, limit}
 use Rattle.hazards.specs.Lists.{all}
-use Rattle.hazards.specs.Rates.{Pair, pairsFrom, mostPairs, usedPairs}
-use Rattle.hazards.specs.Checks.{rateOfKind, ownRate, rangeFault, zeroPair, ascending, intervalsFault}
-use Rattle.hazards.specs.Checks.{hazardOf, intervalsOf, choiceFault, hazardFaults}
-use Rattle.hazards.specs.declared.checks.HazardFields.{HazardFields}
+use Rattle.hazards.specs.Rates.{Piece, usedPairs, usesPairs, waitOfRate, invertCumulativeHazard}
+use Rattle.hazards.specs.Checks.{rangeFault, pairsFrom, zeroPair, ascending, unusedFault, pairsFault, intervalsFault}
 use Rattle.hazards.specs.declared.rates.HazardRate.{HazardRate}
 use Rattle.hazards.specs.declared.rates.HazardRate.the-variants.{Zero, Constant, Gompertz, Piecewise}
 use Rattle.hazards.specs.declared.rates.Intervals.{Intervals}
@@ -34,7 +31,7 @@ one-fails : (a b c : Bool) → (a && b) ≡ false → (a && (b && c)) ≡ false
 one-fails true b c h = rw h
 one-fails false b c h = refl
 
-module _ (before : Float) {ps qs : List Pair} {p : Pair} (first : ps ≡ p ∷ qs) where
+module _ (before : Float) {ps qs : List Piece} {p : Piece} (first : ps ≡ p ∷ qs) where
   pub ascending-next : (lt before (p .end) && le (p .end) limit) ≡ true → ascending before ps ≡ ascending (p .end) qs
   unfolding ascending
   ascending-next h = rw first (both-hold (lt before (p .end)) (le (p .end) limit) (ascending (p .end) qs) h)
@@ -43,75 +40,39 @@ module _ (before : Float) {ps qs : List Pair} {p : Pair} (first : ps ≡ p ∷ q
   unfolding ascending
   ascending-fails h = rw first (one-fails (lt before (p .end)) (le (p .end) limit) (ascending (p .end) qs) h)
 
-pub ascending-none : (before : Float) {ps : List Pair} → ps ≡ [] → ascending before ps ≡ true
+pub ascending-none : (before : Float) {ps : List Piece} → ps ≡ [] → ascending before ps ≡ true
 unfolding ascending
 ascending-none before none = rw none
 
--- ---- refusals 5 and 6
+-- ---- refusal 6 of a piecewise hazard: its count is above 8, or not
 
-pub most-eight : (h : HazardRate) → mostPairs h ≤ 8
-unfolding mostPairs
-most-eight Zero = omega arith
-most-eight (Constant rate) = omega arith
-most-eight (Gompertz eta) = omega arith
-most-eight (Piecewise trailing) = omega arith
+pub pairs-over : (p : Intervals) → 8 < p .count → true ≡ pairsFault p
+pairs-over p over = rw (lt-ltb 8 (p .count) over)
 
-module _ (h : HazardRate) (p : Intervals) {used : ℕ} (u : used ≡ min (p .count) (mostPairs h)) where
-  pub range-is : {own pairs : Bool} → own ≡ inRange (ownRate h) → pairs ≡ all (λ q. inRange (q .rate)) (pairsFrom p 0 used)
-      → not (own && pairs) ≡ rangeFault h p
-  unfolding rangeFault usedPairs
-  range-is e₁ e₂ = rw (e₁, e₂, u)
+pub pairs-are : (p : Intervals) {zeros ends : Bool} → p .count ≤ 8 → zeros ≡ all zeroPair (pairsFrom p (p .count))
+    → ends ≡ ascending z (usedPairs p) → not (zeros && ends) ≡ pairsFault p
+pairs-are p few e₁ e₂ = rw (e₁, e₂, le-ltb 8 (p .count) few)
 
-  pub intervals-is : {most : ℕ} {unused ascend : Bool} → most ≡ mostPairs h → p .count ≤ most
-      → unused ≡ all zeroPair (pairsFrom p used (8 - used)) → ascend ≡ ascending z (pairsFrom p 0 used)
-      → not (unused && ascend) ≡ intervalsFault h p
-  unfolding intervalsFault usedPairs
-  intervals-is m few e₁ e₂ = rw (e₁, e₂, u, le-ltb (mostPairs h) (p .count) (rw (← m) few))
+-- ---- a hazard that uses no pairs: 5 and the wait are the same whatever they hold, and 6 asks that they are zero
 
-pub intervals-over : (h : HazardRate) (p : Intervals) {most : ℕ} → most ≡ mostPairs h → most < p .count → true ≡ intervalsFault h p
-unfolding intervalsFault
-intervals-over h p m over = rw (lt-ltb (mostPairs h) (p .count) (rw (← m) over))
+pub single-range : (h : HazardRate) (p q : Intervals) → usesPairs h ≡ false → rangeFault h q ≡ rangeFault h p
+unfolding usesPairs rangeFault
+single-range Zero p q e = refl
+single-range (Constant rate) p q e = refl
+single-range (Gompertz eta) p q e = refl
+single-range (Piecewise trailing) p q e = absurd (true≢false e)
 
--- ---- a kind that uses no pairs
+pub single-intervals : (h : HazardRate) (p : Intervals) → usesPairs h ≡ false → unusedFault p ≡ intervalsFault h p
+unfolding usesPairs intervalsFault
+single-intervals Zero p e = refl
+single-intervals (Constant rate) p e = refl
+single-intervals (Gompertz eta) p e = refl
+single-intervals (Piecewise trailing) p e = absurd (true≢false e)
 
-pub single-rate-kind : (kind : ℕ) (first : Float) → kind < 3 → mostPairs (rateOfKind kind first) ≡ 0
-unfolding mostPairs
-single-rate-kind zero first h = refl
-single-rate-kind (suc zero) first h = refl
-single-rate-kind (suc (suc zero)) first h = refl
-single-rate-kind (suc (suc (suc kind))) first h = absurd (omega arith)
-
-and-true : (b : Bool) → (b && true) ≡ b
-and-true true = refl
-and-true false = refl
-
-none-and-unused : (count : ℕ) (b : Bool) → not (eqb count 0 && b) ≡ (ltb 0 count || not (b && true))
-none-and-unused zero b = rw (and-true b)
-none-and-unused (suc count) b = rw (eqb·suc-zero count, lt-ltb 0 (suc count) (omega arith))
-
-module _ (h : HazardRate) (p : Intervals) (single : mostPairs h ≡ 0) where
-  none-used : min (p .count) (mostPairs h) ≡ 0
-  none-used = omega (arith, single)
-
-  pub single-range-is : {own : Bool} → own ≡ inRange (ownRate h) → not own ≡ rangeFault h p
-  unfolding rangeFault usedPairs pairsFrom all
-  single-range-is e = rw (none-used, e, and-true (inRange (ownRate h)))
-
-  pub single-intervals-is : {unused : Bool} → unused ≡ all zeroPair (pairsFrom p 0 8)
-      → not (eqb (p .count) 0 && unused) ≡ intervalsFault h p
-  unfolding intervalsFault usedPairs pairsFrom ascending
-  single-intervals-is {unused} e = none-and-unused (p .count) unused ∙ rw (none-used, single, e) refl
-
-pub single-rate-is : (f : HazardFields) → f .kind < 3 → {choice own unused : Bool}
-    → choice ≡ (ltb 3 (f .kind) || (eqb (f .kind) 0 && not (zeroBits (f .first)))) → own ≡ inRange (ownRate (hazardOf f))
-    → unused ≡ all zeroPair (pairsFrom (intervalsOf f) 0 8)
-    → record { choice = choice; range = not own; intervals = not (eqb (f .count) 0 && unused); identifier = false } ≡ hazardFaults f
-unfolding hazardFaults choiceFault
-single-rate-is f small ec eo eu =
-    let single = single-rate-kind (f .kind) (f .first) small in
-    λ i. record {
-      choice = ec i;
-      range = single-range-is (hazardOf f) (intervalsOf f) single eo i;
-      intervals = single-intervals-is (hazardOf f) (intervalsOf f) single eu i;
-      identifier = false;
-    }
+pub single-wait : (h : HazardRate) (p q : Intervals) (start w : Float) → usesPairs h ≡ false
+    → invertCumulativeHazard h q start w ≡ invertCumulativeHazard h p start w
+unfolding usesPairs invertCumulativeHazard waitOfRate
+single-wait Zero p q start w e = refl
+single-wait (Constant rate) p q start w e = refl
+single-wait (Gompertz eta) p q start w e = refl
+single-wait (Piecewise trailing) p q start w e = absurd (true≢false e)

@@ -3,7 +3,6 @@
 use mathlib.Core.Path.{_≡_, refl, sym, ap, subst}
 use mathlib.Core.Bool.{Bool, true, false}
 use mathlib.Core.List.{List}
-use mathlib.Core.Logic.{_⊎_, inl, inr}
 use Prim.Native.Nat.{ℕ, _+_, _<_, _≤_}
 use native.Mathlib.Omega.{arith}
 use lib.Dec.{ltb, eqb}
@@ -11,11 +10,11 @@ use borrow.Author.Tests.{lt-ltb, le-ltb, eq-eqb, ne-eqb, ltb-true, ltb-false, eq
 use Rattle.hazards.specs.Floats.{isThreshold}
 use Rattle.hazards.specs.Refusals.{invalidState, streamExhausted, badThreshold}
 use Rattle.hazards.specs.Draws.{streamLength, thresholdAt, refusedDraw, drawAt}
-use Rattle.hazards.specs.declared.draws.DrawOutcome.{DrawOutcome}
+use Rattle.hazards.specs.declared.draws.DrawAndPosition.{DrawAndPosition}
 
 -- a draw that is not refused
-abbrev pub acceptedDraw : List ℕ → ℕ → DrawOutcome
-acceptedDraw stream position = record { number = 0; threshold = thresholdAt stream position; position = position + 1 }
+abbrev pub acceptedDraw : List ℕ → ℕ → DrawAndPosition
+acceptedDraw stream position = record { number = 0; threshold = thresholdAt stream position; position = record { next = position + 1 } }
 
 module _ (stream : List ℕ) (position : ℕ) where
   -- ---- the four ways
@@ -40,7 +39,7 @@ module _ (stream : List ℕ) (position : ℕ) where
       rw (le-ltb (streamLength stream) position (omega arith), ne-eqb position (streamLength stream) (λ q. omega arith), e)
 
   -- ---- what holds of each of the four holds of the draw
-  module _ (X : DrawOutcome → Type 0)
+  module _ (X : DrawAndPosition → Type 0)
       (past : streamLength stream < position → X (refusedDraw invalidState position))
       (used-up : position ≡ streamLength stream → X (refusedDraw streamExhausted position))
       (bad : position < streamLength stream → isThreshold (thresholdAt stream position) ≡ false → X (refusedDraw badThreshold position))
@@ -69,11 +68,6 @@ module _ (stream : List ℕ) (position : ℕ) where
   abbrev pub drawNumber : ℕ
   drawNumber = drawAt stream position .number
 
-  pub draw-number : (drawNumber ≡ 0) ⊎ (drawNumber ≡ invalidState) ⊎ (drawNumber ≡ streamExhausted) ⊎ (drawNumber ≡ badThreshold)
-  draw-number =
-      each-way (λ d. (d .number ≡ 0) ⊎ (d .number ≡ invalidState) ⊎ (d .number ≡ streamExhausted) ⊎ (d .number ≡ badThreshold))
-      (λ h. inr (inl refl)) (λ h. inr (inr (inl refl))) (λ h e. inr (inr (inr refl))) (λ h e. inl refl)
-
   -- a position within the stream is never refused by 1
   pub within-not-past : position ≤ streamLength stream → drawNumber ≡ invalidState → ⊥
   within-not-past l =
@@ -81,19 +75,14 @@ module _ (stream : List ℕ) (position : ℕ) where
       (λ h e. omega arith) (λ h e. omega arith) (λ h w e. omega arith) (λ h w e. omega arith)
 
   -- ---- an accepted draw
-  pub accepted-moves : drawNumber ≡ 0 → drawAt stream position .position ≡ position + 1
+  pub accepted-moves : drawNumber ≡ 0 → drawAt stream position .position .next ≡ position + 1
   accepted-moves =
-      each-way (λ d. d .number ≡ 0 → d .position ≡ position + 1)
+      each-way (λ d. d .number ≡ 0 → d .position .next ≡ position + 1)
       (λ h e. omega arith) (λ h e. omega arith) (λ h w e. omega arith) (λ h w e. refl)
 
-  pub accepted-below : drawNumber ≡ 0 → position < streamLength stream
-  accepted-below =
-      each-way (λ d. d .number ≡ 0 → position < streamLength stream)
-      (λ h e. omega arith) (λ h e. omega arith) (λ h w e. h) (λ h w e. h)
-
-  pub accepted-within : drawNumber ≡ 0 → drawAt stream position .position ≤ streamLength stream
+  pub accepted-within : drawNumber ≡ 0 → drawAt stream position .position .next ≤ streamLength stream
   accepted-within =
-      each-way (λ d. d .number ≡ 0 → d .position ≤ streamLength stream)
+      each-way (λ d. d .number ≡ 0 → d .position .next ≤ streamLength stream)
       (λ h e. omega arith) (λ h e. omega arith) (λ h w e. omega arith) (λ h w e. omega arith)
 
   pub accepted-reads : drawNumber ≡ 0 → drawAt stream position .threshold ≡ thresholdAt stream position
@@ -112,10 +101,10 @@ module _ (stream : List ℕ) (position : ℕ) where
       each-way (λ d. (d .number ≡ 0 → ⊥) → d ≡ refusedDraw (d .number) position)
       (λ h n. refl) (λ h n. refl) (λ h w n. refl) (λ h w n. absurd (n refl))
 
-  pub refused-position : (drawNumber ≡ 0 → ⊥) → drawAt stream position .position ≡ position
-  refused-position n = ap (λ (d : DrawOutcome). d .position) (refused-stays n)
+  pub refused-position : (drawNumber ≡ 0 → ⊥) → drawAt stream position .position .next ≡ position
+  refused-position n = ap (λ (d : DrawAndPosition). d .position .next) (refused-stays n)
 
   -- ---- any draw from within the stream ends within it
-  pub draw-within : position ≤ streamLength stream → drawAt stream position .position ≤ streamLength stream
+  pub draw-within : position ≤ streamLength stream → drawAt stream position .position .next ≤ streamLength stream
   draw-within l =
-      each-way (λ d. d .position ≤ streamLength stream) (λ h. l) (λ h. l) (λ h w. l) (λ h w. omega arith)
+      each-way (λ d. d .position .next ≤ streamLength stream) (λ h. l) (λ h. l) (λ h w. l) (λ h w. omega arith)

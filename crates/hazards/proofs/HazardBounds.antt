@@ -7,7 +7,7 @@ use Prim.Native.Nat.{_^_}
 use lib.Dec.{T, lit≤}
 use lib.Ieee.{Float, binary64, add, sub, mul, lt, le}
 use Rattle.hazards.specs.Floats.{z, notBelowZero, inRange}
-use Rattle.hazards.specs.Rates.{Pair, usedPairs, piecewiseHazard, hazardOfKind, hazardAt, piecewiseCumulative, cumulativeOfKind}
+use Rattle.hazards.specs.Rates.{Piece, piecewiseHazard, hazardOfRate, hazardAt, piecewiseCumulative, cumulativeOfRate}
 use Rattle.hazards.specs.Rates.{cumulativeHazard}
 use Rattle.hazards.specs.Checks.{ownRate}
 use Rattle.hazards.specs.declared.rates.HazardRate.{HazardRate}
@@ -22,24 +22,24 @@ use Rattle.hazards.proofs.Limits.{rate-upto, positive-rate-upto, time-s
 use Rattle.hazards.proofs.SoundPairs.{sound, Following, none, next, own-rate-sound, pairs-sound, end-upto}
 
 -- ---- the hazard
-piecewise-hazard-upto : {before : Float} {ps : List Pair} (trailing t : Float) → T (inRange trailing) → Following before ps
+piecewise-hazard-upto : {before : Float} {ps : List Piece} (trailing t : Float) → T (inRange trailing) → Following before ps
     → Upto (2 ^ 40) (piecewiseHazard ps trailing t)
 unfolding piecewiseHazard
 piecewise-hazard-upto trailing t i none = rate-upto trailing i
 piecewise-hazard-upto trailing t i (next {p} l m r f) =
     either-upto (lt t (p .end)) (λ y. rate-upto (p .rate) r) (λ n. piecewise-hazard-upto trailing t i f)
 
-hazard-of-kind-upto : (h : HazardRate) (p : Intervals) (t : Float) → T (sound h p) → T (inRange (ownRate h))
-    → Upto (2 ^ 40) (hazardOfKind h (usedPairs h p) t)
-unfolding hazardOfKind ownRate
-hazard-of-kind-upto Zero p t s i = zero-upto (2 ^ 40)
-hazard-of-kind-upto (Constant rate) p t s i = rate-upto rate i
-hazard-of-kind-upto (Gompertz eta) p t s i = either-upto (le eta z) (λ y. zero-upto (2 ^ 40)) (λ n. positive-rate-upto eta n i)
-hazard-of-kind-upto (Piecewise trailing) p t s i = piecewise-hazard-upto trailing t i (pairs-sound trailing p s)
+hazard-of-rate-upto : (h : HazardRate) (p : Intervals) (t : Float) → T (sound h p) → T (inRange (ownRate h))
+    → Upto (2 ^ 40) (hazardOfRate h p t)
+unfolding hazardOfRate ownRate
+hazard-of-rate-upto Zero p t s i = zero-upto (2 ^ 40)
+hazard-of-rate-upto (Constant rate) p t s i = rate-upto rate i
+hazard-of-rate-upto (Gompertz eta) p t s i = either-upto (le eta z) (λ y. zero-upto (2 ^ 40)) (λ n. positive-rate-upto eta n i)
+hazard-of-rate-upto (Piecewise trailing) p t s i = piecewise-hazard-upto trailing t i (pairs-sound trailing p s)
 
 pub hazard-upto : (h : HazardRate) (p : Intervals) (t : Float) → T (sound h p) → Upto (2 ^ 40) (hazardAt h p t)
 unfolding hazardAt
-hazard-upto h p t s = either-upto (lt t z) (λ y. zero-upto (2 ^ 40)) (λ n. hazard-of-kind-upto h p t s (own-rate-sound h p s))
+hazard-upto h p t s = either-upto (lt t z) (λ y. zero-upto (2 ^ 40)) (λ n. hazard-of-rate-upto h p t s (own-rate-sound h p s))
 
 -- ---- the cumulative hazard
 
@@ -50,7 +50,7 @@ piece-upto cum cur end rate u v w o i =
     add-upto (2 ^ 140) u (mul-upto (2 ^ 80) (rate-upto rate i) (sub-upto (2 ^ 40) w v o time-stays) piece-lands) pieces-stay
 
 module _ (trailing t : Float) (i : T (inRange trailing)) (w : Upto (2 ^ 40) t) where
-  piecewise-cumulative-upto : {ps : List Pair} (cum cur : Float) → Following cur ps → Upto (2 ^ 140) cum → Upto (2 ^ 40) cur → T (le cur t)
+  piecewise-cumulative-upto : {ps : List Piece} (cum cur : Float) → Following cur ps → Upto (2 ^ 140) cum → Upto (2 ^ 40) cur → T (le cur t)
       → Upto (2 ^ 140) (piecewiseCumulative ps trailing t cum cur)
   unfolding piecewiseCumulative
   piecewise-cumulative-upto cum cur none u v o = piece-upto cum cur t trailing u v w o i
@@ -65,14 +65,14 @@ module _ (trailing t : Float) (i : T (inRange trailing)) (w : Upto (2 ^ 40) t) w
 product-upto : {rate t : Float} → Upto (2 ^ 40) rate → Upto (2 ^ 40) t → Upto (2 ^ 140) (mul binary64 rate t)
 product-upto u v = wider (2 ^ 140) (lit≤ tt) (mul-upto (2 ^ 80) u v piece-lands)
 
-cumulative-of-kind-upto : (h : HazardRate) (p : Intervals) (t : Float) → T (sound h p) → T (inRange (ownRate h)) → Upto (2 ^ 40) t
-    → Upto (2 ^ 140) (cumulativeOfKind h (usedPairs h p) t)
-unfolding cumulativeOfKind ownRate
-cumulative-of-kind-upto Zero p t s i u = zero-upto (2 ^ 140)
-cumulative-of-kind-upto (Constant rate) p t s i u = product-upto (rate-upto rate i) u
-cumulative-of-kind-upto (Gompertz eta) p t s i u =
+cumulative-of-rate-upto : (h : HazardRate) (p : Intervals) (t : Float) → T (sound h p) → T (inRange (ownRate h)) → Upto (2 ^ 40) t
+    → Upto (2 ^ 140) (cumulativeOfRate h p t)
+unfolding cumulativeOfRate ownRate
+cumulative-of-rate-upto Zero p t s i u = zero-upto (2 ^ 140)
+cumulative-of-rate-upto (Constant rate) p t s i u = product-upto (rate-upto rate i) u
+cumulative-of-rate-upto (Gompertz eta) p t s i u =
     either-upto (le eta z) (λ y. zero-upto (2 ^ 140)) (λ n. product-upto (positive-rate-upto eta n i) u)
-cumulative-of-kind-upto (Piecewise trailing) p t s i u =
+cumulative-of-rate-upto (Piecewise trailing) p t s i u =
     piecewise-cumulative-upto trailing t i u z z (pairs-sound trailing p s) (zero-upto (2 ^ 140)) (zero-upto (2 ^ 40)) (zero-le-upto u)
 
 -- 2^40 bounds a t above 0
@@ -80,7 +80,7 @@ pub cumulative-upto : (h : HazardRate) (p : Intervals) (t : Float) → T (sound 
     → Upto (2 ^ 140) (cumulativeHazard h p t)
 unfolding cumulativeHazard
 cumulative-upto h p t s u =
-    either-upto (le t z) (λ y. zero-upto (2 ^ 140)) (λ n. cumulative-of-kind-upto h p t s (own-rate-sound h p s) (u n))
+    either-upto (le t z) (λ y. zero-upto (2 ^ 140)) (λ n. cumulative-of-rate-upto h p t s (own-rate-sound h p s) (u n))
 
 -- ---- an accumulated hazard
 

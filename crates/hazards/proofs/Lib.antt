@@ -3,6 +3,7 @@ pub mod AcceptedFlags
 pub mod AcceptedHazards
 pub mod AnswerBytes
 pub mod Bounds
+pub mod Cases
 pub mod Bytes
 pub mod CheckLaws
 pub mod DrawLaws
@@ -15,7 +16,7 @@ pub mod Limits
 pub mod ListLaws
 pub mod OrderLaws
 pub mod Overwrite
-pub mod Pairs
+pub mod Pieces
 pub mod Patterns
 pub mod PublicBounds
 pub mod SamplerLaws

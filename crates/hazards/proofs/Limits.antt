@@ -1,4 +1,4 @@
--- Document 01's limits as bounds: times and rates up to 2^40, thresholds up to 1,024, and where their sums and products land.
+-- Document 01's limits as bounds: times and rates up to 2^40, and where their sums and products land.
 use mathlib.Core.Path.{refl}
 use mathlib.Core.Bool.{true, false, not}
 use Prim.Native.Nat.{ℕ, _+_, _-_, _*_, _/_, _^_, _≤_}
@@ -7,7 +7,7 @@ use lib.IntN.{ℤ}
 use lib.Dec.{T, ltb, ltb→lt}
 use lib.Ieee.{Float, nan, inf, fin, binary64, up, down, size, round, toBits, le}
 use lib.Ieee.Fits.{and-l, and-r}
-use Rattle.hazards.specs.Floats.{z, limit, minusLimit, mostThreshold, notBelowZero, inRange, isTime}
+use Rattle.hazards.specs.Floats.{z, limit, minusLimit, notBelowZero, inRange, isTime}
 use Rattle.hazards.proofs.Bounds.{Upto, largest}
 use Rattle.hazards.proofs.Upto.{lands}
 use Rattle.hazards.proofs.UptoOrder.{upto-le}
@@ -15,9 +15,6 @@ use Rattle.hazards.proofs.UptoClamped.{clamped-below, positive-upto}
 
 pub limit-upto : Upto (2 ^ 40) limit
 limit-upto = record { holds = tt }
-
-pub threshold-upto : Upto 1024 mostThreshold
-threshold-upto = record { holds = tt }
 
 -- ---- what a test on one float tells
 
@@ -55,10 +52,6 @@ time-upto (fin false m e) h =
 pub time-stays : T (lands (2 ^ 40) (2 ^ 40))
 unfolding lands round
 time-stays = tt
-
-pub threshold-stays : T (lands 1024 1024)
-unfolding lands round
-threshold-stays = tt
 
 pub largest-stays : T (lands largest largest)
 unfolding lands round

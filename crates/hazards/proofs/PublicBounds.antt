@@ -35,7 +35,7 @@ use Rattle.hazards.specs.declared.sampler.CompetingCause.{CompetingCause
 use Rattle.hazards.specs.declared.sampler.SampleSettings.{SampleSettings}
 use Rattle.hazards.proofs.AcceptedFlags.{accepted, joined-accepted}
 use Rattle.hazards.proofs.AcceptedHazards.{not-false, accepted-sound}
-use Rattle.hazards.proofs.Bytes.{by-test}
+use Rattle.hazards.proofs.Cases.{by-test}
 use Rattle.hazards.proofs.HazardBounds.{hazard-upto, cumulative-upto}
 use Rattle.hazards.proofs.Limits.{positive-rate-upto, time-upto, time-stays}
 use Rattle.hazards.proofs.ListLaws.{foldl-append}
@@ -125,16 +125,16 @@ module _ (tie : TieBreaker) where
       rw e (earlier-finite best (record { «cause_id» = cause; priority = priority; time = d }) b (rw e tt)))
       (λ e. rw e b)
 
-  candidates-finite : (best : Earliest) (cs : List CompetingCause) (age : Float) (stream : List ℕ) (position : ℕ) → FiniteEarliest best
-      → FiniteEarliest (foldl (earlier tie) best (candidates cs age stream position))
+  candidates-finite : (best : Earliest) (cs : List CompetingCause) (age : Float) (threshold : ℕ → Float) (k : ℕ) → FiniteEarliest best
+      → FiniteEarliest (foldl (earlier tie) best (candidates cs age threshold k))
   unfolding foldl candidates
-  candidates-finite best [] age stream position b = b
-  candidates-finite best (c ∷ cs) age stream position b =
+  candidates-finite best [] age threshold k b = b
+  candidates-finite best (c ∷ cs) age threshold k b =
       let h = c .hazard in
-      let wait = invertCumulativeHazard (hazardOf h) (intervalsOf h) age (thresholdAt stream position) in
+      let wait = invertCumulativeHazard (hazardOf h) (intervalsOf h) age (threshold k) in
       let first = candidateAfter (c .«cause_id») (c .priority) (λ t. t) wait in
-      rw (foldl-append (earlier tie) best first (candidates cs age stream (suc position)))
-      (candidates-finite (foldl (earlier tie) best first) cs age stream (suc position)
+      rw (foldl-append (earlier tie) best first (candidates cs age threshold (suc k)))
+      (candidates-finite (foldl (earlier tie) best first) cs age threshold (suc k)
       (after-finite best (c .«cause_id») (c .priority) wait b))
 
 module _ (s : SampleSettings) (age : T (isTime (s .«current_age»))) (censor : T (isTime (s .«censor_age»))) where
@@ -164,8 +164,8 @@ module _ (s : SampleSettings) (age : T (isTime (s .«current_age»))) (censor : 
   event-finite [] stream position = upto-finite (zero-upto 0)
   event-finite (c ∷ cs) stream position =
       let tie = tieBreakerOf (s .tie) in
-      censored-finite (earliest tie (candidates (inCauseOrder (c ∷ cs)) (s .«current_age») stream position))
-      (candidates-finite tie Nothing (inCauseOrder (c ∷ cs)) (s .«current_age») stream position tt)
+      censored-finite (earliest tie (candidates (inCauseOrder (c ∷ cs)) (s .«current_age») (thresholdAt stream) position))
+      (candidates-finite tie Nothing (inCauseOrder (c ∷ cs)) (s .«current_age») (thresholdAt stream) position tt)
 
 -- settings that are not refused: age and censor age are times
 ages-accepted : (causes : List CompetingCause) (n : ℕ) (s : SampleSettings) → faultNumber causes n s ≡ 0

@@ -19,7 +19,7 @@ use Rattle.hazards.specs.Draws.{streamLength, thresholdAt, drawAt}
 use Rattle.hazards.specs.Ties.{candidateAfter, tieBreakerOf, earlier, earliest}
 use Rattle.hazards.specs.Sampler.{faultsOfAll, settingsFaults, drawsRefusal, sampleRefusal, inCauseOrder}
 use Rattle.hazards.specs.Sampler.{candidates, censoredAt, sampledEvent, sampleNext}
-use Rattle.hazards.specs.SamplerCode.{examinedRecord, candidatesWith}
+use Rattle.hazards.specs.SamplerInternals.{examinedRecord, drawnThreshold}
 use Rattle.hazards.specs.declared.refusals.Faults.{Faults}
 use Rattle.hazards.specs.declared.rates.Wait.{Wait}
 use Rattle.hazards.specs.declared.rates.Wait.the-variants.{After, Never}
@@ -29,7 +29,7 @@ use Rattle.hazards.specs.declared.answers.Answer.{Answer}
 use Rattle.hazards.specs.declared.sampler.CompetingCause.{CompetingCause}
 use Rattle.hazards.specs.declared.sampler.SampleSettings.{SampleSettings}
 use Rattle.hazards.proofs.ListLaws.{foldl-append}
-use Rattle.hazards.proofs.Pairs.{one-left, none-left}
+use Rattle.hazards.proofs.Pieces.{one-left, none-left}
 
 -- past the end of an array of records
 abbrev pub noRecord : CompetingCause
@@ -105,42 +105,42 @@ module _ (tie : TieBreaker) (best : Earliest) (cause priority : ℕ) (timeOf : F
 
 -- ---- the candidates in order: the first record's and the others', and the same with thresholds that were drawn beforehand
 
-pub candidates-next : (tie : TieBreaker) (best : Earliest) (age : Float) (thresholds : List Float) (k : ℕ) {cs : List CompetingCause}
+pub candidates-next : (tie : TieBreaker) (best : Earliest) (age : Float) (threshold : ℕ → Float) (k : ℕ) {cs : List CompetingCause}
     (c : CompetingCause) {rest : List CompetingCause} {wait : Wait} {next : Earliest} → cs ≡ c ∷ rest
-    → wait ≡ examinedRecord c age (getD thresholds k nan) .wait
+    → wait ≡ examinedRecord c age (threshold k) .wait
     → next ≡ foldl (earlier tie) best (candidateAfter (c .«cause_id») (c .priority) (λ t. t) wait)
-    → foldl (earlier tie) best (candidatesWith cs age thresholds k) ≡ foldl (earlier tie) next (candidatesWith rest age thresholds (k + 1))
-unfolding candidatesWith
-candidates-next tie best age thresholds k c {rest} {wait} first ew e =
+    → foldl (earlier tie) best (candidates cs age threshold k) ≡ foldl (earlier tie) next (candidates rest age threshold (k + 1))
+unfolding candidates
+candidates-next tie best age threshold k c {rest} {wait} first ew e =
     rw (first, ← ew, ← add-one)
-    (foldl-append (earlier tie) best (candidateAfter (c .«cause_id») (c .priority) (λ t. t) wait) (candidatesWith rest age thresholds (k + 1))
-    ∙ ap (λ (b : Earliest). foldl (earlier tie) b (candidatesWith rest age thresholds (k + 1))) (sym e))
+    (foldl-append (earlier tie) best (candidateAfter (c .«cause_id») (c .priority) (λ t. t) wait) (candidates rest age threshold (k + 1))
+    ∙ ap (λ (b : Earliest). foldl (earlier tie) b (candidates rest age threshold (k + 1))) (sym e))
 
-drawn-from : (cs : List CompetingCause) (age : Float) (thresholds : List Float) (k : ℕ) (stream : List ℕ) (position : ℕ)
-    → ((i : ℕ) → i < length cs → getD thresholds (k + i) nan ≡ thresholdAt stream (position + i))
-    → candidatesWith cs age thresholds k ≡ candidates cs age stream position
-unfolding candidatesWith candidates
-drawn-from [] age thresholds k stream position reads = refl
-drawn-from (c ∷ cs) age thresholds k stream position reads =
+drawn-from : (cs : List CompetingCause) (age : Float) (f g : ℕ → Float) (k place : ℕ)
+    → ((i : ℕ) → i < length cs → f (k + i) ≡ g (place + i)) → candidates cs age f k ≡ candidates cs age g place
+unfolding candidates
+drawn-from [] age f g k place reads = refl
+drawn-from (c ∷ cs) age f g k place reads =
     let k₀ : k + 0 ≡ k = omega arith in
-    let p₀ : position + 0 ≡ position = omega arith in
+    let p₀ : place + 0 ≡ place = omega arith in
     let first = rw (k₀, p₀) at (reads 0 (omega arith)) in
-    let others = drawn-from cs age thresholds (suc k) stream (suc position)
+    let others = drawn-from cs age f g (suc k) (suc place)
     (λ i h.
     let kᵢ : k + suc i ≡ suc k + i = omega arith in
-    let pᵢ : position + suc i ≡ suc position + i = omega arith in
+    let pᵢ : place + suc i ≡ suc place + i = omega arith in
     rw (kᵢ, pᵢ) at (reads (suc i) (omega arith))) in
     rw (first, others)
 
 pub drawn-candidates : (cs : List CompetingCause) (age : Float) (thresholds : List Float) (stream : List ℕ) (position : ℕ)
     → ((i : ℕ) → i < length cs → getD thresholds i nan ≡ thresholdAt stream (position + i))
-    → candidatesWith cs age thresholds 0 ≡ candidates cs age stream position
+    → candidates cs age (drawnThreshold thresholds) 0 ≡ candidates cs age (thresholdAt stream) position
 drawn-candidates cs age thresholds stream position reads =
-    drawn-from cs age thresholds 0 stream position (λ i h. let e : 0 + i ≡ i = omega arith in rw e (reads i h))
+    drawn-from cs age (drawnThreshold thresholds) (thresholdAt stream) 0 position
+    (λ i h. let e : 0 + i ≡ i = omega arith in rw e (reads i h))
 
 pub sampled-some : (cs : List CompetingCause) (s : SampleSettings) (stream : List ℕ) (position : ℕ) → 0 < length cs
     → sampledEvent cs s stream position
-    ≡ censoredAt (earliest (tieBreakerOf (s .tie)) (candidates (inCauseOrder cs) (s .«current_age») stream position)) s
+    ≡ censoredAt (earliest (tieBreakerOf (s .tie)) (candidates (inCauseOrder cs) (s .«current_age») (thresholdAt stream) position)) s
 unfolding sampledEvent
 sampled-some [] s stream position h = absurd (let e : 0 < 0 = h in omega arith)
 sampled-some (c ∷ cs) s stream position h = refl
@@ -148,7 +148,7 @@ sampled-some (c ∷ cs) s stream position h = refl
 -- no record, or some
 pub event-is : (causes : List CompetingCause) (n : ℕ) (s : SampleSettings) (stream : List ℕ) (position : ℕ) → length causes ≡ 8
     → {best : Earliest}
-    → best ≡ earliest (tieBreakerOf (s .tie)) (candidates (inCauseOrder (take n causes)) (s .«current_age») stream position)
+    → best ≡ earliest (tieBreakerOf (s .tie)) (candidates (inCauseOrder (take n causes)) (s .«current_age») (thresholdAt stream) position)
     → cond (eqb n 0) (noEvent 0) (censoredAt best s) ≡ sampledEvent (take n causes) s stream position
 unfolding sampledEvent
 event-is causes zero s stream position h e = refl
@@ -213,11 +213,11 @@ module _ (causes : List CompetingCause) (n : ℕ) (s : SampleSettings) (stream :
 
   module _ {number : ℕ} {answer : Answer} (e : number ≡ sampleRefusal causes n s stream position) where
     pub sampled-refused : (number ≡ 0 → ⊥) → answer ≡ noEvent number
-        → record { answer = answer; position = position } ≡ sampleNext causes n s stream position
+        → record { answer = answer; position = record { next = position } } ≡ sampleNext causes n s stream position
     unfolding sampleNext
     sampled-refused h ea = rw (ea, ← e, ne-eqb number 0 h)
 
     pub sampled-passed : number ≡ 0 → answer ≡ sampledEvent (take n causes) s stream position
-        → record { answer = answer; position = position + n } ≡ sampleNext causes n s stream position
+        → record { answer = answer; position = record { next = position + n } } ≡ sampleNext causes n s stream position
     unfolding sampleNext
     sampled-passed h ea = rw (ea, ← e, eq-eqb number 0 h)

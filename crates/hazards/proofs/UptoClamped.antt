@@ -5,14 +5,13 @@ use mathlib.Core.Bool.{Bool, true, false, not, _&&_, _||_, true≢false}
 use Prim.Native.Nat.{ℕ, _+_, _-_, _*_}
 use native.Mathlib.Nat.{eq-zero-or-pos, zero-mul}
 use native.Mathlib.Omega.{arith}
-use lib.IntN.{ℤ}
 use lib.Dec.{T, T-not, ltb, eqb, lt→ltb}
 use lib.Ieee.{Float, nan, inf, fin, binary64, up, down, sub, lt, le}
 use lib.Ieee.Positive.{num, den}
 use Rattle.hazards.specs.Floats.{z, notBelowZero}
 use Rattle.hazards.proofs.Bounds.{Upto}
 use Rattle.hazards.proofs.Signs.{Signed}
-use Rattle.hazards.proofs.Upto.{for-fin, zero-upto, either-upto, lands}
+use Rattle.hazards.proofs.Upto.{zero-upto, either-upto, lands}
 use Rattle.hazards.proofs.UptoOrder.{or-l, upto-le}
 use Rattle.hazards.proofs.UptoOperations.{round-signed, roundedDifference, sub-is, less-upto}
 
@@ -64,24 +63,3 @@ positive-upto (inf true) n h u = absurd (unfold le in n)
 positive-upto (inf false) n h u = upto-le (inf false) refl h u
 positive-upto (fin false m e) n h u = upto-le (fin false m e) refl h u
 positive-upto (fin true m e) n h u = absurd (T-not (le (fin true m e) z) n (negative-le-zero (fin true m e) refl))
-
--- x - y that is not at most 0, for an x from -0.0 up to w
-pub remaining-upto : {a b : ℕ} {w y : Float} (c : ℕ) (x : Float) → T (le z x) → T (le x w) → Upto a w → Upto b y
-    → T (not (le (sub binary64 x y) z)) → T (lands a c) → Upto c (sub binary64 x y)
-remaining-upto c nan o h u v n l = absurd (unfold le in o)
-remaining-upto c (inf true) o h u v n l = absurd (unfold le in o)
-remaining-upto c (inf false) o h u v n l = absurd ((upto-le (inf false) refl h u) .holds)
-remaining-upto {a} {b} {w} {y} c (fin false m e) o h u v n l =
-    let x = upto-le (fin false m e) refl h u in
-    rw (sub-is x v) (go (ltb (m * up e * den y) (num y * down e)) (rw (sub-is x v) at n))
-  where
-    go : (t : Bool) → T (not (le (roundedDifference t (m * up e * den y) (num y * down e) (down e * den y)) z))
-        → Upto c (roundedDifference t (m * up e * den y) (num y * down e) (down e * den y))
-    go true n =
-        absurd (T-not (le _ z) n (negative-le-zero _ (round-signed binary64 true (num y * down e - m * up e * den y) (down e * den y))))
-    go false n = less-upto c (upto-le (fin false m e) refl h u) v l
-remaining-upto {a} {b} {w} {y} c (fin true m e) o h u v n l =
-    absurd (T-not (le (sub binary64 (fin true m e) y) z) n (for-fin (λ (q : Float). T (le (sub binary64 (fin true m e) q) z)) go v))
-  where
-    go : (k : ℕ) (d : ℤ) → T (le (sub binary64 (fin true m e) (fin false k d)) z)
-    go k d = unfold sub in negative-le-zero _ (round-signed binary64 true (m * up e * down d + k * up d * down e) (down e * down d))

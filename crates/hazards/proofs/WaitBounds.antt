@@ -6,11 +6,12 @@ use mathlib.Core.List.{List, [], _∷_}
 use Prim.Native.Nat.{ℕ, _*_, _^_}
 use native.Mathlib.Nat.{le-trans, le-of-eq, mul-one}
 use lib.IntN.{ℤ}
+use lib.ListN.{drop}
 use lib.Dec.{T, le→leb, nltb→le}
 use lib.Ieee.{Float, fin, binary64, up, down, add, sub, mul, div, lt, le, fits}
 use lib.Ieee.Fits.{and-l, cond-fits, sub-fits, div-fits}
-use Rattle.hazards.specs.Floats.{z, limit, mostThreshold, notBelowZero, inRange}
-use Rattle.hazards.specs.Rates.{Pair, usedPairs, pairsAfter, waitThrough, piecewiseWait, constantWait, waitOfKind}
+use Rattle.hazards.specs.Floats.{z, limit, notBelowZero, inRange}
+use Rattle.hazards.specs.Rates.{Piece, usedPairs, firstAfter, waitThrough, waitFrom, constantWait, waitOfRate}
 use Rattle.hazards.specs.Rates.{invertCumulativeHazard}
 use Rattle.hazards.specs.Checks.{ownRate}
 use Rattle.hazards.specs.declared.rates.HazardRate.{HazardRate}
@@ -23,10 +24,10 @@ use Rattle.hazards.proofs.Signs.{NotBelow, Held}
 use Rattle.hazards.proofs.Upto.{for-fin, zero-upto, lands}
 use Rattle.hazards.proofs.UptoOrder.{lt-le, not-le, not-le-lt, nothing-le, le-refl-upto, le-trans-upto}
 use Rattle.hazards.proofs.UptoOperations.{mul-upto, sub-upto}
-use Rattle.hazards.proofs.UptoClamped.{clamped-below, positive-upto}
+use Rattle.hazards.proofs.UptoClamped.{clamped-below}
 use Rattle.hazards.proofs.Exact.{sum-at-least}
 use Rattle.hazards.proofs.SignedOperations.{div-signed, add-signed, sub-signed}
-use Rattle.hazards.proofs.Limits.{limit-upto, threshold-upto, rate-upto, positive-rate-upto, time-stays, threshold-stays}
+use Rattle.hazards.proofs.Limits.{limit-upto, rate-upto, positive-rate-upto, time-stays}
 use Rattle.hazards.proofs.Limits.{piece-lands, nothing-lands}
 use Rattle.hazards.proofs.SoundPairs.{sound, Following, none, next, own-rate-sound, pairs-sound, end-upto, after-following}
 
@@ -35,8 +36,8 @@ either-held : (b : Bool) (x y : Wait) → Held x → Held y → Held (cond b x y
 either-held true x y h k = h
 either-held false x y h k = k
 
-piecewise-held : (ps : List Pair) (trailing start cur w : Float) → Held (piecewiseWait ps trailing start cur w)
-unfolding piecewiseWait
+piecewise-held : (ps : List Piece) (trailing start cur w : Float) → Held (waitFrom ps trailing start cur w)
+unfolding waitFrom
 piecewise-held [] trailing start cur w =
     let rate = notBelowZero trailing in
     either-held (le rate z) Never (waitThrough start cur rate w) tt (sub-fits binary64 (add binary64 cur (div binary64 w rate)) start)
@@ -44,7 +45,7 @@ piecewise-held (p ∷ ps) trailing start cur w =
     let rate = notBelowZero (p .rate) in
     let capacity = mul binary64 rate (sub binary64 (p .end) cur) in
     either-held (lt z rate && le w capacity) (waitThrough start cur rate w)
-    (piecewiseWait ps trailing start (p .end) (sub binary64 w capacity))
+    (waitFrom ps trailing start (p .end) (sub binary64 w capacity))
     (sub-fits binary64 (add binary64 cur (div binary64 w rate)) start)
     (piecewise-held ps trailing start (p .end) (sub binary64 w capacity))
 
@@ -52,12 +53,13 @@ constant-held : (rate w : Float) → Held (constantWait rate w)
 unfolding constantWait
 constant-held rate w = either-held (le rate z) Never (After (div binary64 w rate)) tt (div-fits binary64 w rate)
 
-wait-of-kind-held : (h : HazardRate) (ps : List Pair) (start w : Float) → Held (waitOfKind h ps start w)
-unfolding waitOfKind
-wait-of-kind-held Zero ps start w = tt
-wait-of-kind-held (Constant rate) ps start w = constant-held (notBelowZero rate) w
-wait-of-kind-held (Gompertz eta) ps start w = constant-held eta w
-wait-of-kind-held (Piecewise trailing) ps start w = piecewise-held (pairsAfter start ps) trailing start start w
+wait-of-rate-held : (h : HazardRate) (p : Intervals) (start w : Float) → Held (waitOfRate h p start w)
+unfolding waitOfRate
+wait-of-rate-held Zero p start w = tt
+wait-of-rate-held (Constant rate) p start w = constant-held (notBelowZero rate) w
+wait-of-rate-held (Gompertz eta) p start w = constant-held eta w
+wait-of-rate-held (Piecewise trailing) p start w =
+    piecewise-held (drop (firstAfter start (usedPairs p)) (usedPairs p)) trailing start start w
 
 zero-held : T (fits binary64 z)
 unfolding fits
@@ -66,8 +68,8 @@ zero-held = tt
 pub invert-held : (h : HazardRate) (p : Intervals) (start w : Float) → Held (invertCumulativeHazard h p start w)
 unfolding invertCumulativeHazard
 invert-held h p start w =
-    either-held (le w z) (After z) (waitOfKind h (usedPairs h p) (notBelowZero start) w) zero-held
-    (wait-of-kind-held h (usedPairs h p) (notBelowZero start) w)
+    either-held (le w z) (After z) (waitOfRate h p (notBelowZero start) w) zero-held
+    (wait-of-rate-held h p (notBelowZero start) w)
 
 -- ---- not below 0
 either-not-below : (b : Bool) (x y : Wait) → (T b → NotBelow x) → (T (not b) → NotBelow y) → NotBelow (cond b x y)
@@ -94,7 +96,7 @@ module _ (b : ℕ) (stays : T (lands b b)) (start : Float) (sf : T (fits binary6
       sub-signed (add binary64 cur (div binary64 w rate)) (add-signed (div binary64 w rate) c d) su
       (sum-at-least (div binary64 w rate) sf su c o d)
 
-  -- what a pair leaves of w: its rate is 0, and so is its capacity, or its capacity is below w
+  -- what a piece leaves of w: its rate is 0, and so is its capacity, or its capacity is below w
   left-upto : {rate w capacity : Float} → Upto (2 ^ 40) rate → Upto b w → Upto (2 ^ 80) capacity → (Upto 0 rate → Upto 0 capacity)
       → T (not (lt z rate && le w capacity)) → Upto b (sub binary64 w capacity)
   left-upto {rate} {w} {capacity} u v c nothing n = sub-upto b v c (go (lt z rate) (not-above-zero u) n) stays
@@ -104,9 +106,9 @@ module _ (b : ℕ) (stays : T (lands b b)) (start : Float) (sf : T (fits binary6
       go false f n = nothing-le (nothing (f tt)) v
 
   module _ (trailing : Float) (i : T (inRange trailing)) where
-    piecewise-not-below : {ps : List Pair} (cur w : Float) → Following cur ps → Upto b w → Upto (2 ^ 40) cur → T (le start cur)
-        → NotBelow (piecewiseWait ps trailing start cur w)
-    unfolding piecewiseWait
+    piecewise-not-below : {ps : List Piece} (cur w : Float) → Following cur ps → Upto b w → Upto (2 ^ 40) cur → T (le start cur)
+        → NotBelow (waitFrom ps trailing start cur w)
+    unfolding waitFrom
     piecewise-not-below cur w none v c o =
         let rate = notBelowZero trailing in
         let u = rate-upto trailing i in
@@ -119,7 +121,7 @@ module _ (b : ℕ) (stays : T (lands b b)) (start : Float) (sf : T (fits binary6
         let e = end-upto (p .end) c l m in
         let span = sub-upto (2 ^ 40) e c (lt-le cur (p .end) l) time-stays in
         either-not-below (lt z rate && le w capacity) (waitThrough start cur rate w)
-        (piecewiseWait ps trailing start (p .end) (sub binary64 w capacity))
+        (waitFrom ps trailing start (p .end) (sub binary64 w capacity))
         (λ t. through-not-below u (and-l (lt z rate) (le w capacity) t) v c o)
         (λ n.
         piecewise-not-below (p .end) (sub binary64 w capacity) f
@@ -133,13 +135,13 @@ constant-not-below {w} rate v u =
     either-not-below (le rate z) Never (After (div binary64 w rate)) (λ t. tt)
     (λ n. div-signed v (u n) (not-le-lt (zero-upto 0) (u n) n))
 
-wait-of-kind-not-below : (h : HazardRate) (p : Intervals) (start : Float) {w : Float} (b : ℕ) → T (sound h p) → T (inRange (ownRate h))
-    → T (fits binary64 start) → Upto (2 ^ 40) start → Upto b w → T (lands b b) → NotBelow (waitOfKind h (usedPairs h p) start w)
-unfolding waitOfKind ownRate
-wait-of-kind-not-below Zero p start b s i sf su v l = tt
-wait-of-kind-not-below (Constant rate) p start b s i sf su v l = constant-not-below (notBelowZero rate) v (λ n. rate-upto rate i)
-wait-of-kind-not-below (Gompertz eta) p start b s i sf su v l = constant-not-below eta v (λ n. positive-rate-upto eta n i)
-wait-of-kind-not-below (Piecewise trailing) p start {w} b s i sf su v l =
+wait-of-rate-not-below : (h : HazardRate) (p : Intervals) (start : Float) {w : Float} (b : ℕ) → T (sound h p) → T (inRange (ownRate h))
+    → T (fits binary64 start) → Upto (2 ^ 40) start → Upto b w → T (lands b b) → NotBelow (waitOfRate h p start w)
+unfolding waitOfRate ownRate
+wait-of-rate-not-below Zero p start b s i sf su v l = tt
+wait-of-rate-not-below (Constant rate) p start b s i sf su v l = constant-not-below (notBelowZero rate) v (λ n. rate-upto rate i)
+wait-of-rate-not-below (Gompertz eta) p start b s i sf su v l = constant-not-below eta v (λ n. positive-rate-upto eta n i)
+wait-of-rate-not-below (Piecewise trailing) p start {w} b s i sf su v l =
     let after = after-following (zero-upto (2 ^ 40)) su (pairs-sound trailing p s) in
     piecewise-not-below b l start sf su trailing i start w after v su (le-refl-upto su)
 
@@ -152,13 +154,7 @@ pub invert-not-below : (h : HazardRate) (p : Intervals) (start : Float) {w : Flo
     → T (le start limit) → (T (not (le w z)) → Upto b w) → T (lands b b) → NotBelow (invertCumulativeHazard h p start w)
 unfolding invertCumulativeHazard
 invert-not-below h p start {w} b s sf sl v l =
-    either-not-below (le w z) (After z) (waitOfKind h (usedPairs h p) (notBelowZero start) w) (λ t. refl)
+    either-not-below (le w z) (After z) (waitOfRate h p (notBelowZero start) w) (λ t. refl)
     (λ n.
-    wait-of-kind-not-below h p (notBelowZero start) b s (own-rate-sound h p s) (clamped-held start sf)
+    wait-of-rate-not-below h p (notBelowZero start) b s (own-rate-sound h p s) (clamped-held start sf)
     (clamped-below start sl limit-upto) (v n) l)
-
--- for a threshold, or what is left of one
-pub threshold-wait-not-below : (h : HazardRate) (p : Intervals) (start w : Float) → T (sound h p) → T (fits binary64 start)
-    → T (le start limit) → T (le w mostThreshold) → NotBelow (invertCumulativeHazard h p start w)
-threshold-wait-not-below h p start w s sf sl wl =
-    invert-not-below h p start 1024 s sf sl (λ n. positive-upto w n wl threshold-upto) threshold-stays

@@ -7,7 +7,7 @@ use lib.Dec.{eqb, ltb}
 use lib.Ieee.{Float, lt, le}
 use Rattle.hazards.specs.Floats.{z, limit, zeroBits, inRange}
 use Rattle.hazards.specs.Lists.{all}
-use Rattle.hazards.specs.Rates.{Pair, pairsFrom, mostPairs, usedCount, usedPairs}
+use Rattle.hazards.specs.Rates.{Piece, piecesBy, pairAt, usedPairs}
 use Rattle.hazards.specs.declared.checks.HazardFields.{HazardFields}
 use Rattle.hazards.specs.declared.refusals.Faults.{Faults}
 use Rattle.hazards.specs.declared.rates.HazardRate.{HazardRate}
@@ -22,35 +22,55 @@ rateOfKind kind first =
     cond (eqb kind 0) Zero
     (cond (eqb kind 1) (Constant first) (cond (eqb kind 2) (Gompertz first) (Piecewise first)))
 
--- the kind's own rate, +0.0 for Zero
+-- a kind's number
+abbrev pub kindNumber : HazardRate → ℕ
+kindNumber Zero = 0
+kindNumber (Constant rate) = 1
+kindNumber (Gompertz eta) = 2
+kindNumber (Piecewise trailing) = 3
+
+-- the hazard's own rate, +0.0 for Zero
 unfoldable pub ownRate : HazardRate → Float
 ownRate Zero = z
 ownRate (Constant rate) = rate
 ownRate (Gompertz eta) = eta
 ownRate (Piecewise trailing) = trailing
 
--- the rest of the eight pairs
-abbrev pub unusedPairs : HazardRate → Intervals → List Pair
-unusedPairs h p = pairsFrom p (usedCount h p) (8 - usedCount h p)
-
 -- ---- refusals 5 and 6 of a hazard
 
--- 5: its own rate or a used rate not finite or of size above 2^40
+-- 5: first or a used rate not finite or of size above 2^40
 unfoldable pub rangeFault : HazardRate → Intervals → Bool
-rangeFault h p = not (inRange (ownRate h) && all (λ q. inRange (q .rate)) (usedPairs h p))
+rangeFault Zero p = false
+rangeFault (Constant rate) p = not (inRange rate)
+rangeFault (Gompertz eta) p = not (inRange eta)
+rangeFault (Piecewise trailing) p = not (inRange trailing && all (λ q. inRange (q .rate)) (usedPairs p))
 
-abbrev pub zeroPair : Pair → Bool
+-- the eight pairs from index i on
+abbrev pub pairsFrom : Intervals → ℕ → List Piece
+pairsFrom p i = piecesBy (pairAt p) i (8 - i)
+
+abbrev pub zeroPair : Piece → Bool
 zeroPair q = zeroBits (q .end) && zeroBits (q .rate)
 
 -- each end above the one before it, and at most 2^40
-unfoldable pub ascending : Float → List Pair → Bool
+unfoldable pub ascending : Float → List Piece → Bool
 ascending before [] = true
 ascending before (q ∷ qs) = lt before (q .end) && (le (q .end) limit && ascending (q .end) qs)
 
--- 6: a count above 8, or not 0 where it is unused; an unused pair not zero bits; used ends not above 0, at most 2^40 and strictly ascending
+-- count or pairs not zero where they are unused
+abbrev pub unusedFault : Intervals → Bool
+unusedFault p = not (eqb (p .count) 0 && all zeroPair (pairsFrom p 0))
+
+-- count above 8, pairs from count on not zero, or used ends not above 0, at most 2^40 and strictly ascending
+abbrev pub pairsFault : Intervals → Bool
+pairsFault p = ltb 8 (p .count) || not (all zeroPair (pairsFrom p (p .count)) && ascending z (usedPairs p))
+
+-- 6
 unfoldable pub intervalsFault : HazardRate → Intervals → Bool
-intervalsFault h p =
-    ltb (mostPairs h) (p .count) || not (all zeroPair (unusedPairs h p) && ascending z (usedPairs h p))
+intervalsFault Zero p = unusedFault p
+intervalsFault (Constant rate) p = unusedFault p
+intervalsFault (Gompertz eta) p = unusedFault p
+intervalsFault (Piecewise trailing) p = pairsFault p
 
 -- ---- the fields of a hazard as in SET
 

@@ -10,7 +10,7 @@ use Rattle.hazards.specs.Floats.{z, isThreshold}
 use Rattle.hazards.specs.Fields.{f64At}
 use Rattle.hazards.specs.Refusals.{invalidState, streamExhausted, badThreshold}
 use Rattle.hazards.specs.declared.draws.Draw.{Draw}
-use Rattle.hazards.specs.declared.draws.DrawOutcome.{DrawOutcome}
+use Rattle.hazards.specs.declared.draws.DrawAndPosition.{DrawAndPosition}
 use Rattle.hazards.specs.declared.draws.StreamPosition.{StreamPosition}
 
 abbrev pub streamLength : List ℕ → ℕ
@@ -20,18 +20,18 @@ abbrev pub thresholdAt : List ℕ → ℕ → Float
 thresholdAt stream position = f64At stream (8 * position)
 
 -- a refused draw leaves the position
-abbrev pub refusedDraw : ℕ → ℕ → DrawOutcome
-refusedDraw number position = record { number = number; threshold = z; position = position }
+abbrev pub refusedDraw : ℕ → ℕ → DrawAndPosition
+refusedDraw number position = record { number = number; threshold = z; position = record { next = position } }
 
 -- a draw reads the threshold at the position and adds one to it
-unfoldable pub drawAt : List ℕ → ℕ → DrawOutcome
+unfoldable pub drawAt : List ℕ → ℕ → DrawAndPosition
 drawAt stream position =
     cond (ltb (streamLength stream) position) (refusedDraw invalidState position)
     (cond (eqb position (streamLength stream)) (refusedDraw streamExhausted position)
     (cond (isThreshold (thresholdAt stream position))
-    (record { number = 0; threshold = thresholdAt stream position; position = position + 1 })
+    (record { number = 0; threshold = thresholdAt stream position; position = record { next = position + 1 } })
     (refusedDraw badThreshold position)))
 
 -- what a drawing call returns, with the position that it was lent and leaves
-abbrev pub withPosition : Draw → StreamPosition → DrawOutcome
-withPosition d p = record { number = d .number; threshold = d .threshold; position = p .next }
+abbrev pub withPosition : Draw → StreamPosition → DrawAndPosition
+withPosition d p = record { number = d .number; threshold = d .threshold; position = p }

@@ -10,4 +10,4 @@ pub mod Evaluations
 pub mod Draws
 pub mod Ties
 pub mod Sampler
-pub mod SamplerCode
+pub mod SamplerInternals

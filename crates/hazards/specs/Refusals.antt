@@ -75,7 +75,7 @@ streamExhausted = 15
 abbrev pub badThreshold : ℕ
 badThreshold = 16
 
--- batch run: under 32 answer bytes are left for a command, which isn't done
+-- batch run: under an answer's bytes are left for a command, which isn't done
 abbrev pub answersFull : ℕ
 answersFull = 17
 

@@ -66,13 +66,13 @@ sampleRefusal causes n s stream position =
 abbrev pub inCauseOrder : List CompetingCause → List CompetingCause
 inCauseOrder causes = sortBy (λ c. c .«cause_id») causes
 
--- each record draws the next threshold
-unfoldable pub candidates : List CompetingCause → Float → List ℕ → ℕ → List Candidate
-candidates [] age stream position = []
-candidates (c ∷ cs) age stream position =
+-- each record takes the next threshold, from a place on
+unfoldable pub candidates : List CompetingCause → Float → (ℕ → Float) → ℕ → List Candidate
+candidates [] age threshold place = []
+candidates (c ∷ cs) age threshold place =
     let h = c .hazard in
-    let wait = invertCumulativeHazard (hazardOf h) (intervalsOf h) age (thresholdAt stream position) in
-    candidateAfter (c .«cause_id») (c .priority) (λ t. t) wait ++ candidates cs age stream (suc position)
+    let wait = invertCumulativeHazard (hazardOf h) (intervalsOf h) age (threshold place) in
+    candidateAfter (c .«cause_id») (c .priority) (λ t. t) wait ++ candidates cs age threshold (suc place)
 
 -- No candidate: censored at a censor age above the current age, else no event. A candidate: censored where its wait is longer
 -- than the span to the censor age, which counts as 0 if that age is before the current one.
@@ -89,7 +89,7 @@ unfoldable pub sampledEvent : List CompetingCause → SampleSettings → List �
 sampledEvent [] s stream position = noEvent 0
 sampledEvent (c ∷ cs) s stream position =
     censoredAt
-    (earliest (tieBreakerOf (s .tie)) (candidates (inCauseOrder (c ∷ cs)) (s .«current_age») stream position))
+    (earliest (tieBreakerOf (s .tie)) (candidates (inCauseOrder (c ∷ cs)) (s .«current_age») (thresholdAt stream) position))
     s
 
 -- every used record draws; nothing is drawn on refusal
@@ -97,5 +97,5 @@ unfoldable pub sampleNext : List CompetingCause → ℕ → SampleSettings → L
 sampleNext causes n s stream position =
     let number = sampleRefusal causes n s stream position in
     cond (eqb number 0)
-    (record { answer = sampledEvent (take n causes) s stream position; position = position + n })
-    (record { answer = noEvent number; position = position })
+    (record { answer = sampledEvent (take n causes) s stream position; position = record { next = position + n } })
+    (record { answer = noEvent number; position = record { next = position } })

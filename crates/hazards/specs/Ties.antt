@@ -26,6 +26,12 @@ candidateAfter cause priority timeOf Never = []
 abbrev pub tieBreakerOf : ℕ → TieBreaker
 tieBreakerOf tie = cond (eqb tie 0) LowestCauseId (cond (eqb tie 1) HighestCauseId ExplicitPriority)
 
+-- a tie choice's number
+abbrev pub tieNumber : TieBreaker → ℕ
+tieNumber LowestCauseId = 0
+tieNumber HighestCauseId = 1
+tieNumber ExplicitPriority = 2
+
 -- of two candidates at the same time; priorities: the higher number first
 unfoldable pub preferred : TieBreaker → Candidate → Candidate → Bool
 preferred LowestCauseId a b = ltb (a .«cause_id») (b .«cause_id»)

@@ -7,6 +7,7 @@ ghost use Rattle.hazards.specs.Fields.{bytesOf};
 // How many bytes an answer has.
 pub const ANSWER_WIDTH: usize = 32;
 
+// The answer of a command or a sample.
 pub struct Answer {
     pub number: u8,
     pub event: bool,

@@ -2,18 +2,22 @@
 ghost use mathlib.Core.Path.{_≡_};
 ghost use mathlib.Core.Bool.{not, _&&_, _||_};
 ghost use mathlib.Core.List.{List};
-ghost use Prim.Native.Nat.{ℕ, _-_, _≤_, min};
+ghost use Prim.Native.Nat.{ℕ};
 ghost use lib.Dec.{eqb, ltb};
 ghost use lib.Ieee.{Float, lt, le};
-ghost use Rattle.hazards.specs.Floats.{z, limit, zeroBits, inRange, isTime};
+ghost use Rattle.hazards.specs.Floats.{z, limit, zeroBits, inRange};
 ghost use Rattle.hazards.specs.Lists.{all};
-ghost use Rattle.hazards.specs.Rates.{intervalsFrom, pairsFrom, mostPairs};
-ghost use Rattle.hazards.specs.Checks.{rateOfKind, ownRate, rangeFault, zeroPair, ascending, intervalsFault, hazardOf};
-ghost use Rattle.hazards.specs.Checks.{intervalsOf, fieldsFrom, hazardFaults};
+ghost use Rattle.hazards.specs.Rates.{intervalsFrom, usedPairs};
+ghost use Rattle.hazards.specs.Checks.{rateOfKind, kindNumber, ownRate, rangeFault, pairsFrom, zeroPair, ascending, unusedFault};
+ghost use Rattle.hazards.specs.Checks.{pairsFault, intervalsFault, hazardOf, intervalsOf, fieldsFrom, hazardFaults};
+use crate::floats::LIMIT;
+use crate::floats::in_range;
+use crate::floats::zero_bits;
 use crate::rates::HazardRate;
 use crate::rates::Intervals;
 use crate::refusals::Faults;
 
+// The fields of a hazard as in SET.
 pub struct HazardFields {
     pub kind: u8,
     pub first: f64,
@@ -22,32 +26,7 @@ pub struct HazardFields {
     pub rates: [f64; 8],
 }
 
-// All bits zero.
-pub fn zero_bits(x: f64) -> bool
-    ensures { λ r. ⌜ r ≡ zeroBits x ⌝ }
-{
-    if x != x { false } else { f64::to_bits(x) == 0 }
-}
-
-// Finite and of size at most 2^40.
-pub fn in_range(x: f64) -> bool
-    ensures { λ r. ⌜ r ≡ inRange x ⌝ }
-{
-    x >= -1099511627776.0 && x <= 1099511627776.0
-}
-
-// Sign bit clear and at most 2^40.
-pub fn is_time(x: f64) -> bool
-    ensures { λ r. ⌜ r ≡ isTime x ⌝ }
-{
-    if x <= 1099511627776.0 {
-        f64::to_bits(x) < 0x8000_0000_0000_0000
-    } else {
-        false
-    }
-}
-
-// The kind's own rate, +0.0 for Zero.
+// The hazard's own rate, +0.0 for Zero.
 pub fn own_rate(hazard: HazardRate) -> f64
     ensures { λ r. ⌜ r ≡ ownRate hazard ⌝ }
 {
@@ -59,32 +38,12 @@ pub fn own_rate(hazard: HazardRate) -> f64
     }
 }
 
-// How many pairs a kind can use.
-fn most_pairs(hazard: HazardRate) -> usize
-    ensures { λ r. ⌜ r ≡ mostPairs hazard ⌝ }
+// The rates of the used pairs are in range, whatever their ends.
+fn rates_in_range(rates: &[f64; 8], count: usize) -> bool
+    ensures { λ r. ⌜ ((ends : List Float)
+        → r ≡ all (λ q. inRange (q .rate)) (usedPairs (intervalsFrom ends (now (rates .entry)) count))) ⌝ }
 {
-    match hazard {
-        HazardRate::Zero => 0,
-        HazardRate::Constant(_) => 0,
-        HazardRate::Gompertz(_) => 0,
-        HazardRate::Piecewise(_) => 8,
-    }
-}
-
-// How many of the pairs are used.
-fn used_count(hazard: HazardRate, count: usize) -> usize
-    ensures { λ r. ⌜ r ≡ min count (mostPairs hazard) ⌝ }
-{
-    let most = most_pairs(hazard);
-    if count < most { count } else { most }
-}
-
-// The rates of the first `used` pairs are in range.
-fn rates_in_range(rates: &[f64; 8], used: usize) -> bool
-    requires { ⌜ used ≤ 8 ⌝ }
-    ensures { λ r. ⌜ ((ends : List Float) (n : ℕ)
-        → r ≡ all (λ q. inRange (q .rate)) (pairsFrom (intervalsFrom ends (now (rates .entry)) n) 0 used)) ⌝ }
-{
+    let used = crate::rates::at_most_eight(count);
     let mut i: usize = 0;
     while i < used {
         if !in_range(rates[i]) {
@@ -99,14 +58,14 @@ fn rates_in_range(rates: &[f64; 8], used: usize) -> bool
 fn ascends(before: f64, end: f64) -> bool
     ensures { λ r. ⌜ r ≡ (lt before end && le end limit) ⌝ }
 {
-    before < end && end <= 1099511627776.0
+    before < end && end <= LIMIT
 }
 
-// The ends of the first `used` pairs ascend from above 0 to at most 2^40.
-fn ends_ascend(ends: &[f64; 8], used: usize) -> bool
-    requires { ⌜ used ≤ 8 ⌝ }
-    ensures { λ r. ⌜ ((rates : List Float) (n : ℕ) → r ≡ ascending z (pairsFrom (intervalsFrom (now (ends .entry)) rates n) 0 used)) ⌝ }
+// The ends of the used pairs ascend from above 0 to at most 2^40, whatever their rates.
+fn ends_ascend(ends: &[f64; 8], count: usize) -> bool
+    ensures { λ r. ⌜ ((rates : List Float) → r ≡ ascending z (usedPairs (intervalsFrom (now (ends .entry)) rates count))) ⌝ }
 {
+    let used = crate::rates::at_most_eight(count);
     let mut before = 0.0;
     let mut i: usize = 0;
     while i < used {
@@ -120,6 +79,7 @@ fn ends_ascend(ends: &[f64; 8], used: usize) -> bool
     true
 }
 
+// All bits of a pair are zero.
 fn zero_pair(end: f64, rate: f64) -> bool
     ensures { λ r. ⌜ r ≡ (zeroBits end && zeroBits rate) ⌝ }
 {
@@ -128,12 +88,12 @@ fn zero_pair(end: f64, rate: f64) -> bool
     end_zero & rate_zero
 }
 
-// All bits of the pairs from `used` on are zero.
-pub(crate) fn unused_are_zero<'a>(ends: &'a [f64; 8], rates: &'a [f64; 8], used: usize) -> bool
-    ensures { λ r. ⌜ ((n : ℕ) → r ≡ all zeroPair (pairsFrom (intervalsFrom (now (ends .entry)) (now (rates .entry)) n) used (8 - used))) ⌝ }
+// All bits of the pairs from index `from` on are zero.
+fn unused_are_zero<'a>(ends: &'a [f64; 8], rates: &'a [f64; 8], from: usize) -> bool
+    ensures { λ r. ⌜ ((n : ℕ) → r ≡ all zeroPair (pairsFrom (intervalsFrom (now (ends .entry)) (now (rates .entry)) n) from)) ⌝ }
 {
     let mut zero = true;
-    let mut i = used;
+    let mut i = from;
     while i < 8 {
         zero = zero & zero_pair(ends[i], rates[i]);
         i += 1;
@@ -141,14 +101,47 @@ pub(crate) fn unused_are_zero<'a>(ends: &'a [f64; 8], rates: &'a [f64; 8], used:
     zero
 }
 
+// Refusal 5 of a piecewise hazard.
+fn piecewise_range_fault(trailing: f64, rates: &[f64; 8], count: usize) -> bool
+    ensures { λ r. ⌜ ((ends : List Float)
+        → r ≡ rangeFault (HazardRate.Piecewise trailing) (intervalsFrom ends (now (rates .entry)) count)) ⌝ }
+{
+    let own = in_range(trailing);
+    let used = rates_in_range(rates, count);
+    !(own & used)
+}
+
 // Refusal 5 of a hazard, whatever its ends.
 pub fn range_fault(hazard: HazardRate, rates: &[f64; 8], count: usize) -> bool
     ensures { λ r. ⌜ ((ends : List Float) → r ≡ rangeFault hazard (intervalsFrom ends (now (rates .entry)) count)) ⌝ }
 {
-    let used = used_count(hazard, count);
-    let own = in_range(own_rate(hazard));
-    let pairs = rates_in_range(rates, used);
-    !(own & pairs)
+    match hazard {
+        HazardRate::Zero => false,
+        HazardRate::Constant(rate) => !in_range(rate),
+        HazardRate::Gompertz(eta) => !in_range(eta),
+        HazardRate::Piecewise(trailing) => piecewise_range_fault(trailing, rates, count),
+    }
+}
+
+// Refusal 6 of a hazard that uses no pairs.
+pub(crate) fn unused_fault<'a>(ends: &'a [f64; 8], rates: &'a [f64; 8], count: usize) -> bool
+    ensures { λ r. ⌜ r ≡ unusedFault (intervalsFrom (now (ends .entry)) (now (rates .entry)) count) ⌝ }
+{
+    let none = count == 0;
+    let zero = unused_are_zero(ends, rates, 0);
+    !(none & zero)
+}
+
+// Refusal 6 of a piecewise hazard.
+fn pairs_fault<'a>(ends: &'a [f64; 8], rates: &'a [f64; 8], count: usize) -> bool
+    ensures { λ r. ⌜ r ≡ pairsFault (intervalsFrom (now (ends .entry)) (now (rates .entry)) count) ⌝ }
+{
+    if count > 8 {
+        return true;
+    }
+    let zero = unused_are_zero(ends, rates, count);
+    let ascend = ends_ascend(ends, count);
+    !(zero & ascend)
 }
 
 // Refusal 6 of a hazard.
@@ -160,15 +153,15 @@ pub fn intervals_fault<'a>(
 ) -> bool
     ensures { λ r. ⌜ r ≡ intervalsFault hazard (intervalsFrom (now (ends .entry)) (now (rates .entry)) count) ⌝ }
 {
-    if count > most_pairs(hazard) {
-        return true;
+    match hazard {
+        HazardRate::Zero => unused_fault(ends, rates, count),
+        HazardRate::Constant(_) => unused_fault(ends, rates, count),
+        HazardRate::Gompertz(_) => unused_fault(ends, rates, count),
+        HazardRate::Piecewise(_) => pairs_fault(ends, rates, count),
     }
-    let used = used_count(hazard, count);
-    let unused = unused_are_zero(ends, rates, used);
-    let ascend = ends_ascend(ends, used);
-    !(unused & ascend)
 }
 
+// The hazard of a kind's number and its first field; a kind above 3 is refused by 4 before this is asked.
 pub fn rate_of_kind(kind: u8, first: f64) -> HazardRate
     ensures { λ r. ⌜ r ≡ rateOfKind kind first ⌝ }
 {
@@ -182,6 +175,18 @@ pub fn rate_of_kind(kind: u8, first: f64) -> HazardRate
         return HazardRate::Gompertz(first);
     }
     HazardRate::Piecewise(first)
+}
+
+// Document 01's number of a kind.
+pub fn kind_number(hazard: HazardRate) -> u8
+    ensures { λ r. ⌜ r ≡ kindNumber hazard ⌝ }
+{
+    match hazard {
+        HazardRate::Zero => 0,
+        HazardRate::Constant(_) => 1,
+        HazardRate::Gompertz(_) => 2,
+        HazardRate::Piecewise(_) => 3,
+    }
 }
 
 // Refusal 4 of a hazard's fields.
@@ -218,12 +223,14 @@ pub fn hazard_faults<'a>(
 }
 
 impl HazardFields {
+    // The kind with its own rate.
     pub fn hazard(self) -> HazardRate
         ensures { λ r. ⌜ r ≡ hazardOf self ⌝ }
     {
         rate_of_kind(self.kind, self.first)
     }
 
+    // The pairs, used or not, with their count.
     pub fn intervals(self) -> Intervals
         ensures { λ r. ⌜ r ≡ intervalsOf self ⌝ }
     {
@@ -236,6 +243,7 @@ impl HazardFields {
         }
     }
 
+    // Refusals 4 to 6 of these fields.
     pub fn faults(self) -> Faults
         ensures { λ r. ⌜ r ≡ hazardFaults self ⌝ }
     {

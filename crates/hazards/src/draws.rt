@@ -1,6 +1,5 @@
 // Draws from the recorded threshold stream: lent bytes, each whole 8 of them one f64.
 ghost use mathlib.Core.Path.{_≡_};
-ghost use Rattle.hazards.specs.Floats.{isThreshold};
 ghost use Rattle.hazards.specs.Draws.{refusedDraw, drawAt, withPosition};
 
 // Where the next draw reads.
@@ -8,38 +7,32 @@ pub struct StreamPosition {
     pub next: usize,
 }
 
-// A draw: its refusal or 0, the threshold, and the position after it.
-pub struct DrawOutcome {
-    pub number: u8,
-    pub threshold: f64,
-    pub position: usize,
-}
-
-// A draw without its position.
+// A draw: its refusal or 0, and the threshold.
 pub struct Draw {
     pub number: u8,
     pub threshold: f64,
 }
 
-fn is_threshold(x: f64) -> bool
-    ensures { λ r. ⌜ r ≡ isThreshold x ⌝ }
-{
-    x >= 0.0 && x <= 1024.0
+// A draw, and the position after it.
+pub struct DrawAndPosition {
+    pub number: u8,
+    pub threshold: f64,
+    pub position: StreamPosition,
 }
 
 // A refused draw leaves the position.
-fn refused(number: u8, position: usize) -> DrawOutcome
+fn refused(number: u8, position: usize) -> DrawAndPosition
     ensures { λ r. ⌜ r ≡ refusedDraw number position ⌝ }
 {
-    DrawOutcome {
+    DrawAndPosition {
         number,
         threshold: 0.0,
-        position,
+        position: StreamPosition { next: position },
     }
 }
 
 // The draw at a position: what it reads, and the position after it.
-pub fn draw_at(stream: &[u8], position: usize) -> DrawOutcome
+pub(crate) fn draw_at(stream: &[u8], position: usize) -> DrawAndPosition
     ensures { λ r. ⌜ r ≡ drawAt (now (stream .entry)) position ⌝ }
 {
     let length = stream.len() / 8;
@@ -50,13 +43,13 @@ pub fn draw_at(stream: &[u8], position: usize) -> DrawOutcome
         return refused(crate::refusals::STREAM_EXHAUSTED, position);
     }
     let threshold = crate::fields::f64_at(stream, 8 * position);
-    if !is_threshold(threshold) {
+    if !crate::floats::is_threshold(threshold) {
         return refused(crate::refusals::BAD_THRESHOLD, position);
     }
-    DrawOutcome {
+    DrawAndPosition {
         number: 0,
         threshold,
-        position: position + 1,
+        position: StreamPosition { next: position + 1 },
     }
 }
 
@@ -65,22 +58,22 @@ pub fn draw_standard_threshold<'s, 'p>(stream: &'s [u8], position: &'p mut Strea
     ensures { λ r. ⌜ withPosition r (now (position .exit)) ≡ drawAt (now (stream .entry)) (now (position .entry) .next) ⌝ }
 {
     let drawn = draw_at(stream, position.next);
-    position.next = drawn.position;
+    position.next = drawn.position.next;
     Draw {
         number: drawn.number,
         threshold: drawn.threshold,
     }
 }
 
-// A draw through a position that is lent, for callers that keep a number.
-pub fn draw_from(stream: &[u8], position: usize) -> DrawOutcome
-    ensures { λ d. ⌜ d ≡ drawAt (now (stream .entry)) position ⌝ }
+// The same with a position by value, for callers that lend none: it is lent from here, and given back with the draw.
+pub fn draw_from(stream: &[u8], position: StreamPosition) -> DrawAndPosition
+    ensures { λ d. ⌜ d ≡ drawAt (now (stream .entry)) (position .next) ⌝ }
 {
-    let mut lent = StreamPosition { next: position };
+    let mut lent = position;
     let draw = draw_standard_threshold(stream, &mut lent);
-    DrawOutcome {
+    DrawAndPosition {
         number: draw.number,
         threshold: draw.threshold,
-        position: lent.next,
+        position: lent,
     }
 }

@@ -57,6 +57,7 @@ fn evaluation_refusal<'a>(
         .number()
 }
 
+// hazard_at: the hazard at time t.
 pub fn evaluate_hazard_at<'a>(
     kind: u8,
     first: f64,
@@ -67,7 +68,7 @@ pub fn evaluate_hazard_at<'a>(
 ) -> Evaluation
     ensures { λ r. ⌜ r ≡ evaluatedHazardAt (fieldsFrom kind first count (now (ends .entry)) (now (rates .entry))) t ⌝ }
 {
-    let number = evaluation_refusal(kind, first, count, ends, rates, crate::checks::in_range(t));
+    let number = evaluation_refusal(kind, first, count, ends, rates, crate::floats::in_range(t));
     if number != 0 {
         return without_value(number);
     }
@@ -76,6 +77,7 @@ pub fn evaluate_hazard_at<'a>(
     valued(crate::rates::hazard_at(hazard, ends, rates, pairs, t))
 }
 
+// cumulative_hazard: the hazard accumulated from 0 to t.
 pub fn evaluate_cumulative_hazard<'a>(
     kind: u8,
     first: f64,
@@ -86,7 +88,7 @@ pub fn evaluate_cumulative_hazard<'a>(
 ) -> Evaluation
     ensures { λ r. ⌜ r ≡ evaluatedCumulativeHazard (fieldsFrom kind first count (now (ends .entry)) (now (rates .entry))) t ⌝ }
 {
-    let number = evaluation_refusal(kind, first, count, ends, rates, crate::checks::in_range(t));
+    let number = evaluation_refusal(kind, first, count, ends, rates, crate::floats::in_range(t));
     if number != 0 {
         return without_value(number);
     }
@@ -95,6 +97,7 @@ pub fn evaluate_cumulative_hazard<'a>(
     valued(crate::rates::cumulative_hazard(hazard, ends, rates, pairs, t))
 }
 
+// invert_cumulative_hazard: the wait from t_start on until target_w more has accumulated; an infinite one is a value.
 pub fn evaluate_inversion<'a>(
     kind: u8,
     first: f64,
@@ -106,8 +109,8 @@ pub fn evaluate_inversion<'a>(
 ) -> Evaluation
     ensures { λ r. ⌜ r ≡ evaluatedInversion (fieldsFrom kind first count (now (ends .entry)) (now (rates .entry))) «t_start» «target_w» ⌝ }
 {
-    let start = crate::checks::in_range(t_start);
-    let w = crate::checks::in_range(target_w);
+    let start = crate::floats::in_range(t_start);
+    let w = crate::floats::in_range(target_w);
     let number = evaluation_refusal(kind, first, count, ends, rates, start & w);
     if number != 0 {
         return without_value(number);

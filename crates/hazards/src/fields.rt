@@ -55,24 +55,28 @@ fn put_word(bytes: &mut [u8], at: usize, width: usize, word: u64)
     }
 }
 
+// The byte at a place.
 pub fn u8_at(bytes: &[u8], at: usize) -> u8
     ensures { λ r. ⌜ r ≡ fieldAt 1 (now (bytes .entry)) at ⌝ }
 {
     (word_at(bytes, at, 1) % 0x100) as u8
 }
 
+// The u32 field at a place.
 pub fn u32_at(bytes: &[u8], at: usize) -> u32
     ensures { λ r. ⌜ r ≡ fieldAt 4 (now (bytes .entry)) at ⌝ }
 {
     (word_at(bytes, at, 4) % 0x1_0000_0000) as u32
 }
 
+// The u64 field at a place.
 pub fn u64_at(bytes: &[u8], at: usize) -> u64
     ensures { λ r. ⌜ r ≡ fieldAt 8 (now (bytes .entry)) at ⌝ }
 {
     word_at(bytes, at, 8)
 }
 
+// The i32 field at a place, in two's complement.
 pub fn i32_at(bytes: &[u8], at: usize) -> i32
     ensures { λ r. ⌜ r ≡ i32At (now (bytes .entry)) at ⌝ }
 {
@@ -84,7 +88,7 @@ pub fn i32_at(bytes: &[u8], at: usize) -> i32
     }
 }
 
-// Every NaN pattern reads as a NaN.
+// The f64 field at a place; every NaN pattern reads as a NaN.
 pub fn f64_at(bytes: &[u8], at: usize) -> f64
     ensures { λ r. ⌜ r ≡ f64At (now (bytes .entry)) at ⌝ }
 {
@@ -95,24 +99,28 @@ pub fn f64_at(bytes: &[u8], at: usize) -> f64
     f64::from_bits(bits)
 }
 
+// Writes a byte at a place.
 pub fn put_u8(bytes: &mut [u8], at: usize, x: u8)
     ensures { λ _. ⌜ now (bytes .exit) ≡ withField 1 (now (bytes .entry)) at x ⌝ }
 {
     put_word(bytes, at, 1, x as u64);
 }
 
+// Writes a u32 field at a place.
 pub fn put_u32(bytes: &mut [u8], at: usize, x: u32)
     ensures { λ _. ⌜ now (bytes .exit) ≡ withField 4 (now (bytes .entry)) at x ⌝ }
 {
     put_word(bytes, at, 4, x as u64);
 }
 
+// Writes a u64 field at a place.
 pub fn put_u64(bytes: &mut [u8], at: usize, x: u64)
     ensures { λ _. ⌜ now (bytes .exit) ≡ withField 8 (now (bytes .entry)) at x ⌝ }
 {
     put_word(bytes, at, 8, x);
 }
 
+// Writes an i32 field at a place, in two's complement.
 pub fn put_i32(bytes: &mut [u8], at: usize, x: i32)
     ensures { λ _. ⌜ now (bytes .exit) ≡ withI32 (now (bytes .entry)) at x ⌝ }
 {
@@ -123,7 +131,7 @@ pub fn put_i32(bytes: &mut [u8], at: usize, x: i32)
     }
 }
 
-// A NaN is written as its quiet pattern with a clear sign.
+// Writes an f64 field at a place; a NaN as its quiet pattern with a clear sign.
 pub fn put_f64(bytes: &mut [u8], at: usize, x: f64)
     ensures { λ _. ⌜ now (bytes .exit) ≡ withF64 (now (bytes .entry)) at x ⌝ }
 {

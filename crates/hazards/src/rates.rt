@@ -1,14 +1,15 @@
 // Hazard rates of competing_risks.rs: the hazard, the cumulative hazard and its inverse, each float operation rounded once.
 ghost use mathlib.Core.Path.{_≡_};
 ghost use mathlib.Core.Bool.{_&&_};
-ghost use Prim.Native.Nat.{_-_, min};
+ghost use Prim.Native.Nat.{min};
 ghost use mathlib.Core.List.{[]};
 ghost use lib.Ieee.{lt, le};
-ghost use Rattle.hazards.specs.Floats.{z, notBelowZero};
-ghost use Rattle.hazards.specs.Rates.{intervalsFrom, pairsFrom, usedPairs, piecewiseHazard, piecewiseCumulative, pairsAfter};
-ghost use Rattle.hazards.specs.Rates.{piecewiseWait, constantWait, hazardAt, cumulativeHazard, invertCumulativeHazard};
+ghost use Rattle.hazards.specs.Floats.{z};
+ghost use Rattle.hazards.specs.Rates.{intervalsFrom, usedPairs, usesPairs, piecewiseHazard, piecewiseCumulative, firstAfter};
+ghost use Rattle.hazards.specs.Rates.{waitFrom, piecewiseWait, constantWait, hazardAt, cumulativeHazard, invertCumulativeHazard};
+use crate::floats::not_below_zero;
 
-// A kind with its own rate: the rate of Constant, eta of Gompertz (with b = 0), the trailing rate of PiecewiseConstant.
+// A hazard with its own rate: the rate of Constant, eta of Gompertz (with b = 0), the trailing rate of PiecewiseConstant.
 pub enum HazardRate {
     Zero,
     Constant(f64),
@@ -29,11 +30,16 @@ pub enum Wait {
     Never,
 }
 
-// x.max(0.0), with +0.0 for a negative number and for -0.0.
-pub fn not_below_zero(x: f64) -> f64
-    ensures { λ r. ⌜ r ≡ notBelowZero x ⌝ }
+// Whether a hazard uses pairs at all.
+pub(crate) fn uses_pairs(hazard: HazardRate) -> bool
+    ensures { λ r. ⌜ r ≡ usesPairs hazard ⌝ }
 {
-    if x > 0.0 { x } else { 0.0 }
+    match hazard {
+        HazardRate::Zero => false,
+        HazardRate::Constant(_) => false,
+        HazardRate::Gompertz(_) => false,
+        HazardRate::Piecewise(_) => true,
+    }
 }
 
 // There are eight pairs, records and channels at most.
@@ -51,9 +57,7 @@ fn piecewise_hazard<'a>(
     t: f64,
 ) -> f64
     ensures { λ r. ⌜ r
-        ≡ piecewiseHazard
-        (usedPairs (HazardRate.Piecewise trailing) (intervalsFrom (now (ends .entry)) (now (rates .entry)) count))
-        trailing t ⌝ }
+        ≡ piecewiseHazard (usedPairs (intervalsFrom (now (ends .entry)) (now (rates .entry)) count)) trailing t ⌝ }
 {
     let used = at_most_eight(count);
     let mut i: usize = 0;
@@ -66,6 +70,7 @@ fn piecewise_hazard<'a>(
     not_below_zero(trailing)
 }
 
+// The hazard at time t, 0 before time 0.
 pub fn hazard_at<'a>(
     hazard: HazardRate,
     ends: &'a [f64; 8],
@@ -94,9 +99,7 @@ fn piecewise_cumulative<'a>(
     t: f64,
 ) -> f64
     ensures { λ r. ⌜ r
-        ≡ piecewiseCumulative
-        (usedPairs (HazardRate.Piecewise trailing) (intervalsFrom (now (ends .entry)) (now (rates .entry)) count))
-        trailing t z z ⌝ }
+        ≡ piecewiseCumulative (usedPairs (intervalsFrom (now (ends .entry)) (now (rates .entry)) count)) trailing t z z ⌝ }
 {
     let used = at_most_eight(count);
     let mut cum = 0.0;
@@ -115,6 +118,7 @@ fn piecewise_cumulative<'a>(
     cum + not_below_zero(trailing) * (t - cur_t)
 }
 
+// The hazard accumulated from 0 to t.
 pub fn cumulative_hazard<'a>(
     hazard: HazardRate,
     ends: &'a [f64; 8],
@@ -135,10 +139,9 @@ pub fn cumulative_hazard<'a>(
     }
 }
 
-// The place of the first pair that does not end at or before t, or one past the used pairs.
+// The index of the first used pair that does not end at or before t, or one past the used pairs.
 fn interval_after<'a>(ends: &'a [f64; 8], rates: &'a [f64; 8], count: usize, t: f64) -> usize
-    ensures { λ r. ⌜ pairsFrom (intervalsFrom (now (ends .entry)) (now (rates .entry)) count) r (min count 8 - r)
-        ≡ pairsAfter t (pairsFrom (intervalsFrom (now (ends .entry)) (now (rates .entry)) count) 0 (min count 8)) ⌝ }
+    ensures { λ r. ⌜ r ≡ firstAfter t (usedPairs (intervalsFrom (now (ends .entry)) (now (rates .entry)) count)) ⌝ }
 {
     let used = at_most_eight(count);
     let mut i: usize = 0;
@@ -159,7 +162,7 @@ fn within_capacity(rate: f64, w: f64, capacity: f64) -> bool
 
 // The wait at the trailing rate, from cur_t on.
 fn trailing_wait(trailing: f64, start: f64, cur_t: f64, w: f64) -> Wait
-    ensures { λ r. ⌜ r ≡ piecewiseWait [] trailing start «cur_t» w ⌝ }
+    ensures { λ r. ⌜ r ≡ waitFrom [] trailing start «cur_t» w ⌝ }
 {
     let rate = not_below_zero(trailing);
     if rate <= 0.0 {
@@ -178,10 +181,7 @@ fn piecewise_wait<'a>(
     w: f64,
 ) -> Wait
     ensures { λ r. ⌜ r
-        ≡ piecewiseWait
-        (pairsAfter start
-        (usedPairs (HazardRate.Piecewise trailing) (intervalsFrom (now (ends .entry)) (now (rates .entry)) count)))
-        trailing start start w ⌝ }
+        ≡ piecewiseWait (usedPairs (intervalsFrom (now (ends .entry)) (now (rates .entry)) count)) trailing start w ⌝ }
 {
     let used = at_most_eight(count);
     let mut i = interval_after(ends, rates, count, start);
@@ -201,6 +201,7 @@ fn piecewise_wait<'a>(
     trailing_wait(trailing, start, cur_t, remaining_w)
 }
 
+// The wait until w has accumulated at one rate.
 pub(crate) fn constant_wait(rate: f64, w: f64) -> Wait
     ensures { λ r. ⌜ r ≡ constantWait rate w ⌝ }
 {

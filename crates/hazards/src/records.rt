@@ -1,16 +1,15 @@
 // What is found of one record of the sampler: its faults, and its wait.
 ghost use mathlib.Core.Path.{_≡_};
-ghost use Prim.Native.Nat.{_<_};
-ghost use lib.Ieee.{Float};
+ghost use mathlib.Core.Bool.{false};
 ghost use Rattle.hazards.specs.Refusals.{joined, identifierFaultIf, isReserved};
-ghost use Rattle.hazards.specs.Rates.{invertCumulativeHazard};
-ghost use Rattle.hazards.specs.Checks.{rateOfKind, fieldsFrom, hazardFaults};
-ghost use Rattle.hazards.specs.SamplerCode.{examinedRecord};
-ghost use Rattle.hazards.specs.declared.rates.Intervals.{Intervals};
+ghost use Rattle.hazards.specs.Rates.{usesPairs};
+ghost use Rattle.hazards.specs.Checks.{rateOfKind, fieldsFrom, hazardFaults, hazardOf};
+ghost use Rattle.hazards.specs.SamplerInternals.{examinedRecord};
 use crate::rates::Wait;
 use crate::refusals::Faults;
 use crate::sampler::CompetingCause;
 
+// A record's faults, and its wait whether or not it has any.
 pub struct Examined {
     pub faults: Faults,
     pub wait: Wait,
@@ -24,7 +23,7 @@ fn with_identifier(fields: Faults, cause_id: u32) -> Faults
     fields.joined(crate::refusals::identifier_fault_if(reserved))
 }
 
-// hazard_faults of a kind that uses no pairs.
+// hazard_faults of a hazard that uses no pairs.
 fn single_rate_faults<'a>(
     kind: u8,
     first: f64,
@@ -32,41 +31,21 @@ fn single_rate_faults<'a>(
     ends: &'a [f64; 8],
     rates: &'a [f64; 8],
 ) -> Faults
-    requires { ⌜ kind < 3 ⌝ }
+    requires { ⌜ usesPairs (rateOfKind kind first) ≡ false ⌝ }
     ensures { λ r. ⌜ r ≡ hazardFaults (fieldsFrom kind first count (now (ends .entry)) (now (rates .entry))) ⌝ }
 {
     let hazard = crate::checks::rate_of_kind(kind, first);
-    let own = crate::checks::in_range(crate::checks::own_rate(hazard));
-    let none = count == 0;
-    let unused = crate::checks::unused_are_zero(ends, rates, 0);
     Faults {
         choice: crate::checks::choice_fault(kind, first),
-        range: !own,
-        intervals: !(none & unused),
+        range: crate::checks::range_fault(hazard, rates, 0),
+        intervals: crate::checks::unused_fault(ends, rates, count as usize),
         identifier: false,
     }
 }
 
-// invert_cumulative_hazard of a kind that uses no pairs, from whatever age.
-fn single_rate_wait(kind: u8, first: f64, w: f64) -> Wait
-    requires { ⌜ kind < 3 ⌝ }
-    ensures { λ r. ⌜ ((p : Intervals) (start : Float) → r ≡ invertCumulativeHazard (rateOfKind kind first) p start w) ⌝ }
-{
-    if w <= 0.0 {
-        return Wait::After(0.0);
-    }
-    if kind == 0 {
-        return Wait::Never;
-    }
-    if kind == 1 {
-        return crate::rates::constant_wait(crate::rates::not_below_zero(first), w);
-    }
-    crate::rates::constant_wait(first, w)
-}
-
-// A record of a kind that uses no pairs. They are read at fixed places only, so the compiled code makes no copy of them.
+// A record whose hazard uses no pairs, with none counted: they are read at fixed places only, to see that they are zero.
 fn examined_single_rate(cause: CompetingCause, age: f64, w: f64) -> Examined
-    requires { ⌜ cause .hazard .kind < 3 ⌝ }
+    requires { ⌜ usesPairs (hazardOf (cause .hazard)) ≡ false ⌝ }
     ensures { λ r. ⌜ r ≡ examinedRecord cause age w ⌝ }
 {
     let rate_faults = single_rate_faults(
@@ -77,11 +56,19 @@ fn examined_single_rate(cause: CompetingCause, age: f64, w: f64) -> Examined
         &cause.hazard.rates,
     );
     let faults = with_identifier(rate_faults, cause.cause_id);
-    let wait = single_rate_wait(cause.hazard.kind, cause.hazard.first, w);
+    let rate = crate::checks::rate_of_kind(cause.hazard.kind, cause.hazard.first);
+    let wait = crate::rates::invert_cumulative_hazard(
+        rate,
+        &cause.hazard.ends,
+        &cause.hazard.rates,
+        0,
+        age,
+        w,
+    );
     Examined { faults, wait }
 }
 
-// A record of any kind, and the one way for a kind that uses pairs.
+// A record of any hazard, and the one way for a hazard that uses pairs.
 fn examined_with_pairs(cause: CompetingCause, age: f64, w: f64) -> Examined
     ensures { λ r. ⌜ r ≡ examinedRecord cause age w ⌝ }
 {
@@ -105,12 +92,13 @@ fn examined_with_pairs(cause: CompetingCause, age: f64, w: f64) -> Examined
     Examined { faults, wait }
 }
 
-// What is found of a record, whatever its kind.
+// What is found of a record, whatever its hazard.
 pub(crate) fn examined_record(cause: CompetingCause, age: f64, w: f64) -> Examined
     ensures { λ r. ⌜ r ≡ examinedRecord cause age w ⌝ }
 {
-    if cause.hazard.kind < 3 {
-        return examined_single_rate(cause, age, w);
+    let hazard = crate::checks::rate_of_kind(cause.hazard.kind, cause.hazard.first);
+    if crate::rates::uses_pairs(hazard) {
+        return examined_with_pairs(cause, age, w);
     }
-    examined_with_pairs(cause, age, w)
+    examined_single_rate(cause, age, w)
 }

@@ -2,6 +2,7 @@
 ghost use mathlib.Core.Path.{_≡_};
 ghost use Rattle.hazards.specs.Refusals.{noFaults, rangeFaultUnless, isReserved, identifierFaultIf, joined, numberOf};
 
+// The numbers that this crate gives, under their names in specs/Refusals.antt.
 pub const INVALID_STATE: u8 = 1;
 
 pub const BAD_CHOICE: u8 = 4;
@@ -21,6 +22,7 @@ pub const BAD_THRESHOLD: u8 = 16;
 // The cause of a censored event, which no record may name.
 pub const NO_CAUSE: u32 = 0xffff_ffff;
 
+// What is wrong with a part of an input: a flag for each of refusals 4 to 7, in this order.
 pub struct Faults {
     pub choice: bool,
     pub range: bool,
@@ -40,6 +42,7 @@ pub fn range_fault_unless(ok: bool) -> Faults
     }
 }
 
+// Whether a cause is the one that no record may name.
 pub fn is_reserved(cause: u32) -> bool
     ensures { λ r. ⌜ r ≡ isReserved cause ⌝ }
 {
@@ -59,6 +62,7 @@ pub fn identifier_fault_if(reserved: bool) -> Faults
 }
 
 impl Faults {
+    // Nothing is wrong.
     pub fn none() -> Faults
         ensures { λ r. ⌜ r ≡ noFaults ⌝ }
     {

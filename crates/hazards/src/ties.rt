@@ -1,14 +1,15 @@
 // Candidates and which of them comes first.
 ghost use mathlib.Core.Path.{_≡_};
-ghost use Rattle.hazards.specs.Floats.{isFiniteWait};
-ghost use Rattle.hazards.specs.Ties.{tieBreakerOf, preferred, precedes, earlier};
+ghost use Rattle.hazards.specs.Ties.{tieBreakerOf, tieNumber, preferred, precedes, earlier};
 
+// Which of two causes at the same time comes first.
 pub enum TieBreaker {
     LowestCauseId,
     HighestCauseId,
     ExplicitPriority,
 }
 
+// A cause's event at a time: its wait in the sampler, now + wait in the clock.
 pub struct Candidate {
     pub cause_id: u32,
     pub priority: u32,
@@ -21,14 +22,7 @@ pub enum Earliest {
     Found(Candidate),
 }
 
-// An infinite wait is no candidate.
-pub fn is_finite_wait(x: f64) -> bool
-    ensures { λ r. ⌜ r ≡ isFiniteWait x ⌝ }
-{
-    let infinity = 1.0 / 0.0;
-    x >= 0.0 && x < infinity
-}
-
+// The tie choice of a number; one above 2 is refused by 4 before this is asked.
 pub fn tie_breaker(tie: u8) -> TieBreaker
     ensures { λ r. ⌜ r ≡ tieBreakerOf tie ⌝ }
 {
@@ -39,6 +33,17 @@ pub fn tie_breaker(tie: u8) -> TieBreaker
         return TieBreaker::HighestCauseId;
     }
     TieBreaker::ExplicitPriority
+}
+
+// Document 01's number of a tie choice.
+pub fn tie_number(tie: TieBreaker) -> u8
+    ensures { λ r. ⌜ r ≡ tieNumber tie ⌝ }
+{
+    match tie {
+        TieBreaker::LowestCauseId => 0,
+        TieBreaker::HighestCauseId => 1,
+        TieBreaker::ExplicitPriority => 2,
+    }
 }
 
 fn explicitly_preferred(a: Candidate, b: Candidate) -> bool

@@ -6,7 +6,9 @@ ghost use lib.ListN.{length};
 ghost use mathlib.Core.Path.{_≡_};
 ghost use Rattle.hazards.specs.Rates.{intervalsFrom, hazardAt, cumulativeHazard};
 ghost use Rattle.hazards.specs.Checks.{rateOfKind};
+use hazards::answers::ANSWER_WIDTH;
 use hazards::checks::HazardFields;
+use hazards::draws::StreamPosition;
 use hazards::evaluations::Evaluation;
 use hazards::fields::f64_at;
 use hazards::fields::put_f64;
@@ -221,13 +223,15 @@ pub extern "C" fn probe_invert_cumulative_hazard<'a>(
     }
 }
 
-// An answer of 32 bytes, then the position after it.
+// An answer, then the position after it.
+pub const SAMPLED_WIDTH: usize = ANSWER_WIDTH + 8;
+
 fn put_sampled(out: &mut [u8], at: usize, sampled: Sampled)
     requires { ⌜ at ≤ 0x7fff_ffff_ffff_ffff ⌝ }
     ensures { λ _. ⌜ length (now (out .exit)) ≡ length (now (out .entry)) ⌝ }
 {
     hazards::answers::put_answer(out, at, sampled.answer);
-    put_u64(out, at + 32, sampled.position as u64);
+    put_u64(out, at + ANSWER_WIDTH, sampled.position.next as u64);
 }
 
 // One sample for each position of 8 bytes, while there are positions and room; the number of them. A request is n u8, the
@@ -242,12 +246,13 @@ pub extern "C" fn probe_sample(
     let n = u8_at(request, 0) as usize;
     let settings = settings_at(request, 1);
     let causes = causes_at(request, 19);
-    let count = lesser(positions.len() / 8, out.len() / 40);
+    let count = lesser(positions.len() / 8, out.len() / SAMPLED_WIDTH);
     let mut i: usize = 0;
     while i < count {
-        let position = u64_at(positions, 8 * i) as usize;
+        let next = u64_at(positions, 8 * i) as usize;
+        let position = StreamPosition { next };
         let sampled = hazards::sampler::sample_next(causes, n, settings, stream, position);
-        put_sampled(out, 40 * i, sampled);
+        put_sampled(out, SAMPLED_WIDTH * i, sampled);
         i += 1;
     }
     count as u64

@@ -2,6 +2,7 @@
 ghost use Prim.Native.Nat.{_≤_};
 use crate::parts::within;
 use crate::tally::Tally;
+use hazards::answers::ANSWER_WIDTH;
 use hazards::fields::u8_at;
 
 // The refusals of a run: those of its answers, and 17 and 18, which are no answer to a command.
@@ -14,7 +15,7 @@ fn count_refusals(answers: &[u8], answered: usize, number: u8, tally: Tally) -> 
     }
     let mut i: usize = 0;
     while i < answered {
-        after = after.with_number(u8_at(answers, 32 * i));
+        after = after.with_number(u8_at(answers, ANSWER_WIDTH * i));
         i += 1;
     }
     after

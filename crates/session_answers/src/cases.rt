@@ -1,5 +1,5 @@
 // The tampered states and journals by number: first those that state validation refuses, then those that UNDO refuses by 13.
-use crate::changes::with_progress;
+use crate::changes::with_shared;
 use crate::invalid_states;
 use crate::other_journals;
 use crate::other_states;
@@ -21,9 +21,9 @@ pub fn number_of(case: u64) -> u8 {
 // An UNDO after the command that it would revert: together they would give the present state.
 fn with_appended_undo(base: Handed) -> Handed {
     let state = base.state;
-    let mut progress = state.progress;
-    progress.applied_length = 392;
-    let tampered = with_progress(state, progress);
+    let mut shared = state.shared;
+    shared.applied_length = 392;
+    let tampered = with_shared(state, shared);
     let applied = base.journal;
     let journal = other_journals::with_undo(applied);
     Handed {

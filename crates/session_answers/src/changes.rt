@@ -1,9 +1,9 @@
-// One field of a state changed: in the first clock, in its second channel, or in the progress.
+// One field of a state changed: in the first clock, in its second channel, or in the shared state.
 use clocks::channels::HazardChannelState;
 use clocks::clocks::SurvivalClock;
 use engine::state::EngineState;
-use engine::state::Progress;
 use engine::state::Request;
+use engine::state::SharedState;
 use hazards::rates::Intervals;
 
 pub fn infinite() -> f64 {
@@ -32,9 +32,9 @@ pub fn with_clock(state: EngineState, clock: SurvivalClock) -> EngineState {
     after
 }
 
-pub fn with_progress(state: EngineState, progress: Progress) -> EngineState {
+pub fn with_shared(state: EngineState, shared: SharedState) -> EngineState {
     let mut after = state;
-    after.progress = progress;
+    after.shared = shared;
     after
 }
 
@@ -50,8 +50,8 @@ pub fn with_intervals(channel: HazardChannelState, intervals: Intervals) -> Haza
     after
 }
 
-pub fn with_request(progress: Progress, request: Request) -> Progress {
-    let mut after = progress;
+pub fn with_request(shared: SharedState, request: Request) -> SharedState {
+    let mut after = shared;
     after.queue[0] = request;
     after
 }

@@ -4,17 +4,17 @@ use crate::changes::not_a_number;
 use crate::changes::with_channel;
 use crate::changes::with_clock;
 use crate::changes::with_presence;
-use crate::changes::with_progress;
+use crate::changes::with_shared;
 use crate::invalid_channels;
 use clocks::clocks::SurvivalClock;
 use engine::state::EngineState;
-use engine::state::Progress;
+use engine::state::SharedState;
 
 const CLOCK_CASES: u64 = 7;
 
 const PROGRESS_CASES: u64 = 8;
 
-// Those of a channel, a clock and the progress, and a queued request's clock that is not there.
+// Those of a channel, a clock and the shared state, and a queued request's clock that is not there.
 pub const CASES: u64 = 25;
 
 // Over 8 channels; a float that is not finite; a queued request that its clock does not name, or that has no winner.
@@ -34,23 +34,23 @@ fn tampered_clock(case: u64, clock: SurvivalClock) -> SurvivalClock {
 }
 
 // An index twice.
-fn with_request_twice(progress: Progress) -> Progress {
-    let mut after = progress;
-    let request = progress.queue[0];
+fn with_request_twice(shared: SharedState) -> SharedState {
+    let mut after = shared;
+    let request = shared.queue[0];
     after.queue[1] = request;
     after.queued = 2;
     after
 }
 
 // A queued request of another clock: an absent one, or none of the sixteen.
-fn with_owner(progress: Progress, clock: usize) -> Progress {
-    let mut request = progress.queue[0];
+fn with_owner(shared: SharedState, clock: usize) -> SharedState {
+    let mut request = shared.queue[0];
     request.clock = clock;
-    crate::changes::with_request(progress, request)
+    crate::changes::with_request(shared, request)
 }
 
-fn tampered_counts(case: u64, progress: Progress) -> Progress {
-    let mut after = progress;
+fn tampered_counts(case: u64, shared: SharedState) -> SharedState {
+    let mut after = shared;
     match case {
         0 => after.queued = 17,
         1 => after.request_count = 0,
@@ -61,12 +61,12 @@ fn tampered_counts(case: u64, progress: Progress) -> Progress {
     after
 }
 
-fn tampered_progress(case: u64, progress: Progress) -> Progress {
+fn tampered_shared(case: u64, shared: SharedState) -> SharedState {
     match case {
-        5 => with_request_twice(progress),
-        6 => with_owner(progress, 1),
-        7 => with_owner(progress, 16),
-        _ => tampered_counts(case, progress),
+        5 => with_request_twice(shared),
+        6 => with_owner(shared, 1),
+        7 => with_owner(shared, 16),
+        _ => tampered_counts(case, shared),
     }
 }
 
@@ -83,7 +83,7 @@ pub fn tampered(case: u64, state: EngineState) -> EngineState {
     }
     let last = rest - CLOCK_CASES;
     if last < PROGRESS_CASES {
-        return with_progress(state, tampered_progress(last, state.progress));
+        return with_shared(state, tampered_shared(last, state.shared));
     }
     with_presence(state, 0, false)
 }

@@ -2,11 +2,11 @@
 use crate::changes::with_channel;
 use crate::changes::with_clock;
 use crate::changes::with_presence;
-use crate::changes::with_progress;
+use crate::changes::with_shared;
 use clocks::channels::HazardChannelState;
 use clocks::clocks::SurvivalClock;
 use engine::state::EngineState;
-use engine::state::Progress;
+use engine::state::SharedState;
 
 const CHANNEL_CASES: u64 = 4;
 
@@ -14,7 +14,7 @@ const CLOCK_CASES: u64 = 7;
 
 const PROGRESS_CASES: u64 = 7;
 
-// Those of a channel, a clock and the progress, and a clock too many.
+// Those of a channel, a clock and the shared state, and a clock too many.
 pub const CASES: u64 = 19;
 
 fn other_channel(case: u64, channel: HazardChannelState) -> HazardChannelState {
@@ -44,18 +44,18 @@ fn other_clock(case: u64, clock: SurvivalClock) -> SurvivalClock {
 }
 
 // The queued request has ticks 10 and priority 0.
-fn other_request(case: u64, progress: Progress) -> Progress {
-    let mut request = progress.queue[0];
+fn other_request(case: u64, shared: SharedState) -> SharedState {
+    let mut request = shared.queue[0];
     match case {
         0 => request.ticks.low = 41,
         _ => request.priority = 1,
     }
-    crate::changes::with_request(progress, request)
+    crate::changes::with_request(shared, request)
 }
 
 // One threshold more is drawn, one request more is made, none is queued; the applied commands are a byte shorter or longer.
-fn other_counts(case: u64, progress: Progress) -> Progress {
-    let mut after = progress;
+fn other_counts(case: u64, shared: SharedState) -> SharedState {
+    let mut after = shared;
     match case {
         2 => after.position = 3,
         3 => after.request_count = 2,
@@ -66,11 +66,11 @@ fn other_counts(case: u64, progress: Progress) -> Progress {
     after
 }
 
-fn other_progress(case: u64, progress: Progress) -> Progress {
+fn other_shared(case: u64, shared: SharedState) -> SharedState {
     if case < 2 {
-        return other_request(case, progress);
+        return other_request(case, shared);
     }
-    other_counts(case, progress)
+    other_counts(case, shared)
 }
 
 pub fn tampered(case: u64, state: EngineState) -> EngineState {
@@ -86,7 +86,7 @@ pub fn tampered(case: u64, state: EngineState) -> EngineState {
     }
     let last = rest - CLOCK_CASES;
     if last < PROGRESS_CASES {
-        return with_progress(state, other_progress(last, state.progress));
+        return with_shared(state, other_shared(last, state.shared));
     }
     with_presence(state, 5, true)
 }

@@ -2,16 +2,17 @@
 ghost use Prim.Native.Nat.{_≤_};
 use crate::parts::within;
 use crate::tally::Tally;
+use hazards::answers::ANSWER_WIDTH;
 use hazards::answers::Answer;
 
 // The answer to command i, as the run's answers have it.
 fn answer_agrees(answer: Answer, answers: &[u8], i: usize) -> bool
     requires { ⌜ i ≤ 128 ⌝ }
 {
-    let mut out = [0u8; 32];
+    let mut out = [0u8; ANSWER_WIDTH];
     hazards::answers::put_answer(&mut out, 0, answer);
-    let start = 32 * i;
-    let end = start + 32;
+    let start = ANSWER_WIDTH * i;
+    let end = start + ANSWER_WIDTH;
     if end > answers.len() {
         return false;
     }

@@ -3,6 +3,7 @@
 use crate::cases;
 use crate::cases::Handed;
 use crate::tally::one_more;
+use hazards::answers::ANSWER_WIDTH;
 
 // How many were refused by 1 and by 13, and how many were not.
 pub struct Verdicts {
@@ -34,9 +35,9 @@ fn is_refused<'a>(handed: Handed, stream: &'a [u8], input: &'a [u8], number: u8)
     let mut own = journal;
     let executed = engine::execute::execute(state, stream, &mut own, input);
     let after = executed.state;
-    let mut given = [0u8; 32];
+    let mut given = [0u8; ANSWER_WIDTH];
     hazards::answers::put_answer(&mut given, 0, executed.answer);
-    let mut expected = [0u8; 32];
+    let mut expected = [0u8; ANSWER_WIDTH];
     expected[0] = number;
     let answer = check::same(&given, &expected);
     let bytes = check::same(&own, &journal);

@@ -1,4 +1,5 @@
-// A session of one press: two causes of breakdown, a pause and what it does to the breakdown that is due. Times are in hours, ticks in tenths.
+// A session of one press: two causes of breakdown, a pause and what it does to the breakdown that is due. Times are in hours, ticks in
+// tenths.
 // The thresholds are those of rows 9 and 10 of document 01, 2.0 and 1.0.
 use clocks::clocks::EntityId;
 use clocks::clocks::HazardInterruptionPolicy;

@@ -2,6 +2,7 @@
 
 use crate::fields::{Reader, Writer};
 use crate::refusal::Refusal;
+use std::fmt;
 
 /// Bytes of one answer.
 pub const ANSWER_BYTES: usize = olgaemuri_sys::ANSWER_BYTES;
@@ -70,6 +71,26 @@ impl Answer {
             delta: fields.f64(),
             ticks: u128::from(fields.u64()) | u128::from(fields.u64()) << 64,
         })
+    }
+}
+
+/// `accepted`, with what was withdrawn and what was scheduled or delivered; or the refusal.
+impl fmt::Display for Answer {
+    fn fmt(&self, f: &mut fmt::Formatter) -> fmt::Result {
+        if let Some(refusal) = self.refusal {
+            return refusal.fmt(f);
+        }
+        f.write_str(if self.withdrawn {
+            "accepted, withdrawn"
+        } else {
+            "accepted"
+        })?;
+        match (self.event, self.censored) {
+            (false, _) => return Ok(()),
+            (true, true) => write!(f, ", censored")?,
+            (true, false) => write!(f, ", cause {}", self.cause)?,
+        }
+        write!(f, " after {} at tick {}", self.delta, self.ticks)
     }
 }
 

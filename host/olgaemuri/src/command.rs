@@ -99,30 +99,25 @@ impl Command {
     /// The command's name in document 01.
     #[must_use]
     pub fn name(&self) -> &'static str {
-        match self {
-            Self::Create { .. } => "CREATE",
-            Self::Set { .. } => "SET",
-            Self::Remove { .. } => "REMOVE",
-            Self::Reschedule { .. } => "RESCHEDULE",
-            Self::Pause { .. } => "PAUSE",
-            Self::Resume { .. } => "RESUME",
-            Self::Deliver => "DELIVER",
-            Self::Undo => "UNDO",
-        }
+        self.names().0
     }
 
     /// The word that begins its line in a session in text.
     #[must_use]
     pub fn word(&self) -> &'static str {
+        self.names().1
+    }
+
+    fn names(&self) -> (&'static str, &'static str) {
         match self {
-            Self::Create { .. } => "create",
-            Self::Set { .. } => "set",
-            Self::Remove { .. } => "remove",
-            Self::Reschedule { .. } => "reschedule",
-            Self::Pause { .. } => "pause",
-            Self::Resume { .. } => "resume",
-            Self::Deliver => "deliver",
-            Self::Undo => "undo",
+            Self::Create { .. } => ("CREATE", "create"),
+            Self::Set { .. } => ("SET", "set"),
+            Self::Remove { .. } => ("REMOVE", "remove"),
+            Self::Reschedule { .. } => ("RESCHEDULE", "reschedule"),
+            Self::Pause { .. } => ("PAUSE", "pause"),
+            Self::Resume { .. } => ("RESUME", "resume"),
+            Self::Deliver => ("DELIVER", "deliver"),
+            Self::Undo => ("UNDO", "undo"),
         }
     }
 

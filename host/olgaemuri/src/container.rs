@@ -66,7 +66,7 @@ impl Session {
         let thresholds = thresholds_to_bytes(self.thresholds());
         let journal = self.chosen_journal_length();
         let lengths = [
-            journal.map_or(NO_JOURNAL, |length| length as u64),
+            journal.unwrap_or(NO_JOURNAL),
             self.commands().len() as u64,
             thresholds.len() as u64,
         ];
@@ -100,12 +100,8 @@ impl Session {
         }
         let (commands, thresholds) = body.split_at(commands as usize);
         let thresholds = thresholds_from_bytes(thresholds).ok_or(BytesError::Thresholds)?;
-        let mut session = Self::new(thresholds);
-        session.push_raw(commands);
-        Ok(match journal {
-            NO_JOURNAL => session,
-            length => session.with_journal_length(length as usize),
-        })
+        let journal = Some(journal).filter(|journal| *journal != NO_JOURNAL);
+        Ok(Self::of(thresholds, commands.to_vec(), journal))
     }
 }
 
@@ -146,6 +142,17 @@ mod tests {
         expected.extend([0, 0, 0, 0, 0, 0, 0xf8, 0x7f]);
         assert_eq!(sample(), expected);
         assert_eq!(session(&[], &[]).to_bytes()[8..16], [255; 8]);
+    }
+
+    /// A journal that is longer than can be said is written as room for all.
+    #[test]
+    fn long_journals_can_be_written() {
+        for length in [1 << 30, (1 << 30) + 1, usize::MAX] {
+            let session = session(&[7, 8], &[1.0]).with_journal_length(length);
+            let back = Session::from_bytes(&session.to_bytes()).unwrap();
+            let read: Session = session.to_string().parse().unwrap();
+            assert_eq!((back.run(), read.run()), (session.run(), session.run()));
+        }
     }
 
     #[test]

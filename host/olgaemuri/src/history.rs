@@ -56,19 +56,19 @@ impl Groups {
         group.map_or(place, |group| group.start)
     }
 
-    /// Those at the front that belong to one step.
-    fn first_step<'a>(&self, steps: impl Iterator<Item = &'a Step>) -> Vec<&'a Command> {
-        let mut steps = steps.peekable();
-        let first = steps.peek().map(|step| self.step_of(step.begins));
-        let same = steps.take_while(|step| Some(self.step_of(step.begins)) == first);
-        same.filter_map(|step| step.input.command()).collect()
+    /// The commands at the front whose places belong to one step.
+    fn first_step<'a>(&self, placed: impl Iterator<Item = (&'a Step, usize)>) -> Vec<&'a Command> {
+        let mut placed = placed.peekable();
+        let first = placed.peek().map(|(_, place)| self.step_of(*place));
+        let same = placed.take_while(|(_, place)| Some(self.step_of(*place)) == first);
+        same.filter_map(|(step, _)| step.input.command()).collect()
     }
 }
 
 /// # Undo and redo
 ///
 /// `undo` and `redo` add commands to the list, so that what is undone is what the engine says: UNDO once for each command of the
-/// step, or the commands that were undone once more. What they need to know of the commands so far they find by
+/// step, or the commands that were undone once more, as a group. What they need to know of the commands so far they find by
 /// [`Session::run`].
 impl Session {
     /// Begins a group: what is added up to [`Session::end_group`] is undone and redone as one step. A group in a group is part of it.
@@ -120,7 +120,7 @@ impl Session {
     pub fn undo(&mut self) -> bool {
         self.end_groups();
         let count = self.next_undo().len();
-        self.extend((0..count).map(|_| Command::Undo));
+        self.push_group((0..count).map(|_| Command::Undo));
         count > 0
     }
 
@@ -130,10 +130,14 @@ impl Session {
         self.end_groups();
         let step: Vec<Command> = self.next_redo().into_iter().cloned().collect();
         let count = step.len();
-        self.begin_group();
-        self.extend(step);
-        self.end_group();
+        self.push_group(step);
         count > 0
+    }
+
+    fn push_group(&mut self, commands: impl IntoIterator<Item = Command>) {
+        self.begin_group();
+        self.extend(commands);
+        self.end_group();
     }
 
     fn end_groups(&mut self) {

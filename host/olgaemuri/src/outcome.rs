@@ -50,8 +50,8 @@ pub struct Outcome {
     pub clocks: Vec<Clock>,
     /// The places of the applied commands among the steps.
     applied: Vec<usize>,
-    /// Those of the undone commands that can be given again, the next one last.
-    undone: Vec<usize>,
+    /// The undone commands that can be given again, the next one last: their places and those of their UNDOs.
+    undone: Vec<(usize, usize)>,
 }
 
 impl Outcome {
@@ -96,14 +96,16 @@ impl Outcome {
         self.clocks.iter().find(|clock| clock.number == number)
     }
 
-    /// The applied steps, the last one first.
-    pub(crate) fn applied_last_first(&self) -> impl Iterator<Item = &Step> {
-        self.applied.iter().rev().map(|place| &self.steps[*place])
+    /// The applied commands, the last one first, and where each begins in the list.
+    pub(crate) fn applied_last_first(&self) -> impl Iterator<Item = (&Step, usize)> {
+        let steps = self.applied.iter().rev().map(|place| &self.steps[*place]);
+        steps.map(|step| (step, step.begins))
     }
 
-    /// The undone steps that can be given again, the next one first.
-    pub(crate) fn undone_next_first(&self) -> impl Iterator<Item = &Step> {
-        self.undone.iter().rev().map(|place| &self.steps[*place])
+    /// The undone commands that can be given again, the next one first, and where the UNDO of each begins in the list.
+    pub(crate) fn undone_next_first(&self) -> impl Iterator<Item = (&Step, usize)> {
+        let undone = self.undone.iter().rev();
+        undone.map(|(place, undo)| (&self.steps[*place], self.steps[*undo].begins))
     }
 
     /// Runs the list from opening.
@@ -120,7 +122,10 @@ impl Outcome {
         for (place, _) in walk.changes {
             outcome.steps[place].applied = true;
         }
-        debug_assert!(outcome.is_of_journal(&ran.journal));
+        debug_assert!(
+            ran.journal
+                .is_none_or(|journal| outcome.is_of_journal(&journal))
+        );
         outcome.clocks = clocks(&outcome);
         outcome
     }
@@ -173,14 +178,14 @@ impl Walk {
         let change = self.changes.pop();
         let (place, before) = change.expect("UNDO is accepted only after a command");
         self.ledger.revert(before);
-        self.outcome.undone.push(place);
+        self.outcome.undone.push((place, self.outcome.steps.len()));
     }
 
     /// The undone command that comes next is done again by an equal one; by another all that were undone are gone.
     fn give_again(&mut self, input: &Input) {
         let next = self.outcome.undone.pop();
         let same = |place: usize| self.outcome.steps[place].input.to_bytes() == input.to_bytes();
-        if next.is_some_and(|place| !same(place)) {
+        if next.is_some_and(|(place, _)| !same(place)) {
             self.outcome.undone.clear();
         }
     }

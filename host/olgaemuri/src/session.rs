@@ -5,6 +5,7 @@ use crate::draws::draws;
 use crate::history::Groups;
 use crate::input::Input;
 use crate::outcome::Outcome;
+use crate::text::MAX_JOURNAL;
 use crate::thresholds::thresholds_to_bytes;
 use std::sync::OnceLock;
 
@@ -76,6 +77,16 @@ impl Session {
     pub fn new(thresholds: impl Into<Vec<f64>>) -> Self {
         Self {
             thresholds: thresholds.into(),
+            ..Self::default()
+        }
+    }
+
+    /// A session with this list.
+    pub(crate) fn of(thresholds: Vec<f64>, commands: Vec<u8>, journal: Option<u64>) -> Self {
+        Self {
+            thresholds,
+            commands,
+            journal_length: journal.map(|length| usize::try_from(length).unwrap_or(usize::MAX)),
             ..Self::default()
         }
     }
@@ -157,9 +168,10 @@ impl Session {
         Input::split(&self.commands)
     }
 
-    /// The journal's length that was chosen, if any.
-    pub(crate) fn chosen_journal_length(&self) -> Option<usize> {
-        self.journal_length
+    /// The journal's length that was chosen, if any, for text and bytes. One longer than these may say is room for all.
+    pub(crate) fn chosen_journal_length(&self) -> Option<u64> {
+        let length = self.journal_length.map(|length| length as u64);
+        length.filter(|length| *length <= MAX_JOURNAL)
     }
 
     /// The journal's length: the one chosen, or as many bytes as the list has.

@@ -56,3 +56,20 @@ fn bytes_that_are_no_answer() {
         assert_eq!(Answer::from_bytes(&bytes), None);
     }
 }
+
+#[test]
+fn answers_in_words() {
+    let mut session = common::row_9();
+    session.extend([common::reschedule(1.0), olgaemuri::Command::Undo]);
+    session.push(common::create(olgaemuri::Policy::Restart));
+    let words: Vec<String> = session.run().answers().map(ToString::to_string).collect();
+    let expected = [
+        "accepted",
+        "accepted",
+        "accepted, cause 1 after 4 at tick 40",
+        "accepted, withdrawn, cause 1 after 4 at tick 50",
+        "accepted",
+        "refused by 8: the clock is there already",
+    ];
+    assert_eq!(words, expected);
+}

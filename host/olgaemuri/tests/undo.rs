@@ -143,6 +143,21 @@ fn a_group_is_one_step() {
 }
 
 #[test]
+fn what_was_undone_apart_is_redone_apart() {
+    let mut session = row_9();
+    session.begin_group();
+    session.extend([PAUSE, RESUME]);
+    session.end_group();
+    // the engine's UNDO knows no groups
+    session.push(Command::Undo);
+    assert_eq!(session.next_undo(), [&PAUSE]);
+    session.undo();
+    assert_eq!(session.next_redo(), [&PAUSE]);
+    session.redo();
+    assert_eq!(session.next_redo(), [&RESUME]);
+}
+
+#[test]
 fn undo_ends_a_group_that_is_open() {
     let mut session = row_9();
     session.begin_group();

@@ -1,6 +1,7 @@
-//! `states [SEED [COUNT]]`: the fixed sessions and COUNT random ones, command by command through the proved engine and through the unchanged
-//! Rust behind document 01's rules. After each command the answer, the journal, the applied commands and every field of the state are
-//! compared; beside each, the same is done from a state or a journal that was tampered with. Ends with 1 at the first difference.
+//! `states [SEED [COUNT]]`: the fixed sessions and COUNT random ones, command by command through the proved engine and through the
+//! unchanged Rust behind document 01's rules. After each command the answer, the journal, the applied commands and every field of
+//! the state are compared; beside each, the same is done from a state or a journal that was tampered with. Ends with 1 at the first
+//! difference.
 
 #![deny(unsafe_code)]
 

@@ -1,14 +1,16 @@
--- `replay` is safe and ends: a case is 1664 bytes, and there are at most a million.
+-- `replay` is safe and ends: a case has its width, and there are at most a million.
 use Prim.Native.Nat.{_≤_, _+_}
 use mathlib.Core.Path.{_≡_}
 use lib.ListN.{length}
 use borrow.Author.Needs.{needs}
 use native.Mathlib.Omega.{arith}
+use Rattle.hazards.specs.Answers.{answerWidth}
 use Rattle.clock_answers.proofs.replay.Statement.{statement}
 use Rattle.clock_answers.proofs.replay.Tie as tie
 
 abbrev Inv-loop : tie.InvT-loop
-Inv-loop fd stream case₀ played₀ cases₀ differing₀ left₀ case played cases differing left = (length case ≡ 1664) × (cases + left ≤ 1000000) × (differing ≤ cases)
+Inv-loop fd stream case₀ played₀ cases₀ differing₀ left₀ case played cases differing left =
+    (length case ≡ 172 + answerWidth + 8 + 1452) × (cases + left ≤ 1000000) × (differing ≤ cases)
 
 abbrev μ-loop : tie.MeasureT-loop
 μ-loop fd stream case₀ played₀ cases₀ differing₀ left₀ case played cases differing left = left

@@ -1,14 +1,16 @@
--- `replay_samples` is safe and ends: a case is 1332 bytes, and there are at most a million.
+-- `replay_samples` is safe and ends: a case has its width, and there are at most a million.
 use Prim.Native.Nat.{_≤_, _+_}
 use mathlib.Core.Path.{_≡_}
 use lib.ListN.{length}
 use borrow.Author.Needs.{needs}
 use native.Mathlib.Omega.{arith}
+use Rattle.hazards.specs.Answers.{answerWidth}
 use Rattle.hazard_answers.proofs.replay_samples.Statement.{statement}
 use Rattle.hazard_answers.proofs.replay_samples.Tie as tie
 
 abbrev Inv-loop : tie.InvT-loop
-Inv-loop fd case₀ cases₀ differing₀ left₀ case cases differing left = (length case ≡ 1332) × (cases + left ≤ 1000000) × (differing ≤ cases)
+Inv-loop fd case₀ cases₀ differing₀ left₀ case cases differing left =
+    (length case ≡ 1292 + (answerWidth + 8)) × (cases + left ≤ 1000000) × (differing ≤ cases)
 
 abbrev μ-loop : tie.MeasureT-loop
 μ-loop fd case₀ cases₀ differing₀ left₀ case cases differing left = left

@@ -1,15 +1,16 @@
 -- `probe_sample` is safe and ends: each turn writes one record within the buffer.
-use Prim.Native.Nat.{_≤_, _<_, _-_, _*_, _^_}
+use Prim.Native.Nat.{_≤_, _<_, _+_, _-_, _*_, _^_}
 use mathlib.Core.Path.{_≡_}
 use lib.ListN.{length}
 use borrow.Author.Needs.{needs}
 use native.Mathlib.Omega.{arith}
+use Rattle.hazards.specs.Answers.{answerWidth}
 use Rattle.probe.proofs.probe_sample.Statement.{statement}
 use Rattle.probe.proofs.probe_sample.Tie as tie
 
 abbrev Inv-loop : tie.InvT-loop
 Inv-loop request stream positions out₀ n settings causes count i₀ out i =
-    (i ≤ count) × (length out ≡ length out₀) × (40 * count < 2 ^ 63) × (8 * count < 2 ^ 63)
+    (i ≤ count) × (length out ≡ length out₀) × ((answerWidth + 8) * count < 2 ^ 63) × (8 * count < 2 ^ 63)
 
 abbrev μ-loop : tie.MeasureT-loop
 μ-loop request stream positions out₀ n settings causes count i₀ out i = count - i

@@ -82,7 +82,8 @@ impl Fault {
         if near.next().is_some() {
             back.push('…');
         }
-        (visible(&front) + &" ".repeat(missing), visible(&back))
+        front.push_str(&" ".repeat(missing));
+        (visible(&front).into_owned(), visible(&back).into_owned())
     }
 }
 

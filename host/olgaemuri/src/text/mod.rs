@@ -1,6 +1,6 @@
 //! Sessions in the text format of docs/SESSION-FORMAT.md, read and written.
 //!
-//! A [`SessionText`](crate::SessionText) keeps a text whole, with its comments and names; a [`Reader`] reads one line after
+//! A [`SessionText`] keeps a text whole, with its comments and names; a [`Reader`] reads one line after
 //! another, for programs in which a session is typed.
 
 mod commands;

@@ -130,14 +130,7 @@ impl SessionText {
     /// The session that the engine is given.
     #[must_use]
     pub fn session(&self) -> Session {
-        let mut session = Session::new(self.thresholds());
-        session.push_raw(&self.commands());
-        match self.journal() {
-            Some(length) => {
-                session.with_journal_length(usize::try_from(length).unwrap_or(usize::MAX))
-            }
-            None => session,
-        }
+        Session::of(self.thresholds(), self.commands(), self.journal())
     }
 
     /// The same session without reference to files of thresholds: their values stand in it.
@@ -173,8 +166,7 @@ impl FromStr for SessionText {
 /// Without comments and names.
 impl From<&Session> for SessionText {
     fn from(session: &Session) -> Self {
-        let journal = session.chosen_journal_length();
-        let journal = journal.map(|length| Item::Journal(length as u64));
+        let journal = session.chosen_journal_length().map(Item::Journal);
         let thresholds = session.thresholds();
         let thresholds = (!thresholds.is_empty()).then(|| Item::Thresholds(thresholds.to_vec()));
         let inputs = session.inputs().into_iter().map(Item::from);

@@ -1,9 +1,14 @@
 //! Text as a terminal shows it: without control characters, with the columns that it takes, cut where it is long.
 
+use std::borrow::Cow;
+
 /// The text without characters that a terminal obeys: control characters, and those that turn the direction of writing. The end of a
 /// line stays and a tab is a space.
 #[must_use]
-pub fn visible(text: &str) -> String {
+pub fn visible(text: &str) -> Cow<'_, str> {
+    if !text.contains(|c| c == '\t' || (c != '\n' && is_obeyed(c))) {
+        return text.into();
+    }
     let shown = |c: char| match c {
         '\n' => c,
         '\t' => ' ',
@@ -15,6 +20,9 @@ pub fn visible(text: &str) -> String {
 
 /// Whether a terminal does something else than to show it.
 fn is_obeyed(c: char) -> bool {
+    if c.is_ascii() {
+        return c.is_ascii_control();
+    }
     let turns = ['\u{61c}', '\u{200e}', '\u{200f}', '\u{2028}', '\u{2029}'];
     let ranges = ['\u{202a}'..='\u{202e}', '\u{2066}'..='\u{2069}'];
     c.is_control() || turns.contains(&c) || ranges.iter().any(|range| range.contains(&c))
@@ -24,6 +32,9 @@ fn is_obeyed(c: char) -> bool {
 /// for a mark that is set on another letter.
 #[must_use]
 pub fn columns(text: &str) -> usize {
+    if text.is_ascii() {
+        return text.len();
+    }
     text.chars().map(column_count).sum()
 }
 

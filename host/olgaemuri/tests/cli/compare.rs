@@ -80,3 +80,19 @@ fn a_bad_file_is_no_difference() {
     assert_eq!(olgaemuri(&["compare", AFTER], b"").status, 2);
     assert_eq!(olgaemuri(&["compare", "-", "-"], b"").status, 2);
 }
+
+#[test]
+fn both_sides_stand_below_each_other_where_there_is_little_room() {
+    let ran = olgaemuri(&["compare", BEFORE, KEPT, "--width", "80"], b"");
+    assert_eq!(ran.status, 1);
+    for expected in [
+        "no     machine        cause             at  tick  state\n",
+        "\n 1  =  punch 2        clutch       15.8333   950  delivered\n",
+        "\n 3  <  punch 1        tool break        69  4140  delivered\n 3  >  press brake 2  ram seal",
+    ] {
+        assert!(ran.text().contains(expected), "{expected}\n{}", ran.text());
+    }
+    assert!(ran.text().lines().all(|line| line.chars().count() <= 80));
+    let wide = olgaemuri(&["compare", BEFORE, KEPT, "--width", "200"], b"");
+    assert_eq!(wide.out, olgaemuri(&["compare", BEFORE, KEPT], b"").out);
+}

@@ -28,8 +28,9 @@ fn a_long_journal_takes_no_memory() {
 
 #[test]
 fn a_long_word_is_told_of_shortly() {
-    let word = "x".repeat(10_000_000);
+    let word = "x".repeat(1_000_000);
     for line in [
+        "x".repeat(10_000_000),
         word.clone(),
         format!("pause machine=0 {word}=1"),
         format!("pause machine=0 now={word}"),
@@ -97,15 +98,15 @@ fn long_session(commands: usize) -> String {
 
 #[test]
 fn long_sessions_need_little_memory() {
-    let session = long_session(200_000);
+    let session = long_session(80_000);
     for words in [
         &["run", "-"][..],
         &["run", "-", "--csv"],
         &["run", "-", "--json"],
         &["convert", "-", "--to", "text"],
     ] {
-        let ran = with_memory(150, words, session.as_bytes());
+        let ran = with_memory(60, words, session.as_bytes());
         assert_eq!((ran.status, ran.err.as_str()), (0, ""), "{words:?}");
-        assert!(ran.out.len() > 5_000_000);
+        assert!(ran.out.len() > 1_000_000);
     }
 }

@@ -12,5 +12,6 @@ mod pictures;
 mod program;
 mod shown;
 mod streams;
+mod undo_and_redo;
 mod usage;
 mod xml;

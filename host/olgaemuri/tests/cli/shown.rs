@@ -170,40 +170,42 @@ fn help_fits_80_columns() {
     }
 }
 
+/// Lines that are refused by 5, and what is said of them.
+const OUT_OF_RANGE: [(&str, &str); 8] = [
+    (
+        "create machine=1 policy=retain scale=inf",
+        "scale=inf: a scale is finite and at most 2^40 in size",
+    ),
+    ("pause machine=0 now=-1", "now=-1: a time is from 0 to 2^40"),
+    (
+        "pause machine=0 now=-0",
+        "now=-0: a time is from 0 to 2^40, and -0 is below 0",
+    ),
+    (
+        "reschedule machine=0 now=0 censor=2e12",
+        "censor=2000000000000: a time is from 0 to 2^40",
+    ),
+    (
+        "resume machine=0 now=0x7ff8000000000000 censor=-1",
+        "now=0x7ff8000000000000, censor=-1: a time is from 0 to 2^40",
+    ),
+    (
+        "set machine=0 cause=2 now=0 hazard=constant rate=-inf",
+        "rate=-inf: a rate is finite and at most 2^40 in size",
+    ),
+    (
+        "set machine=0 cause=2 now=0 hazard=gompertz eta=1e13",
+        "eta=10000000000000: a rate is finite and at most 2^40 in size",
+    ),
+    (
+        "set machine=0 cause=2 now=-3 hazard=piecewise pieces=1:1,2:inf then=inf",
+        "now=-3: a time is from 0 to 2^40; rate inf up to 2, then=inf: a rate is finite and at most 2^40 in size",
+    ),
+];
+
 #[test]
 fn refusal_5_names_the_operand() {
-    let cases = [
-        (
-            "create machine=1 policy=retain scale=inf",
-            "scale=inf: a scale is finite and at most 2^40 in size",
-        ),
-        ("pause machine=0 now=-1", "now=-1: a time is from 0 to 2^40"),
-        (
-            "pause machine=0 now=-0",
-            "now=-0: a time is from 0 to 2^40, and -0 is below 0",
-        ),
-        (
-            "reschedule machine=0 now=0 censor=2e12",
-            "censor=2000000000000: a time is from 0 to 2^40",
-        ),
-        (
-            "resume machine=0 now=0x7ff8000000000000 censor=-1",
-            "now=0x7ff8000000000000, censor=-1: a time is from 0 to 2^40",
-        ),
-        (
-            "set machine=0 cause=2 now=0 hazard=constant rate=-inf",
-            "rate=-inf: a rate is finite and at most 2^40 in size",
-        ),
-        (
-            "set machine=0 cause=2 now=0 hazard=gompertz eta=1e13",
-            "eta=10000000000000: a rate is finite and at most 2^40 in size",
-        ),
-        (
-            "set machine=0 cause=2 now=-3 hazard=piecewise pieces=1:1,2:inf then=inf",
-            "now=-3: a time is from 0 to 2^40; rate inf up to 2, then=inf: a rate is finite and at most 2^40 in size",
-        ),
-    ];
-    for (line, expected) in cases {
+    for (line, expected) in OUT_OF_RANGE {
         let out = run(&["--csv"], &format!("{ONE}{line}\n"));
         let last = out.lines().last().unwrap();
         assert!(

@@ -1,6 +1,6 @@
 -- `commands::create_faults` meets its contract.
 use borrow.Author.Needs.{needs}
-use Rattle.engine.specs.Execution.{createFaults}
+use Rattle.engine.specs.Commands.{createFaults}
 use Rattle.engine.proofs.commands.create_faults.Statement.{statement}
 use Rattle.engine.proofs.commands.create_faults.Tie as tie
 

@@ -3,7 +3,7 @@ use mathlib.Core.Path.{_∙_, ap}
 use borrow.Author.Needs.{needs}
 use Rattle.hazards.specs.Floats.{isTime}
 use Rattle.hazards.specs.Refusals.{rangeFaultUnless}
-use Rattle.engine.specs.Execution.{pauseFaults}
+use Rattle.engine.specs.Commands.{pauseFaults}
 use Rattle.engine.proofs.CommandLaws.{joined-both}
 use Rattle.engine.proofs.commands.pause_faults.Statement.{statement}
 use Rattle.engine.proofs.commands.pause_faults.Tie as tie

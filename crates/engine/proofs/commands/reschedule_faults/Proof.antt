@@ -1,6 +1,6 @@
 -- `commands::reschedule_faults` meets its contract.
 use borrow.Author.Needs.{needs}
-use Rattle.engine.specs.Execution.{rescheduleFaults}
+use Rattle.engine.specs.Commands.{rescheduleFaults}
 use Rattle.engine.proofs.commands.reschedule_faults.Statement.{statement}
 use Rattle.engine.proofs.commands.reschedule_faults.Tie as tie
 

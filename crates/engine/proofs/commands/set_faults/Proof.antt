@@ -4,7 +4,7 @@ use borrow.Author.Needs.{needs}
 use Rattle.hazards.specs.Checks.{hazardFaults}
 use Rattle.hazards.specs.Floats.{isTime}
 use Rattle.hazards.specs.Refusals.{rangeFaultUnless}
-use Rattle.engine.specs.Execution.{setFaults}
+use Rattle.engine.specs.Commands.{setFaults}
 use Rattle.engine.proofs.CommandLaws.{joined-both}
 use Rattle.engine.proofs.commands.set_faults.Statement.{statement}
 use Rattle.engine.proofs.commands.set_faults.Tie as tie

@@ -7,12 +7,12 @@ use Rattle.engine.proofs.comparison.same_state.Tie as tie
 every-slot-requires : tie.Need-every-slot-requires
 every-slot-requires c κs = search needs
 
-same-progress-requires : tie.Need-same-progress-requires
-same-progress-requires c κs = search needs
+same-shared-requires : tie.Need-same-shared-requires
+same-shared-requires c κs = search needs
 
 returns : tie.Need-returns
 unfolding sameState
-returns c = rw (c .before .every-slot .ensures, c .same-progress .ensures)
+returns c = rw (c .before .every-slot .ensures, c .same-shared .ensures)
 
 pub same-state-spec : {M : Type 1} → statement M
-same-state-spec = tie.close (tie.spec every-slot-requires same-progress-requires returns)
+same-state-spec = tie.close (tie.spec every-slot-requires same-shared-requires returns)

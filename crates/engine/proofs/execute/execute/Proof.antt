@@ -9,10 +9,11 @@ use lib.ListN.{length}
 use lib.Seq.{length-take-le}
 use Rattle.hazards.specs.Answers.{noEvent}
 use Rattle.engine.specs.Commands.{widthOf}
-use Rattle.engine.specs.Journal.{Engine, code, reject, classify, execute}
+use Rattle.engine.specs.Engine.{Engine, code, reject, classify}
+use Rattle.engine.specs.Execute.{execute}
 use Rattle.engine.specs.Validation.{validState}
 use Rattle.engine.specs.Instance.{engineOf}
-use Rattle.engine.specs.Answers.{after, left}
+use Rattle.engine.specs.Answers.{after, returned}
 use Rattle.engine.specs.declared.execute.Executed.{Executed}
 use Rattle.engine.proofs.Asking.{asks-invalid, asks-nothing, asks-no-command, asks-part, asks-undo, asks-command}
 use Rattle.engine.proofs.Asking.{execute-rejects, execute-undo}
@@ -25,7 +26,7 @@ engine m = engineOf (m .args .stream .now) (length (m .args .journal .now))
 
 refused : (m : tie.Start) (r : Executed) {number : ℕ} → (r .answer ≡ noEvent number) × (r .state ≡ m .args .state)
     → classify (engine m) (m .args .state) (m .args .input .now) ≡ reject number
-    → left r (m .args .journal .now) ≡ after (m .args .stream .now) (length (m .args .journal .now))
+    → returned r (m .args .journal .now) ≡ after (m .args .stream .now) (length (m .args .journal .now))
     (execute (engine m) (m .args .state) (m .args .journal .now) (m .args .input .now))
 refused m r q k =
     left-refused (m .args .stream .now) (length (m .args .journal .now)) r (m .args .state) (m .args .journal .now) q
@@ -134,14 +135,14 @@ returns-5 c =
     c .before .before .undo .ensures
     ∙ sym (ap (after (a .stream .now) (length (a .journal .now))) (execute-undo (engine m) (a .state) (a .journal .now) (a .input .now) u))
 
-slice-aggregate-apply : tie.Need-slice-aggregate-apply
-slice-aggregate-apply c =
+slice-aggregate-perform-command : tie.Need-slice-aggregate-perform-command
+slice-aggregate-perform-command c =
     let e = c .before .before .before in
     let w = whole e .width .ensures in
     sym (length-take-le _ (read (whole e) .args .input .now) (omega (arith, e .if4 .left)))
 
-apply-requires : tie.Need-apply-requires
-apply-requires c κs = valid (known (whole (c .before .before .before)))
+perform-command-requires : tie.Need-perform-command-requires
+perform-command-requires c κs = valid (known (whole (c .before .before .before)))
 
 same-length-2 : tie.Need-same-length-2
 same-length-2 c = search needs
@@ -155,7 +156,7 @@ returns-6 c =
     let u =
     asks-command (engine m) (a .state) (a .input .now) (valid (known k)) (some-byte k) (wide (e .before)) (long e)
     (c .before .before .before .before .before .if5 .left) in
-    c .before .before .apply .ensures
+    c .before .before .perform-command .ensures
     ∙ sym
     (ap (after (a .stream .now) (length (a .journal .now)))
     (executes (engine m) (a .state) (a .journal .now) (a .input .now) _ (k .width .ensures) u))
@@ -178,7 +179,7 @@ execute-spec =
     undo-requires
     same-length
     returns-5
-    slice-aggregate-apply
-    apply-requires
+    slice-aggregate-perform-command
+    perform-command-requires
     same-length-2
     returns-6)

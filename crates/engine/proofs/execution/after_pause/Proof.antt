@@ -5,7 +5,7 @@ use native.Mathlib.Omega.{arith}
 use lib.ListN.{length}
 use borrow.Author.Tests.{not-true, not-false}
 use borrow.Author.Needs.{needs}
-use Rattle.engine.specs.declared.state.Progress.{Progress}
+use Rattle.engine.specs.declared.state.SharedState.{SharedState}
 use Rattle.engine.proofs.ExecutionCases.{pause-full, pause-done, pause-answer, withdraw-applied, applied-fits}
 use Rattle.engine.proofs.execution.after_pause.Statement.{statement}
 use Rattle.engine.proofs.execution.after_pause.Tie as tie
@@ -21,7 +21,7 @@ returns c =
     let k = c .before .before in
     let l = k .before .before in
     let a = l .args in
-    c .refuse .ensures ∙ pause-full (a .journal-length) (a .progress) (a .command .now) (a .r)
+    c .refuse .ensures ∙ pause-full (a .journal-length) (a .shared) (a .command .now) (a .r)
     (sym (k .has-room .ensures) ∙ not-true _ (c .before .if1 .taken))
 
 no-event-requires : tie.Need-no-event-requires
@@ -33,14 +33,14 @@ is-withdrawn-requires c κs = search needs
 withdraw-requires : tie.Need-withdraw-requires
 withdraw-requires c κs = search needs
 
-apply-requires : tie.Need-apply-requires
-apply-requires c κs =
+accepted-requires : tie.Need-accepted-requires
+accepted-requires c κs =
     let k = c .before .before .before .before in
     let l = k .before .before .before in
     let a = l .args in
     let h : a .journal-length < 2 ^ 64 = omega (arith, l .good .1 .1 .0 .1) in
     applied-fits (length (a .command .now)) (a .journal-length)
-    (ap (λ (p : Progress). p .«applied_length») (c .withdraw .ensures) ∙ withdraw-applied (a .progress) (a .r .withdrawn))
+    (ap (λ (p : SharedState). p .«applied_length») (c .withdraw .ensures) ∙ withdraw-applied (a .shared) (a .r .withdrawn))
     (sym (k .before .has-room .ensures) ∙ not-false _ (k .if1 .left)) h
 
 returns-2 : tie.Need-returns-2
@@ -49,8 +49,8 @@ returns-2 c =
     let l = k .before .before .before in
     let m = l .before .before .before in
     let a = m .args in
-    c .apply .ensures
-    ∙ pause-done (a .journal-length) (a .progress) (a .command .now) (a .r)
+    c .accepted .ensures
+    ∙ pause-done (a .journal-length) (a .shared) (a .command .now) (a .r)
     (sym (l .before .has-room .ensures) ∙ not-false _ (l .if1 .left)) (c .before .withdraw .ensures) (k .is-withdrawn .ensures)
     (pause-answer (k .is-withdrawn .result) (k .before .no-event .ensures))
 
@@ -64,5 +64,5 @@ after-pause-spec =
     no-event-requires
     is-withdrawn-requires
     withdraw-requires
-    apply-requires
+    accepted-requires
     returns-2)

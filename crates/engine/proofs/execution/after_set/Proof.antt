@@ -15,7 +15,7 @@ refuse-requires c κs = search needs
 returns : tie.Need-returns
 returns c =
     let a = c .before .before .before .before .args in
-    c .refuse .ensures ∙ set-ninth (a .journal-length) (a .progress) (a .command .now) (a .set) (c .before .if1 .taken)
+    c .refuse .ensures ∙ set-ninth (a .journal-length) (a .shared) (a .command .now) (a .set) (c .before .if1 .taken)
 
 has-room-requires : tie.Need-has-room-requires
 has-room-requires c κs = search needs
@@ -28,7 +28,7 @@ returns-2 c =
     let k = c .before .before in
     let l = k .before .before .before .before in
     let a = l .args in
-    c .refuse2 .ensures ∙ set-full (a .journal-length) (a .progress) (a .command .now) (a .set) (k .before .if1 .left)
+    c .refuse2 .ensures ∙ set-full (a .journal-length) (a .shared) (a .command .now) (a .set) (k .before .if1 .left)
     (sym (k .has-room .ensures) ∙ not-true _ (c .before .if2 .taken))
 
 refuse-requires-3 : tie.Need-refuse-requires-3
@@ -40,14 +40,14 @@ returns-3 c =
     let l = k .before .before in
     let m = l .before .before .before in
     let a = m .args in
-    c .refuse3 .ensures ∙ set-refused (a .journal-length) (a .progress) (a .command .now) (a .set) (l .if1 .left)
+    c .refuse3 .ensures ∙ set-refused (a .journal-length) (a .shared) (a .command .now) (a .set) (l .if1 .left)
     (sym (k .before .has-room .ensures) ∙ not-false _ (k .if2 .left)) (c .before .if3 .taken)
 
 no-event-requires : tie.Need-no-event-requires
 no-event-requires c κs = search needs
 
-apply-requires : tie.Need-apply-requires
-apply-requires c κs =
+accepted-requires : tie.Need-accepted-requires
+accepted-requires c κs =
     let k = c .before .before .before in
     let l = k .before .before .before .before .before in
     let a = l .args in
@@ -61,7 +61,7 @@ returns-4 c =
     let m = l .before .before in
     let q = m .before .before .before in
     let a = q .args in
-    c .apply .ensures ∙ set-done (a .journal-length) (a .progress) (a .command .now) (a .set) (m .if1 .left)
+    c .accepted .ensures ∙ set-done (a .journal-length) (a .shared) (a .command .now) (a .set) (m .if1 .left)
     (sym (l .before .has-room .ensures) ∙ not-false _ (l .if2 .left)) (k .if3 .left) (c .before .no-event .ensures)
 
 pub after-set-spec : {M : Type 1} → statement M
@@ -76,5 +76,5 @@ after-set-spec =
     refuse-requires-3
     returns-3
     no-event-requires
-    apply-requires
+    accepted-requires
     returns-4)

@@ -15,7 +15,7 @@ use Rattle.engine.proofs.execution.enqueue.Tie as tie
 returns : tie.Need-returns
 returns c =
     let a = c .before .before .args in
-    enqueue-none (a .progress) (requestOf (a .progress) (a .command .now) (a .ticks)) {t = a .present} (not-true _ (c .if1 .taken))
+    enqueue-none (a .shared) (requestOf (a .shared) (a .command .now) (a .ticks)) {t = a .present} (not-true _ (c .if1 .taken))
 
 byte-at-requires : tie.Need-byte-at-requires
 byte-at-requires c κs = search needs
@@ -36,10 +36,10 @@ returns-2 c =
     let a = m .args in
     let z : toZ w32 (ofZ w32 (c .before .i32-at .result)) ≡ c .before .i32-at .result = search needs in
     c .put-in .ensures
-    ∙ ap₂ (λ (k : ℕ) (z : ℤ). withRequest (a .progress)
-    (record { clock = k; ticks = a .ticks; priority = z; index = a .progress .«request_count» }))
+    ∙ ap₂ (λ (k : ℕ) (z : ℤ). withRequest (a .shared)
+    (record { clock = k; ticks = a .ticks; priority = z; index = a .shared .«request_count» }))
     (l .byte-at .ensures) (z ∙ c .before .i32-at .ensures)
-    ∙ enqueue-one (a .progress) (requestOf (a .progress) (a .command .now) (a .ticks)) {t = a .present}
+    ∙ enqueue-one (a .shared) (requestOf (a .shared) (a .command .now) (a .ticks)) {t = a .present}
     (not-false _ (l .before .if1 .left))
 
 pub enqueue-spec : {M : Type 1} → statement M

@@ -23,7 +23,7 @@ returns : tie.Need-returns
 returns c =
     let a = c .before .before .before .before .before .args in
     let e = c .before .before .number .ensures ∙ ap numberOf (c .before .before .before .create-faults .ensures) in
-    c .refuse .ensures ∙ create-faulty (a .journal-length) (a .slot) (a .progress) (a .command .now) e (c .before .if1 .taken)
+    c .refuse .ensures ∙ create-faulty (a .journal-length) (a .slot) (a .shared) (a .command .now) e (c .before .if1 .taken)
 
 refuse-requires-2 : tie.Need-refuse-requires-2
 refuse-requires-2 c κs = search needs
@@ -35,7 +35,7 @@ returns-2 c =
     let m = l .before .before in
     let a = m .args in
     let e = k .before .number .ensures ∙ ap numberOf (l .create-faults .ensures) in
-    c .refuse2 .ensures ∙ create-present (a .journal-length) (a .slot) (a .progress) (a .command .now) e (k .if1 .left)
+    c .refuse2 .ensures ∙ create-present (a .journal-length) (a .slot) (a .shared) (a .command .now) e (k .if1 .left)
     (c .before .if2 .taken)
 
 has-room-requires : tie.Need-has-room-requires
@@ -52,7 +52,7 @@ returns-3 c =
     let q = m .before .before in
     let a = q .args in
     let e = l .before .number .ensures ∙ ap numberOf (m .create-faults .ensures) in
-    c .refuse3 .ensures ∙ create-full (a .journal-length) (a .slot) (a .progress) (a .command .now) e (l .if1 .left)
+    c .refuse3 .ensures ∙ create-full (a .journal-length) (a .slot) (a .shared) (a .command .now) e (l .if1 .left)
     (k .before .if2 .left) (sym (k .has-room .ensures) ∙ not-true _ (c .before .if3 .taken))
 
 created-clock-requires : tie.Need-created-clock-requires
@@ -61,8 +61,8 @@ created-clock-requires c κs = search needs
 no-event-requires : tie.Need-no-event-requires
 no-event-requires c κs = search needs
 
-apply-requires : tie.Need-apply-requires
-apply-requires c κs =
+accepted-requires : tie.Need-accepted-requires
+accepted-requires c κs =
     let k = c .before .before in
     let l = k .before .before .before .before .before .before .before in
     let a = l .args in
@@ -78,8 +78,8 @@ returns-4 c =
     let s = q .before .before in
     let a = s .args in
     let e = m .before .number .ensures ∙ ap numberOf (q .create-faults .ensures) in
-    c .apply .ensures
-    ∙ create-done (a .journal-length) (a .slot) (a .progress) (a .command .now) e (m .if1 .left) (l .before .if2 .left)
+    c .accepted .ensures
+    ∙ create-done (a .journal-length) (a .slot) (a .shared) (a .command .now) e (m .if1 .left) (l .before .if2 .left)
     (sym (l .has-room .ensures) ∙ not-false _ (k .before .if3 .left))
     (k .created-clock .ensures) (c .before .no-event .ensures)
 
@@ -98,5 +98,5 @@ perform-create-spec =
     returns-3
     created-clock-requires
     no-event-requires
-    apply-requires
+    accepted-requires
     returns-4)

@@ -35,7 +35,7 @@ returns c =
     let l = k .before .before .before in
     let a = l .args in
     c .perform-create .ensures
-    ∙ on-create (a .stream .now) (a .journal-length) (a .slot) (a .progress) (a .command .now)
+    ∙ on-create (a .stream .now) (a .journal-length) (a .slot) (a .shared) (a .command .now)
     (sym (k .byte-at .ensures) ∙ c .before .match .keys1)
 
 returns-2 : tie.Need-returns-2
@@ -44,7 +44,7 @@ returns-2 c =
     let l = k .before .before .before in
     let a = l .args in
     c .perform-set .ensures
-    ∙ on-set (a .stream .now) (a .journal-length) (a .slot) (a .progress) (a .command .now)
+    ∙ on-set (a .stream .now) (a .journal-length) (a .slot) (a .shared) (a .command .now)
     (sym (k .byte-at .ensures) ∙ c .before .match .keys2)
 
 returns-3 : tie.Need-returns-3
@@ -53,7 +53,7 @@ returns-3 c =
     let l = k .before .before .before in
     let a = l .args in
     c .perform-remove .ensures
-    ∙ on-remove (a .stream .now) (a .journal-length) (a .slot) (a .progress) (a .command .now)
+    ∙ on-remove (a .stream .now) (a .journal-length) (a .slot) (a .shared) (a .command .now)
     (sym (k .byte-at .ensures) ∙ c .before .match .keys3)
 
 returns-4 : tie.Need-returns-4
@@ -62,7 +62,7 @@ returns-4 c =
     let l = k .before .before .before in
     let a = l .args in
     c .perform-reschedule .ensures
-    ∙ on-reschedule (a .stream .now) (a .journal-length) (a .slot) (a .progress) (a .command .now)
+    ∙ on-reschedule (a .stream .now) (a .journal-length) (a .slot) (a .shared) (a .command .now)
     (sym (k .byte-at .ensures) ∙ c .before .match .keys4)
 
 returns-5 : tie.Need-returns-5
@@ -71,7 +71,7 @@ returns-5 c =
     let l = k .before .before .before in
     let a = l .args in
     c .perform-pause .ensures
-    ∙ on-pause (a .stream .now) (a .journal-length) (a .slot) (a .progress) (a .command .now)
+    ∙ on-pause (a .stream .now) (a .journal-length) (a .slot) (a .shared) (a .command .now)
     (sym (k .byte-at .ensures) ∙ c .before .match .keys5)
 
 returns-6 : tie.Need-returns-6
@@ -80,7 +80,7 @@ returns-6 c =
     let l = k .before .before .before in
     let a = l .args in
     c .perform-resume .ensures
-    ∙ on-resume (a .stream .now) (a .journal-length) (a .slot) (a .progress) (a .command .now)
+    ∙ on-resume (a .stream .now) (a .journal-length) (a .slot) (a .shared) (a .command .now)
     (sym (k .byte-at .ensures) ∙ c .before .match .keys6)
 
 returns-7 : tie.Need-returns-7
@@ -90,7 +90,7 @@ returns-7 c =
     let a = l .args in
     let r = c .before .match .rest in
     c .perform-deliver .ensures
-    ∙ on-rest (a .stream .now) (a .journal-length) (a .slot) (a .progress) (a .command .now) (k .byte-at .ensures)
+    ∙ on-rest (a .stream .now) (a .journal-length) (a .slot) (a .shared) (a .command .now) (k .byte-at .ensures)
     (r .0 .0 .0 .0 .0 .1) (r .0 .0 .0 .0 .1) (r .0 .0 .0 .1) (r .0 .0 .1) (r .0 .1)
     (r .1)
 

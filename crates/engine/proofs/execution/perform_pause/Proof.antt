@@ -2,7 +2,8 @@
 use mathlib.Core.Path.{_∙_, ap}
 use borrow.Author.Needs.{needs}
 use Rattle.clocks.specs.Scheduling as scheduling
-use Rattle.engine.specs.Execution.{afterPause, pauseFaults, performPause}
+use Rattle.engine.specs.Execution.{afterPause, performPause}
+use Rattle.engine.specs.Commands.{pauseFaults}
 use Rattle.engine.proofs.ExecutionCases.{refusalOf, not-done, there, pauseOn}
 use Rattle.engine.proofs.execution.perform_pause.Statement.{statement}
 use Rattle.engine.proofs.execution.perform_pause.Tie as tie
@@ -24,7 +25,7 @@ returns c =
     let a = l .args in
     let e = k .refusal-of .ensures ∙ ap (refusalOf (a .slot .present)) (k .before .pause-faults .ensures) in
     c .refuse .ensures ∙ not-done (pauseFaults (a .command .now)) (a .slot)
-    (pauseOn (a .journal-length) (a .progress) (a .command .now)) e (c .before .if1 .taken)
+    (pauseOn (a .journal-length) (a .shared) (a .command .now)) e (c .before .if1 .taken)
 
 f64-at-requires : tie.Need-f64-at-requires
 f64-at-requires c κs = search needs
@@ -44,9 +45,9 @@ returns-2 c =
     let a = m .args in
     let e = l .refusal-of .ensures ∙ ap (refusalOf (a .slot .present)) (l .before .pause-faults .ensures) in
     c .after-pause .ensures
-    ∙ ap (afterPause (a .journal-length) (a .progress) (a .command .now))
+    ∙ ap (afterPause (a .journal-length) (a .shared) (a .command .now))
     (c .before .pause .ensures ∙ ap (scheduling.pause (a .slot .clock)) (k .f64-at .ensures))
-    ∙ there (pauseFaults (a .command .now)) (a .slot) (pauseOn (a .journal-length) (a .progress) (a .command .now)) e
+    ∙ there (pauseFaults (a .command .now)) (a .slot) (pauseOn (a .journal-length) (a .shared) (a .command .now)) e
     (k .before .if1 .left)
 
 pub perform-pause-spec : {M : Type 1} → statement M

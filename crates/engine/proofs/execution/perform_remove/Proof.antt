@@ -6,7 +6,8 @@ use lib.ListN.{length}
 use borrow.Author.Tests.{not-true, not-false}
 use borrow.Author.Needs.{needs}
 use Rattle.clocks.specs.Clocks.{removeChannel}
-use Rattle.engine.specs.Execution.{causeFaults, performRemove}
+use Rattle.engine.specs.Commands.{causeFaults}
+use Rattle.engine.specs.Execution.{performRemove}
 use Rattle.engine.proofs.ExecutionCases.{remove-full, remove-done, applied-fits, refusalOf, not-done, there, removeOn}
 use Rattle.engine.proofs.execution.perform_remove.Statement.{statement}
 use Rattle.engine.proofs.execution.perform_remove.Tie as tie
@@ -28,7 +29,7 @@ returns c =
     let a = l .args in
     let e = k .refusal-of .ensures ∙ ap (refusalOf (a .slot .present)) (k .before .cause-faults .ensures) in
     c .refuse .ensures ∙ not-done (causeFaults (a .command .now)) (a .slot)
-    (removeOn (a .journal-length) (a .progress) (a .command .now)) e (c .before .if1 .taken)
+    (removeOn (a .journal-length) (a .shared) (a .command .now)) e (c .before .if1 .taken)
 
 has-room-requires : tie.Need-has-room-requires
 has-room-requires c κs = search needs
@@ -45,8 +46,8 @@ returns-2 c =
     let a = m .args in
     let e = l .refusal-of .ensures ∙ ap (refusalOf (a .slot .present)) (l .before .cause-faults .ensures) in
     c .refuse2 .ensures
-    ∙ remove-full (a .journal-length) (a .slot) (a .progress) (a .command .now)
-    (there (causeFaults (a .command .now)) (a .slot) (removeOn (a .journal-length) (a .progress) (a .command .now)) e
+    ∙ remove-full (a .journal-length) (a .slot) (a .shared) (a .command .now)
+    (there (causeFaults (a .command .now)) (a .slot) (removeOn (a .journal-length) (a .shared) (a .command .now)) e
     (k .before .if1 .left)) (sym (k .has-room .ensures) ∙ not-true _ (c .before .if2 .taken))
 
 u32-at-requires : tie.Need-u32-at-requires
@@ -58,8 +59,8 @@ remove-channel-requires c κs = search needs
 no-event-requires : tie.Need-no-event-requires
 no-event-requires c κs = search needs
 
-apply-requires : tie.Need-apply-requires
-apply-requires c κs =
+accepted-requires : tie.Need-accepted-requires
+accepted-requires c κs =
     let k = c .before .before .before .before in
     let l = k .before .before .before .before .before .before in
     let a = l .args in
@@ -76,9 +77,9 @@ returns-3 c =
     let s = q .before .before in
     let a = s .args in
     let e = m .before .refusal-of .ensures ∙ ap (refusalOf (a .slot .present)) (q .cause-faults .ensures) in
-    c .apply .ensures
-    ∙ remove-done (a .journal-length) (a .slot) (a .progress) (a .command .now)
-    (there (causeFaults (a .command .now)) (a .slot) (removeOn (a .journal-length) (a .progress) (a .command .now)) e (m .if1 .left))
+    c .accepted .ensures
+    ∙ remove-done (a .journal-length) (a .slot) (a .shared) (a .command .now)
+    (there (causeFaults (a .command .now)) (a .slot) (removeOn (a .journal-length) (a .shared) (a .command .now)) e (m .if1 .left))
     (sym (l .before .has-room .ensures) ∙ not-false _ (l .if2 .left))
     (k .remove-channel .ensures ∙ ap (removeChannel (a .slot .clock)) (k .before .u32-at .ensures)) (c .before .no-event .ensures)
 
@@ -96,5 +97,5 @@ perform-remove-spec =
     u32-at-requires
     remove-channel-requires
     no-event-requires
-    apply-requires
+    accepted-requires
     returns-3)

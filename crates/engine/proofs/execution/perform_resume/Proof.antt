@@ -22,7 +22,7 @@ returns c =
     let k = c .before .before in
     let a = k .before .before .before .args in
     c .refuse .ensures
-    ∙ not-rescheduled (a .journal-length) (a .slot) (a .progress) (a .command .now) scheduling.resume (k .refusal-of .ensures)
+    ∙ not-rescheduled (a .journal-length) (a .slot) (a .shared) (a .command .now) scheduling.resume (k .refusal-of .ensures)
     (k .before .reschedule-faults .ensures) (c .before .if1 .taken)
 
 f64-at-requires : tie.Need-f64-at-requires
@@ -45,7 +45,7 @@ returns-2 c =
     let m = l .before .before in
     let a = m .before .before .args in
     c .after-reschedule .ensures
-    ∙ rescheduled-there (a .journal-length) (a .slot) (a .progress) (a .command .now) scheduling.resume (l .before .refusal-of .ensures)
+    ∙ rescheduled-there (a .journal-length) (a .slot) (a .shared) (a .command .now) scheduling.resume (l .before .refusal-of .ensures)
     (m .reschedule-faults .ensures) (l .if1 .left) (c .before .resume .ensures) (k .before .f64-at .ensures) (k .censor-of .ensures)
 
 pub perform-resume-spec : {M : Type 1} → statement M

@@ -3,7 +3,8 @@ use mathlib.Core.Path.{_∙_, ap}
 use borrow.Author.Needs.{needs}
 use Rattle.clocks.specs.declared.setting.CauseSetting.{CauseSetting}
 use Rattle.clocks.specs.Setting.{setChannel}
-use Rattle.engine.specs.Execution.{afterSet, setFaults, performSet}
+use Rattle.engine.specs.Execution.{afterSet, performSet}
+use Rattle.engine.specs.Commands.{setFaults}
 use Rattle.engine.proofs.ExecutionCases.{refusalOf, not-done, there, setOn}
 use Rattle.engine.proofs.execution.perform_set.Statement.{statement}
 use Rattle.engine.proofs.execution.perform_set.Tie as tie
@@ -25,7 +26,7 @@ returns c =
     let a = l .args in
     let e = k .refusal-of .ensures ∙ ap (refusalOf (a .slot .present)) (k .before .set-faults .ensures) in
     c .refuse .ensures ∙ not-done (setFaults (a .command .now)) (a .slot)
-    (setOn (a .journal-length) (a .progress) (a .command .now) (a .stream .now)) e (c .before .if1 .taken)
+    (setOn (a .journal-length) (a .shared) (a .command .now) (a .stream .now)) e (c .before .if1 .taken)
 
 setting-of-requires : tie.Need-setting-of-requires
 setting-of-requires c κs = search needs
@@ -45,10 +46,10 @@ returns-2 c =
     let a = m .args in
     let e = l .refusal-of .ensures ∙ ap (refusalOf (a .slot .present)) (l .before .set-faults .ensures) in
     c .after-set .ensures
-    ∙ ap (afterSet (a .journal-length) (a .progress) (a .command .now))
+    ∙ ap (afterSet (a .journal-length) (a .shared) (a .command .now))
     (c .before .set-channel .ensures
-    ∙ ap (λ (s : CauseSetting). setChannel (a .slot .clock) s (a .stream .now) (a .progress .position)) (k .setting-of .ensures))
-    ∙ there (setFaults (a .command .now)) (a .slot) (setOn (a .journal-length) (a .progress) (a .command .now) (a .stream .now)) e
+    ∙ ap (λ (s : CauseSetting). setChannel (a .slot .clock) s (a .stream .now) (a .shared .position)) (k .setting-of .ensures))
+    ∙ there (setFaults (a .command .now)) (a .slot) (setOn (a .journal-length) (a .shared) (a .command .now) (a .stream .now)) e
     (k .before .if1 .left)
 
 pub perform-set-spec : {M : Type 1} → statement M

@@ -11,7 +11,7 @@ no-event-requires c κs = search needs
 returns : tie.Need-returns
 returns c =
     let a = c .before .args in
-    refusal (record { number = a .number; slot = a .slot; progress = a .progress; answer = c .no-event .result }) (λ e. omega arith)
+    refusal (record { number = a .number; slot = a .slot; shared = a .shared; answer = c .no-event .result }) (λ e. omega arith)
 
 pub refuse-spec : {M : Type 1} → statement M
 refuse-spec = tie.close (tie.spec no-event-requires returns)

@@ -15,14 +15,14 @@ returns : tie.Need-returns
 returns c =
     let k = c .before .before in
     let l = k .before .before .before in
-    target-next (l .args .progress) (l .args .command .now) (sym (k .before .byte-at .ensures) ∙ k .if1 .taken)
+    target-next (l .args .shared) (l .args .command .now) (sym (k .before .byte-at .ensures) ∙ k .if1 .taken)
     (c .before .next-request .result) (c .before .next-request .ensures) (c .if2 .taken)
 
 returns-2 : tie.Need-returns-2
 returns-2 c =
     let k = c .before .before in
     let l = k .before .before .before in
-    target-none (l .args .progress) (l .args .command .now) (sym (k .before .byte-at .ensures) ∙ k .if1 .taken)
+    target-none (l .args .shared) (l .args .command .now) (sym (k .before .byte-at .ensures) ∙ k .if1 .taken)
     (c .before .next-request .result) (c .before .next-request .ensures) (c .if2 .left)
 
 byte-at-requires-2 : tie.Need-byte-at-requires-2
@@ -35,7 +35,7 @@ returns-3 : tie.Need-returns-3
 returns-3 c =
     let k = c .before .before in
     let l = k .before .before in
-    c .byte-at2 .ensures ∙ target-named (l .args .progress) (l .args .command .now)
+    c .byte-at2 .ensures ∙ target-named (l .args .shared) (l .args .command .now)
     (λ e. c .before .if1 .left (k .byte-at .ensures ∙ e))
 
 pub target-spec : {M : Type 1} → statement M

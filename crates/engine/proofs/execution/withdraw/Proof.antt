@@ -15,12 +15,12 @@ returns : tie.Need-returns
 returns c =
     let k = c .before .before in
     c .taken-out .ensures
-    ∙ withdrawn-out (k .before .args .progress) (k .before .args .event) (sym (k .is-withdrawn .ensures) ∙ c .before .if1 .taken)
+    ∙ withdrawn-out (k .before .args .shared) (k .before .args .event) (sym (k .is-withdrawn .ensures) ∙ c .before .if1 .taken)
 
 returns-2 : tie.Need-returns-2
 returns-2 c =
     let k = c .before .before in
-    not-withdrawn (k .args .progress) (k .args .event) (sym (c .before .is-withdrawn .ensures) ∙ c .if1 .left)
+    not-withdrawn (k .args .shared) (k .args .event) (sym (c .before .is-withdrawn .ensures) ∙ c .if1 .left)
 
 pub withdraw-spec : {M : Type 1} → statement M
 withdraw-spec = tie.close (tie.spec is-withdrawn-requires taken-out-requires returns returns-2)

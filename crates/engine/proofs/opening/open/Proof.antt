@@ -4,8 +4,8 @@ use mathlib.Core.List.{List}
 use Prim.Native.Nat.{ℕ}
 use borrow.Author.Needs.{needs}
 use lib.ListN.{length, replicate}
-use Rattle.engine.specs.State.{openedState}
-use Rattle.engine.specs.Journal.{Bytes}
+use Rattle.engine.specs.Opening.{openedState}
+use Rattle.engine.specs.Engine.{Bytes}
 use Rattle.engine.specs.Sessions.{newSession}
 use Rattle.engine.specs.Instance.{engineOf, openedWith}
 use Rattle.engine.specs.declared.state.EngineState.{EngineState}

@@ -1,6 +1,6 @@
 -- `opening::opened_state` meets its contract: by computing it, with empty slots.
 use borrow.Author.Needs.{needs}
-use Rattle.engine.specs.State.{openedState}
+use Rattle.engine.specs.Opening.{openedState}
 use Rattle.engine.proofs.opening.opened_state.Statement.{statement}
 use Rattle.engine.proofs.opening.opened_state.Tie as tie
 

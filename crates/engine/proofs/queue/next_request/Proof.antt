@@ -6,18 +6,18 @@ use native.Mathlib.Omega.{arith}
 use lib.ListN.{getD, length, length-map, drop}
 use borrow.Author.Needs.{needs}
 use Rattle.engine.specs.State.{emptyRequest, queuedRequests}
-use Rattle.engine.specs.QueueCode.{pickOf}
+use Rattle.engine.specs.QueueInternals.{pickOf}
 use Rattle.engine.specs.Queue.{nextRequest, earlierOf}
 use Rattle.engine.proofs.QueueLaws.{queued-back, queued-end, next-more, next-none}
 use Rattle.engine.proofs.queue.next_request.Statement.{statement}
 use Rattle.engine.proofs.queue.next_request.Tie as tie
 
 abbrev Inv-loop : tie.InvT-loop
-Inv-loop progress best₀ i₀ best i =
-    (i ≤ min (progress .queued) 16) × (pickOf best ≡ nextRequest (drop i (queuedRequests progress)))
+Inv-loop shared best₀ i₀ best i =
+    (i ≤ min (shared .queued) 16) × (pickOf best ≡ nextRequest (drop i (queuedRequests shared)))
 
 abbrev μ-loop : tie.MeasureT-loop
-μ-loop progress best₀ i₀ best i = i
+μ-loop shared best₀ i₀ best i = i
 
 empty-request-requires : tie.Need-empty-request-requires Inv-loop μ-loop
 empty-request-requires c κs = search needs

@@ -23,7 +23,7 @@ add-after-2 c = search needs
 returns : tie.Need-returns
 returns c =
     let k = c .before .before in
-    let p = k .args .progress in
+    let p = k .args .shared in
     let sixteen : length (p .queue) ≡ 16 = simp length-map at (k .good .0 .1 .1 .0 .1 .0 .1) in
     ⊎-elim (λ w. rw (w .1)) (λ w. rw (w .1, set-out (p .queue) (p .queued) (k .args .request) (omega arith))) (c .before .if1 .came)
 

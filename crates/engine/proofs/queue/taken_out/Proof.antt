@@ -11,11 +11,11 @@ use Rattle.engine.proofs.queue.taken_out.Statement.{statement}
 use Rattle.engine.proofs.queue.taken_out.Tie as tie
 
 abbrev Inv-loop : tie.InvT-loop
-Inv-loop index progress used queue₀ kept₀ i₀ queue kept i =
-    (i ≤ used) × (kept ≤ i) × Kept index (take i (queuedRequests progress)) queue kept
+Inv-loop index shared used queue₀ kept₀ i₀ queue kept i =
+    (i ≤ used) × (kept ≤ i) × Kept index (take i (queuedRequests shared)) queue kept
 
 abbrev μ-loop : tie.MeasureT-loop
-μ-loop index progress used queue₀ kept₀ i₀ queue kept i = used - i
+μ-loop index shared used queue₀ kept₀ i₀ queue kept i = used - i
 
 used-places-requires : tie.Need-used-places-requires Inv-loop μ-loop
 used-places-requires c κs = search needs

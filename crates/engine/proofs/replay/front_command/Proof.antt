@@ -20,7 +20,7 @@ returns : tie.Need-returns
 returns c =
     let m = c .before in
     let a = start m .args in
-    sym (front-none (a .progress) (a .bytes .now) (m .command-width .result) (m .command-width .ensures) (c .if1 .taken))
+    sym (front-none (a .shared) (a .bytes .now) (m .command-width .result) (m .command-width .ensures) (c .if1 .taken))
 
 slice-aggregate-target : tie.Need-slice-aggregate-target
 slice-aggregate-target c =
@@ -37,7 +37,7 @@ returns-2 c =
     let m = c .before .before .before .before in
     let a = start m .args in
     sym
-    (front-past (a .progress) (a .bytes .now) (m .command-width .result) (m .command-width .ensures) (c .before .before .before .if1 .left)
+    (front-past (a .shared) (a .bytes .now) (m .command-width .result) (m .command-width .ensures) (c .before .before .before .if1 .left)
     (omega (arith, c .before .target .ensures, c .if2 .taken)))
 
 returns-3 : tie.Need-returns-3
@@ -49,7 +49,7 @@ returns-3 c =
     let f : ℕ → FrontCommand = λ k. record { width = w; clock = k } in
     ap f named
     ∙ sym
-    (front-here (a .progress) (a .bytes .now) w (m .command-width .ensures) (c .before .before .before .if1 .left)
+    (front-here (a .shared) (a .bytes .now) w (m .command-width .ensures) (c .before .before .before .if1 .left)
     (omega (arith, named, c .if2 .left)))
 
 pub front-command-spec : {M : Type 1} → statement M

@@ -1,4 +1,5 @@
--- `replay::last_command` meets its contract: at each turn, what is left of a replay that ends is known from the place after the last command.
+-- `replay::last_command` meets its contract: at each turn, what is left of a replay that ends is known from the place after the last
+-- command.
 use mathlib.Core.Path.{_≡_, sym, ap, _∙_}
 use mathlib.Core.List.{List}
 use Prim.Native.Nat.{ℕ, _-_, _<_, _≤_}
@@ -6,7 +7,8 @@ use native.Mathlib.Omega.{arith}
 use borrow.Author.Needs.{needs}
 use lib.ListN.{length, drop, length-drop}
 use Rattle.engine.specs.Commands.{widthOf}
-use Rattle.engine.specs.Journal.{code, ends, replayAll}
+use Rattle.engine.specs.Engine.{code}
+use Rattle.engine.specs.ReplayInternals.{ends, replayAll}
 use Rattle.engine.specs.Instance.{engineOf}
 use Rattle.engine.specs.declared.state.EngineState.{EngineState}
 use Rattle.engine.proofs.JournalBytes.{code-at}

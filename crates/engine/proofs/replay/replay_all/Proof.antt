@@ -5,25 +5,25 @@ use native.Mathlib.Omega.{arith}
 use borrow.Author.Needs.{needs}
 use lib.ListN.{length}
 use Rattle.engine.specs.State.{emptySlot, withSlot}
-use Rattle.engine.specs.Journal.{replayAll}
 use Rattle.engine.specs.Instance.{engineOf}
-use Rattle.engine.proofs.Good.{Good}
+use Rattle.engine.specs.ReplayInternals.{replayAll}
+use Rattle.engine.proofs.SoundState.{SoundState}
 use Rattle.engine.proofs.EveryPlace.{getD-any}
-use Rattle.engine.proofs.GoodValid.{opened-good}
+use Rattle.engine.proofs.SoundValid.{opened-sound}
 use Rattle.engine.proofs.ReplayLaws.{replayRest, replay-begins, replay-ends, no-command, command-here, command-fits, is-refused}
-use Rattle.engine.proofs.ReplayLaws.{stays-good, replays-on, is-failed}
+use Rattle.engine.proofs.ReplayLaws.{stays-sound, replays-on, is-failed}
 use Rattle.engine.proofs.replay.replay_all.Statement.{statement}
 use Rattle.engine.proofs.replay.replay_all.Tie as tie
 
 abbrev Inv-loop : tie.InvT-loop
-Inv-loop stream n bytes state₀ slot₀ progress₀ clock₀ last₀ at₀ state slot progress clock last at =
-    (replayRest stream n bytes state (withSlot state clock slot progress) last at ≡ replayAll (engineOf stream n) bytes)
+Inv-loop stream n bytes state₀ slot₀ shared₀ clock₀ last₀ at₀ state slot shared clock last at =
+    (replayRest stream n bytes state (withSlot state clock slot shared) last at ≡ replayAll (engineOf stream n) bytes)
     × (at ≤ length bytes)
     × (last ≤ length bytes)
-    × Good stream n state
+    × SoundState stream n state
 
 abbrev μ-loop : tie.MeasureT-loop
-μ-loop stream n bytes state₀ slot₀ progress₀ clock₀ last₀ at₀ state slot progress clock last at = length bytes - at
+μ-loop stream n bytes state₀ slot₀ shared₀ clock₀ last₀ at₀ state slot shared clock last at = length bytes - at
 
 opened-state-requires : tie.Need-opened-state-requires Inv-loop μ-loop
 opened-state-requires c κs = search needs
@@ -38,7 +38,7 @@ loop-holds c =
           (replay-begins (a .stream .now) (a .journal-length) (a .bytes .now)),
       omega arith,
       omega arith,
-      rw (c .before .before .opened-state .ensures) (opened-good (a .stream .now) (a .journal-length)),
+      rw (c .before .before .opened-state .ensures) (opened-sound (a .stream .now) (a .journal-length)),
     )
 
 sub-front-command : tie.Need-sub-front-command Inv-loop μ-loop
@@ -179,7 +179,7 @@ loop-again c =
     replays-on (a .stream .now) (a .journal-length) (a .bytes .now) (l .state) (l .inv .3) (l .at) (more m) (m .front-command .result)
     (m .front-command .ensures) (pos (known p)) (p .perform-on .result) _ old (p .perform-on .ensures) z _ (l .last) in
     let g =
-    stays-good (a .stream .now) (a .journal-length) (a .bytes .now) (l .state) (l .inv .3) (l .at) (more m) (m .front-command .result)
+    stays-sound (a .stream .now) (a .journal-length) (a .bytes .now) (l .state) (l .inv .3) (l .at) (more m) (m .front-command .result)
     (m .front-command .ensures) (pos (known p)) (p .perform-on .result) _ old (p .perform-on .ensures) z in
     (sym e ∙ l .inv .0, omega arith, omega arith, g)
 

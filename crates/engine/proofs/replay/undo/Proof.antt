@@ -6,9 +6,9 @@ use borrow.Author.Needs.{needs}
 use borrow.Author.Tests.{not-true, not-false}
 use lib.ListN.{length, take}
 use lib.Seq.{length-take-le}
-use Rattle.engine.specs.Journal.{Engine, ends, replayAll}
+use Rattle.engine.specs.Engine.{Engine}
 use Rattle.engine.specs.Instance.{engineOf}
-use Rattle.engine.specs.ReplayCode.{beforeLast}
+use Rattle.engine.specs.ReplayInternals.{beforeLast, ends, replayAll}
 use Rattle.engine.proofs.Asking.{undo-nothing, undo-fails, undo-other}
 use Rattle.engine.proofs.ExecuteLaws.{left-refused, replay-failed, replay-ended, reverted-left}
 use Rattle.engine.proofs.replay.undo.Statement.{statement}
@@ -41,13 +41,13 @@ replay-all-requires c κs = omega (arith, c .before .before .before .before .goo
 abbrev start : tie.After-replay-all → tie.Start
 start c = c .before .before .before .before .before
 
-pos : (c : tie.After-replay-all) → 0 < start c .args .state .progress .«applied_length»
+pos : (c : tie.After-replay-all) → 0 < start c .args .state .shared .«applied_length»
 pos c = omega (arith, c .before .before .if1 .left)
 
-within : (c : tie.After-replay-all) → c .replay-all .result .last ≤ start c .args .state .progress .«applied_length»
+within : (c : tie.After-replay-all) → c .replay-all .result .last ≤ start c .args .state .shared .«applied_length»
 within c =
     let m = start c in
-    let k = length-take-le (m .args .state .progress .«applied_length») (m .args .journal .now) (m .pre) in
+    let k = length-take-le (m .args .state .shared .«applied_length») (m .args .journal .now) (m .pre) in
     omega (arith, c .replay-all .ensures .1)
 
 refuse-requires-2 : tie.Need-refuse-requires-2
@@ -71,7 +71,7 @@ replayed c = c .before .before
 
 ended : (c : tie.Else2)
     → replayAll (engine (start (replayed c)))
-    (take (start (replayed c) .args .state .progress .«applied_length») (start (replayed c) .args .journal .now))
+    (take (start (replayed c) .args .state .shared .«applied_length») (start (replayed c) .args .journal .now))
     ≡ ends (replayed c .replay-all .result .state) (beforeLast (replayed c .replay-all .result)) (replayed c .replay-all .result .last)
 ended c =
     let r = replayed c in

@@ -6,7 +6,7 @@ use native.Mathlib.Omega.{arith}
 use borrow.Author.Needs.{needs}
 use borrow.Author.Tests.{eq-eqb, ne-eqb, le-leb, lt-leb}
 use lib.ListN.{length}
-use Rattle.hazards.specs.Answers.{noEvent, withAnswer}
+use Rattle.hazards.specs.Answers.{answerWidth, noEvent, withAnswer}
 use Rattle.engine.proofs.run.answer_reverted.Statement.{statement}
 use Rattle.engine.proofs.run.answer_reverted.Tie as tie
 
@@ -30,7 +30,8 @@ returns-3 c =
     let m = c .before .before in
     let undo = eq-eqb _ 8 (sym (m .byte-at .ensures) ∙ c .before .if2 .left) in
     let a = m .before .before .before .before .args in
-    (rw (eq-eqb _ 0 (m .before .if1 .left), undo, lt-leb (a .place + 64) (length (a .answers .now)) (omega arith)), refl)
+    let full = lt-leb (a .place + (answerWidth + answerWidth)) (length (a .answers .now)) (omega arith) in
+    (rw (eq-eqb _ 0 (m .before .if1 .left), undo, full), refl)
 
 put-answer-requires : tie.Need-put-answer-requires
 put-answer-requires c κs = search needs
@@ -54,11 +55,12 @@ returns-4 c =
     let other = first .before .before .before in
     let m = other .before in
     let a = m .before .before .before .before .args in
-    let undo = eq-eqb _ 8 (sym (m .byte-at .ensures) ∙ other .if2 .left) in (
-      rw (eq-eqb _ 0 (m .before .if1 .left), undo, le-leb (a .place + 64) (length (a .answers .now)) (omega arith)),
+    let undo = eq-eqb _ 8 (sym (m .byte-at .ensures) ∙ other .if2 .left) in
+    let room = le-leb (a .place + (answerWidth + answerWidth)) (length (a .answers .now)) (omega arith) in (
+      rw (eq-eqb _ 0 (m .before .if1 .left), undo, room),
       second .put-answer2 .ensures
-          ∙ ap (withAnswer _ (a .place + 32)) (second .before .no-event .ensures)
-          ∙ ap (λ (x : List ℕ). withAnswer x (a .place + 32) (noEvent 0)) (first .put-answer .ensures),
+          ∙ ap (withAnswer _ (a .place + answerWidth)) (second .before .no-event .ensures)
+          ∙ ap (λ (x : List ℕ). withAnswer x (a .place + answerWidth) (noEvent 0)) (first .put-answer .ensures),
     )
 
 pub answer-reverted-spec : {M : Type 1} → statement M

@@ -6,8 +6,8 @@ use native.Mathlib.Omega.{arith}
 use borrow.Author.Needs.{needs}
 use lib.ListN.{length}
 use Rattle.hazards.specs.Fields.{bytesOf}
-use Rattle.hazards.specs.Answers.{withAnswer}
-use Rattle.engine.specs.RunCode.{stop}
+use Rattle.hazards.specs.Answers.{answerWidth, withAnswer}
+use Rattle.engine.specs.RunInternals.{stop}
 use Rattle.engine.proofs.RunStops.{stop-full, stop-not, stop-number}
 use Rattle.engine.proofs.run.end_run.Statement.{statement}
 use Rattle.engine.proofs.run.end_run.Tie as tie
@@ -37,7 +37,7 @@ end-number-requires c κs = search needs
 abbrev start : tie.After-end-number → tie.Start
 start c = c .before .before .before .before .before
 
-room : (c : tie.After-end-number) → 32 * start c .args .answered + 32 ≤ length (start c .args .answers .now)
+room : (c : tie.After-end-number) → answerWidth * start c .args .answered + answerWidth ≤ length (start c .args .answers .now)
 room c = omega arith
 
 no-event-requires : tie.Need-no-event-requires
@@ -67,7 +67,7 @@ returns-2 c =
     let refusal = put .before .no-event .ensures in
     ap (stop number (put .put-answer .last .0)) (c .before .before .finish2 .ensures)
     ∙ ap (λ (x : List ℕ). stop number x (bytesOf 8 (a .answered + 1) ++ bytesOf 8 (a .read)))
-    (put .put-answer .ensures ∙ ap (withAnswer (a .answers .now) (32 * a .answered)) refusal)
+    (put .put-answer .ensures ∙ ap (withAnswer (a .answers .now) (answerWidth * a .answered)) refusal)
     ∙ stop-number (a .input .now) (a .answers .now) (a .result .now) (a .answered) (a .read) (room m) number (m .end-number .ensures)
     (c .before .before .before .before .before .before .before .before .before .if2 .taken)
 

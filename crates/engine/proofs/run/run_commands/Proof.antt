@@ -9,21 +9,21 @@ use borrow.Author.Needs.{needs}
 use lib.Dec.{eqb}
 use lib.ListN.{length, getD, drop}
 use lib.Seq.{length-take-le}
-use Rattle.hazards.specs.Answers.{noEvent, withAnswer}
+use Rattle.hazards.specs.Answers.{answerWidth, noEvent, withAnswer}
 use Rattle.engine.specs.Refusals.{nothingApplied}
 use Rattle.engine.specs.Commands as commands
 use Rattle.engine.specs.Commands.{widthOf}
 use Rattle.engine.specs.State.{emptySlot, slotAt}
-use Rattle.engine.specs.Journal.{code}
+use Rattle.engine.specs.Engine.{code}
 use Rattle.engine.specs.Run.{ran}
-use Rattle.engine.specs.RunCode.{answeredBy, answerAt, openedRun}
+use Rattle.engine.specs.RunInternals.{journalAndAnswers, answerAt, openedRun}
 use Rattle.engine.specs.declared.state.ClockSlot.{ClockSlot}
 use Rattle.engine.specs.declared.state.EngineState.{EngineState}
-use Rattle.engine.proofs.Good.{Good}
+use Rattle.engine.proofs.SoundState.{SoundState}
 use Rattle.engine.proofs.EveryPlace.{getD-any}
 use Rattle.engine.proofs.JournalBytes.{partOf, code-at}
 use Rattle.engine.proofs.RunReverts.{when-true, when-false, reverted-within, next-reverted}
-use Rattle.engine.proofs.RunTurns.{Input, running-good, running-ends, run-stops, run-goes-on}
+use Rattle.engine.proofs.RunTurns.{Input, running-sound, running-ends, run-stops, run-goes-on}
 use Rattle.engine.proofs.RunTurns.{input-fits, next-below, next-fits, next-refused, next-performed}
 use Rattle.engine.proofs.RunUndos.{Deferred, deferred-begins, goes-on-in, replayed-current, next-deferred}
 use Rattle.engine.proofs.run.run_commands.Statement.{statement}
@@ -113,7 +113,7 @@ input c = run-goes-on _ _ _ _ _ (turn (ended c) .loop .inv .running) (more (ende
 within-journal : (c : tie.Else1 Inv-loop μ-loop) → turn (ended c) .loop .applied ≤ length (turn (ended c) .loop .journal)
 within-journal c =
     let d = turn (ended c) .loop .inv in
-    let g = running-good _ _ _ _ _ (d .running) in
+    let g = running-sound _ _ _ _ _ (d .running) in
     omega (arith, g .applied, d .running .same-journal, d .counted)
 
 mul-place : tie.Need-mul-place Inv-loop μ-loop
@@ -186,15 +186,15 @@ loop-again c =
 
 -- ---- another command: a stale state is replayed first
 
-slice-reshare-prefix-replayed : tie.Need-slice-reshare-prefix-replayed Inv-loop μ-loop
-slice-reshare-prefix-replayed c = within-journal (known (c .before .before))
+slice-reshare-prefix-replayed-state : tie.Need-slice-reshare-prefix-replayed-state Inv-loop μ-loop
+slice-reshare-prefix-replayed-state c = within-journal (known (c .before .before))
 
-slice-aggregate-replayed : tie.Need-slice-aggregate-replayed Inv-loop μ-loop
-slice-aggregate-replayed c =
+slice-aggregate-replayed-state : tie.Need-slice-aggregate-replayed-state Inv-loop μ-loop
+slice-aggregate-replayed-state c =
     let k = known (c .before .before .before) in sym (length-take-le _ (turn (ended k) .loop .journal) (within-journal k))
 
-replayed-requires : tie.Need-replayed-requires Inv-loop μ-loop
-replayed-requires c κs =
+replayed-state-requires : tie.Need-replayed-state-requires Inv-loop μ-loop
+replayed-state-requires c κs =
     let d = turn (ended (known (c .before .before .before))) .loop .inv in omega (arith, d .running .bound, d .running .same-journal)
 
 abbrev knownAt : tie.Joined3 Inv-loop μ-loop → tie.Else1 Inv-loop μ-loop
@@ -208,16 +208,16 @@ fresh c =
     (λ w. w .1 ∙ l .inv .fresh (w .0 .left))
     (c .if3 .came)
 
-counted : (c : tie.Joined3 Inv-loop μ-loop) → turn (ended (knownAt c)) .loop .applied ≡ c .if3 .state .progress .«applied_length»
+counted : (c : tie.Joined3 Inv-loop μ-loop) → turn (ended (knownAt c)) .loop .applied ≡ c .if3 .state .shared .«applied_length»
 counted c =
-    turn (ended (knownAt c)) .loop .inv .counted ∙ ap (λ (s : EngineState). s .progress .«applied_length») (sym (fresh c))
+    turn (ended (knownAt c)) .loop .inv .counted ∙ ap (λ (s : EngineState). s .shared .«applied_length») (sym (fresh c))
 
 now-input : (c : tie.Joined3 Inv-loop μ-loop) → Here (knownAt c) (c .if3 .state)
 now-input c = subst (Here (knownAt c)) (sym (fresh c)) (input (knownAt c))
 
 good : (c : tie.Joined3 Inv-loop μ-loop)
-    → Good (start (knownAt c) .args .stream .now) (length (start (knownAt c) .args .journal .now)) (c .if3 .state)
-good c = running-good _ _ _ _ _ (now-input c .running)
+    → SoundState (start (knownAt c) .args .stream .now) (length (start (knownAt c) .args .journal .now)) (c .if3 .state)
+good c = running-sound _ _ _ _ _ (now-input c .running)
 
 sub-command : tie.Need-sub-command Inv-loop μ-loop
 sub-command c = omega arith
@@ -302,7 +302,7 @@ within c =
     let m = c .before .before .before in
     let w = widthed (tested m) in
     reverted-within (tested m .perform-on .result .number) (bytes w) (place w + w .width .result) (ended (known w) .end-run .last .1 .0)
-    (32 * turn (ended (known w)) .loop .answered) (sym (m .answer-reverted .ensures .0) ∙ c .if5 .taken)
+    (answerWidth * turn (ended (known w)) .loop .answered) (sym (m .answer-reverted .ensures .0) ∙ c .if5 .taken)
 
 add-at-2 : tie.Need-add-at-2 Inv-loop μ-loop
 add-at-2 c =
@@ -378,10 +378,11 @@ loop-less-3 c =
 
 -- the journal and the answers as the definition has them
 answered : (c : tie.After-answer-at Inv-loop μ-loop)
-    → answeredBy (c .answer-at .last .1 .1 .1 .0) (c .answer-at .last .1 .1 .1 .1 .0)
+    → journalAndAnswers (c .answer-at .last .1 .1 .1 .0) (c .answer-at .last .1 .1 .1 .1 .0)
     ≡ answerAt (performed c .perform-on .result .number) (performed c .perform-on .result .answer)
-    (freshened (performed c) .if3 .state .progress .«applied_length») (turn (ended (known (widthed (performed c)))) .loop .journal)
-    (ended (known (widthed (performed c))) .end-run .last .1 .0) (32 * turn (ended (known (widthed (performed c)))) .loop .answered)
+    (freshened (performed c) .if3 .state .shared .«applied_length») (turn (ended (known (widthed (performed c)))) .loop .journal)
+    (ended (known (widthed (performed c))) .end-run .last .1 .0)
+    (answerWidth * turn (ended (known (widthed (performed c)))) .loop .answered)
     (partOf (bytes (widthed (performed c))) (place (widthed (performed c))) (widthed (performed c) .width .result))
 answered c =
     let m = performed c in
@@ -390,9 +391,10 @@ answered c =
     let o = m .perform-on .result in
     let command = partOf (bytes w) (place w) (w .width .result) in
     c .answer-at .ensures
-    ∙ ap (λ (b : List ℕ). answerAt (o .number) (o .answer) (l .applied) (l .journal) b (32 * l .answered) command)
+    ∙ ap (λ (b : List ℕ). answerAt (o .number) (o .answer) (l .applied) (l .journal) b (answerWidth * l .answered) command)
     (same-answers (unreverted c))
-    ∙ ap (λ (k : ℕ). answerAt (o .number) (o .answer) k (l .journal) (ended (known w) .end-run .last .1 .0) (32 * l .answered) command)
+    ∙ ap
+    (λ (k : ℕ). answerAt (o .number) (o .answer) k (l .journal) (ended (known w) .end-run .last .1 .0) (answerWidth * l .answered) command)
     (counted (freshened m))
 
 loop-again-3 : tie.Need-loop-again-3 Inv-loop μ-loop
@@ -474,9 +476,9 @@ run-commands-spec =
     revert-requires
     loop-less
     loop-again
-    slice-reshare-prefix-replayed
-    slice-aggregate-replayed
-    replayed-requires
+    slice-reshare-prefix-replayed-state
+    slice-aggregate-replayed-state
+    replayed-state-requires
     sub-command
     part-command-start
     part-command-end

@@ -14,14 +14,14 @@ use Rattle.engine.proofs.validation.distinct_indices.Statement.{stateme
 use Rattle.engine.proofs.validation.distinct_indices.Tie as tie
 
 abbrev Inv-loop : tie.InvT-loop
-Inv-loop progress queued before₀ i₀ before i =
+Inv-loop shared queued before₀ i₀ before i =
     (i ≤ queued)
     × (length before ≡ 16)
-    × (take i before ≡ map indexOf (take i (progress .queue)))
-    × (distinct (take i (progress .queue)) ≡ true)
+    × (take i before ≡ map indexOf (take i (shared .queue)))
+    × (distinct (take i (shared .queue)) ≡ true)
 
 abbrev μ-loop : tie.MeasureT-loop
-μ-loop progress queued before₀ i₀ before i = queued - i
+μ-loop shared queued before₀ i₀ before i = queued - i
 
 loop-holds : tie.Need-loop-holds Inv-loop μ-loop
 loop-holds c = (omega arith, refl, refl, distinct-none)

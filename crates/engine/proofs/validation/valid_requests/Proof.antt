@@ -13,12 +13,12 @@ use Rattle.engine.proofs.validation.valid_requests.Statement.{statement
 use Rattle.engine.proofs.validation.valid_requests.Tie as tie
 
 abbrev Inv-loop : tie.InvT-loop
-Inv-loop state progress queued i₀ i =
+Inv-loop state shared queued i₀ i =
     (i ≤ queued)
-    × (all (validRequest state) (drop i (queuedRequests (state .progress))) ≡ all (validRequest state) (queuedRequests (state .progress)))
+    × (all (validRequest state) (drop i (queuedRequests (state .shared))) ≡ all (validRequest state) (queuedRequests (state .shared)))
 
 abbrev μ-loop : tie.MeasureT-loop
-μ-loop state progress queued i₀ i = queued - i
+μ-loop state shared queued i₀ i = queued - i
 
 loop-holds : tie.Need-loop-holds Inv-loop μ-loop
 loop-holds c = (omega arith, refl)
@@ -39,8 +39,8 @@ returns : tie.Need-returns Inv-loop μ-loop
 returns c =
     let l = c .before .before in
     let s = l .before .before .args .t1 in
-    let places : length (s .progress .queue) ≡ 16 = simp length-map at (l .before .before .good .0 .1 .1 .1 .0 .1 .1 .0 .1 .0 .1) in
-    let next = slice-next (s .progress .queue) (s .progress .queued) (l .loop .i) emptyRequest (omega arith) (omega arith) in
+    let places : length (s .shared .queue) ≡ 16 = simp length-map at (l .before .before .good .0 .1 .1 .1 .0 .1 .1 .0 .1 .0 .1) in
+    let next = slice-next (s .shared .queue) (s .shared .queued) (l .loop .i) emptyRequest (omega arith) (omega arith) in
     sym (all-fails (validRequest s) next (request-past s _ (c .if1 .taken))) ∙ l .loop .inv .1
 
 mul-event : tie.Need-mul-event Inv-loop μ-loop
@@ -71,9 +71,9 @@ returns-2 : tie.Need-returns-2 Inv-loop μ-loop
 returns-2 c =
     let l = c .before .before .before in
     let s = l .before .before .args .t1 in
-    let places : length (s .progress .queue) ≡ 16 = simp length-map at (l .before .before .good .0 .1 .1 .1 .0 .1 .1 .0 .1 .0 .1) in
+    let places : length (s .shared .queue) ≡ 16 = simp length-map at (l .before .before .good .0 .1 .1 .1 .0 .1 .1 .0 .1 .0 .1) in
     let slots : length (s .slots) ≡ 16 = simp length-map at (l .before .before .good .0 .1 .1 .0 .1 .0 .1) in
-    let next = slice-next (s .progress .queue) (s .progress .queued) (l .loop .i) emptyRequest (omega arith) (omega arith) in
+    let next = slice-next (s .shared .queue) (s .shared .queued) (l .loop .i) emptyRequest (omega arith) (omega arith) in
     let fails = request-within s _ _ slots (c .before .if1 .left) ∙ not-true _ (c .if2 .taken) in
     sym (all-fails (validRequest s) next fails) ∙ l .loop .inv .1
 
@@ -87,10 +87,10 @@ loop-again : tie.Need-loop-again Inv-loop μ-loop
 loop-again c =
     let l = c .before .before .before in
     let s = l .before .before .args .t1 in
-    let places : length (s .progress .queue) ≡ 16 = simp length-map at (l .before .before .good .0 .1 .1 .1 .0 .1 .1 .0 .1 .0 .1) in
+    let places : length (s .shared .queue) ≡ 16 = simp length-map at (l .before .before .good .0 .1 .1 .1 .0 .1 .1 .0 .1 .0 .1) in
     let slots : length (s .slots) ≡ 16 = simp length-map at (l .before .before .good .0 .1 .1 .0 .1 .0 .1) in
-    let next = slice-next (s .progress .queue) (s .progress .queued) (l .loop .i) emptyRequest (omega arith) (omega arith) in
-    let more : l .loop .i + 1 ≤ s .progress .queued = omega arith in
+    let next = slice-next (s .shared .queue) (s .shared .queued) (l .loop .i) emptyRequest (omega arith) (omega arith) in
+    let more : l .loop .i + 1 ≤ s .shared .queued = omega arith in
     let passes = request-within s _ _ slots (c .before .if1 .left) ∙ not-false _ (c .if2 .left) in
     (more, sym (all-next (validRequest s) next passes) ∙ l .loop .inv .1)
 
@@ -98,7 +98,7 @@ returns-3 : tie.Need-returns-3 Inv-loop μ-loop
 returns-3 c =
     let l = c .before in
     let s = l .before .before .args .t1 in
-    let none = slice-none (s .progress .queue) (s .progress .queued) (l .loop .i) (omega arith) in
+    let none = slice-none (s .shared .queue) (s .shared .queued) (l .loop .i) (omega arith) in
     sym (all-none (validRequest s) none) ∙ l .loop .inv .1
 
 pub valid-requests-spec : {M : Type 1} → statement M

@@ -8,10 +8,10 @@ use Rattle.engine_probe.proofs.state_encoding.put_queue.Statement.{stat
 use Rattle.engine_probe.proofs.state_encoding.put_queue.Tie as tie
 
 abbrev Inv-loop : tie.InvT-loop
-Inv-loop out₀ progress i₀ out i = (i ≤ 16) × (length out ≡ length out₀)
+Inv-loop out₀ shared i₀ out i = (i ≤ 16) × (length out ≡ length out₀)
 
 abbrev μ-loop : tie.MeasureT-loop
-μ-loop out₀ progress i₀ out i = 16 - i
+μ-loop out₀ shared i₀ out i = 16 - i
 
 loop-holds : tie.Need-loop-holds Inv-loop μ-loop
 loop-holds c = (search needs, search needs)

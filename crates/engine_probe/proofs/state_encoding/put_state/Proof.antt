@@ -13,8 +13,8 @@ Inv-loop out₀ state i₀ out i = (i ≤ 16) × (length out ≡ length out₀)
 abbrev μ-loop : tie.MeasureT-loop
 μ-loop out₀ state i₀ out i = 16 - i
 
-put-progress-requires : tie.Need-put-progress-requires Inv-loop μ-loop
-put-progress-requires c κs = search needs
+put-shared-requires : tie.Need-put-shared-requires Inv-loop μ-loop
+put-shared-requires c κs = search needs
 
 loop-holds : tie.Need-loop-holds Inv-loop μ-loop
 loop-holds c = (search needs, search needs)
@@ -55,7 +55,7 @@ put-state-spec =
     (tie.spec
     Inv-loop
     μ-loop
-    put-progress-requires
+    put-shared-requires
     loop-holds
     mul-put-slot
     add-put-slot

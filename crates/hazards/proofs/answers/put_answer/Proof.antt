@@ -4,6 +4,7 @@ use borrow.Author.Tests.{leb-true}
 use native.Mathlib.Omega.{arith}
 use Prim.Native.Nat.{_+_}
 use lib.ListN.{length}
+use Rattle.hazards.specs.Answers.{answerWidth}
 use Rattle.hazards.proofs.AnswerBytes.{answer-written, written-cut}
 use borrow.Author.Needs.{needs}
 use Rattle.hazards.proofs.answers.put_answer.Statement.{statement}
@@ -22,7 +23,7 @@ add-put-u32 : tie.Need-add-put-u32
 add-put-u32 c =
     let u = c .before .before .before .before .before .before in
     let a = u .before .before .before .before .args in
-    omega (arith, leb-true (a .at + 32) (length (a .bytes .now)) (sym (u .before .lies-whole .ensures) ∙ u .if1 .taken))
+    omega (arith, leb-true (a .at + answerWidth) (length (a .bytes .now)) (sym (u .before .lies-whole .ensures) ∙ u .if1 .taken))
 
 put-u32-requires-2 : tie.Need-put-u32-requires-2
 put-u32-requires-2 c κs = search needs
@@ -31,7 +32,7 @@ add-put-f64 : tie.Need-add-put-f64
 add-put-f64 c =
     let u = c .before .before .before .before .before .before .before .before .before .before in
     let a = u .before .before .before .before .args in
-    omega (arith, leb-true (a .at + 32) (length (a .bytes .now)) (sym (u .before .lies-whole .ensures) ∙ u .if1 .taken))
+    omega (arith, leb-true (a .at + answerWidth) (length (a .bytes .now)) (sym (u .before .lies-whole .ensures) ∙ u .if1 .taken))
 
 put-f64-requires : tie.Need-put-f64-requires
 put-f64-requires c κs = search needs
@@ -40,7 +41,7 @@ add-put-u64 : tie.Need-add-put-u64
 add-put-u64 c =
     let u = c .before .before .before .before .before .before .before .before .before .before .before .before .before .before in
     let a = u .before .before .before .before .args in
-    omega (arith, leb-true (a .at + 32) (length (a .bytes .now)) (sym (u .before .lies-whole .ensures) ∙ u .if1 .taken))
+    omega (arith, leb-true (a .at + answerWidth) (length (a .bytes .now)) (sym (u .before .lies-whole .ensures) ∙ u .if1 .taken))
 
 put-u64-requires : tie.Need-put-u64-requires
 put-u64-requires c κs = search needs
@@ -50,7 +51,7 @@ add-put-u64-2 c =
     let w = c .before .before .before .before .before .before .before .before .before in
     let u = w .before .before .before .before .before .before .before .before .before in
     let a = u .before .before .before .before .args in
-    omega (arith, leb-true (a .at + 32) (length (a .bytes .now)) (sym (u .before .lies-whole .ensures) ∙ u .if1 .taken))
+    omega (arith, leb-true (a .at + answerWidth) (length (a .bytes .now)) (sym (u .before .lies-whole .ensures) ∙ u .if1 .taken))
 
 put-u64-requires-2 : tie.Need-put-u64-requires-2
 put-u64-requires-2 c κs = search needs

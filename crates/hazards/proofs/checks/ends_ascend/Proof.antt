@@ -1,32 +1,35 @@
 -- `checks::ends_ascend` meets its contract.
 use mathlib.Core.List.{List}
 use mathlib.Core.Path.{_≡_, sym, _∙_}
-use Prim.Native.Nat.{ℕ, _≤_, _-_}
-use native.Mathlib.Nat.{sub-zero}
+use Prim.Native.Nat.{_-_}
 use native.Mathlib.Omega.{arith}
 use borrow.Author.Needs.{needs}
 use borrow.Author.Tests.{not-true, not-false}
 use lib.Ieee.{Float, ofBits}
 use Rattle.hazards.specs.Checks.{ascending}
 use Rattle.hazards.specs.Floats.{z}
-use Rattle.hazards.specs.Rates.{intervalsFrom, pairsFrom}
+use Rattle.hazards.specs.Rates.{intervalsFrom, piecesBy, pairAt, usedPairs}
 use Rattle.hazards.proofs.CheckLaws.{ascending-next, ascending-fails, ascending-none}
-use Rattle.hazards.proofs.Pairs.{pairs-next, pairs-end}
+use Rattle.hazards.proofs.Pieces.{used-start, pieces-next, pieces-end}
 use Rattle.hazards.proofs.checks.ends_ascend.Statement.{statement}
 use Rattle.hazards.proofs.checks.ends_ascend.Tie as tie
 
 abbrev Inv-loop : tie.InvT-loop
-Inv-loop ends used before₀ i₀ before i =
-    (i ≤ used)
-    × ((rates : List Float) (n : ℕ) → ascending before (pairsFrom (intervalsFrom ends rates n) i (used - i))
-    ≡ ascending z (pairsFrom (intervalsFrom ends rates n) 0 used))
+Inv-loop ends count used before₀ i₀ before i =
+    (rates : List Float) → ascending before (piecesBy (pairAt (intervalsFrom ends rates count)) i (used - i))
+    ≡ ascending z (usedPairs (intervalsFrom ends rates count))
 
 abbrev μ-loop : tie.MeasureT-loop
-μ-loop ends used before₀ i₀ before i = used - i
+μ-loop ends count used before₀ i₀ before i = used - i
+
+at-most-eight-requires : tie.Need-at-most-eight-requires Inv-loop μ-loop
+at-most-eight-requires c κs = search needs
 
 loop-holds : tie.Need-loop-holds Inv-loop μ-loop
 unfolding ofBits
-loop-holds c = (omega arith, λ rates n. rw sub-zero)
+loop-holds c =
+    let a = c .before .args in
+    λ rates. rw (used-start (intervalsFrom (a .ends .now) rates (a .count)) (c .at-most-eight .ensures))
 
 mul-end : tie.Need-mul-end Inv-loop μ-loop
 mul-end c = omega arith
@@ -40,11 +43,12 @@ ascends-requires c κs = search needs
 returns : tie.Need-returns Inv-loop μ-loop
 returns c =
     let l = c .before .before .before .before in
-    let a = l .before .args in
-    λ rates n.
-    let next = pairs-next (intervalsFrom (a .ends .now) rates n) (a .used) (l .loop .i) (omega arith) in
+    let a = l .before .before .args in
+    λ rates.
+    let f = pairAt (intervalsFrom (a .ends .now) rates (a .count)) in
+    let next = pieces-next f (l .before .at-most-eight .result) (l .loop .i) (omega arith) in
     sym (ascending-fails (l .loop .before) next (sym (c .before .ascends .ensures) ∙ not-true _ (c .if1 .taken)))
-    ∙ l .loop .inv .1 rates n
+    ∙ l .loop .inv rates
 
 add-i : tie.Need-add-i Inv-loop μ-loop
 add-i c = omega arith
@@ -55,21 +59,21 @@ loop-less c = omega arith
 loop-again : tie.Need-loop-again Inv-loop μ-loop
 loop-again c =
     let l = c .before .before .before .before in
-    let a = l .before .args in (
-      omega arith,
-      λ rates n.
-          let next = pairs-next (intervalsFrom (a .ends .now) rates n) (a .used) (l .loop .i) (omega arith) in
-          sym (ascending-next (l .loop .before) next (sym (c .before .ascends .ensures) ∙ not-false _ (c .if1 .left)))
-          ∙ l .loop .inv .1 rates n,
-    )
+    let a = l .before .before .args in
+    λ rates.
+    let f = pairAt (intervalsFrom (a .ends .now) rates (a .count)) in
+    let next = pieces-next f (l .before .at-most-eight .result) (l .loop .i) (omega arith) in
+    sym (ascending-next (l .loop .before) next (sym (c .before .ascends .ensures) ∙ not-false _ (c .if1 .left)))
+    ∙ l .loop .inv rates
 
 returns-2 : tie.Need-returns-2 Inv-loop μ-loop
 returns-2 c =
     let l = c .before in
-    let a = l .before .args in
-    λ rates n.
-    sym (ascending-none (l .loop .before) (pairs-end (intervalsFrom (a .ends .now) rates n) (a .used) (l .loop .i) (omega arith)))
-    ∙ l .loop .inv .1 rates n
+    let a = l .before .before .args in
+    λ rates.
+    let f = pairAt (intervalsFrom (a .ends .now) rates (a .count)) in
+    let end = pieces-end f (l .before .at-most-eight .result) (l .loop .i) (omega arith) in
+    sym (ascending-none (l .loop .before) end) ∙ l .loop .inv rates
 
 pub ends-ascend-spec : {M : Type 1} → statement M
 ends-ascend-spec =
@@ -77,6 +81,7 @@ ends-ascend-spec =
     (tie.spec
     Inv-loop
     μ-loop
+    at-most-eight-requires
     loop-holds
     mul-end
     element-copy-out-end

@@ -1,43 +1,62 @@
--- `checks::intervals_fault` meets its contract.
-use native.Mathlib.Omega.{arith}
+-- `checks::intervals_fault` meets its contract: each constructor.
+use Rattle.hazards.specs.Checks.{intervalsFault}
 use borrow.Author.Needs.{needs}
-use Rattle.hazards.specs.Rates.{intervalsFrom}
-use Rattle.hazards.proofs.CheckLaws.{most-eight, intervals-is, intervals-over}
 use Rattle.hazards.proofs.checks.intervals_fault.Statement.{statement}
 use Rattle.hazards.proofs.checks.intervals_fault.Tie as tie
 
-most-pairs-requires : tie.Need-most-pairs-requires
-most-pairs-requires c κs = search needs
+enum-told : tie.Need-enum-told
+enum-told c = search needs
+
+unused-fault-requires : tie.Need-unused-fault-requires
+unused-fault-requires c κs = search needs
+
+enum-told-2 : tie.Need-enum-told-2
+enum-told-2 c = search needs
+
+unused-fault-requires-2 : tie.Need-unused-fault-requires-2
+unused-fault-requires-2 c κs = search needs
+
+enum-told-3 : tie.Need-enum-told-3
+enum-told-3 c = search needs
+
+unused-fault-requires-3 : tie.Need-unused-fault-requires-3
+unused-fault-requires-3 c κs = search needs
+
+enum-told-4 : tie.Need-enum-told-4
+enum-told-4 c = search needs
+
+pairs-fault-requires : tie.Need-pairs-fault-requires
+pairs-fault-requires c κs = search needs
 
 returns : tie.Need-returns
-returns c =
-    let a = c .before .before .args in
-    intervals-over (a .hazard) (intervalsFrom (a .ends .now) (a .rates .now) (a .count)) (c .before .most-pairs .ensures) (c .if1 .taken)
-
-used-count-requires : tie.Need-used-count-requires
-used-count-requires c κs = search needs
-
-unused-are-zero-requires : tie.Need-unused-are-zero-requires
-unused-are-zero-requires c κs = search needs
-
-ends-ascend-requires : tie.Need-ends-ascend-requires
-ends-ascend-requires c κs = omega (arith, most-eight (c .before .before .before .before .args .hazard), c .before .used-count .ensures)
+unfolding intervalsFault
+returns c = rw (c .before .enum-told .given .1) (c .unused-fault .ensures)
 
 returns-2 : tie.Need-returns-2
-returns-2 c =
-    let s = c .before .before in
-    let a = s .before .before .before .args in
-    intervals-is (a .hazard) (intervalsFrom (a .ends .now) (a .rates .now) (a .count)) (s .used-count .ensures)
-    (s .before .before .most-pairs .ensures) (s .before .if1 .left) (c .before .unused-are-zero .ensures (a .count))
-    (c .ends-ascend .ensures (a .rates .now) (a .count))
+unfolding intervalsFault
+returns-2 c = rw (c .before .enum-told2 .given .1) (c .unused-fault2 .ensures)
+
+returns-3 : tie.Need-returns-3
+unfolding intervalsFault
+returns-3 c = rw (c .before .enum-told3 .given .1) (c .unused-fault3 .ensures)
+
+returns-4 : tie.Need-returns-4
+unfolding intervalsFault
+returns-4 c = rw (c .before .enum-told4 .given .1) (c .pairs-fault .ensures)
 
 pub intervals-fault-spec : {M : Type 1} → statement M
 intervals-fault-spec =
     tie.close
     (tie.spec
-    most-pairs-requires
+    enum-told
+    unused-fault-requires
+    enum-told-2
+    unused-fault-requires-2
+    enum-told-3
+    unused-fault-requires-3
+    enum-told-4
+    pairs-fault-requires
     returns
-    used-count-requires
-    unused-are-zero-requires
-    ends-ascend-requires
-    returns-2)
+    returns-2
+    returns-3
+    returns-4)

@@ -1,38 +1,60 @@
--- `checks::range_fault` meets its contract.
-use mathlib.Core.Path.{_∙_, ap}
-use native.Mathlib.Omega.{arith}
+-- `checks::range_fault` meets its contract: each constructor.
+use Rattle.hazards.specs.Checks.{rangeFault}
 use borrow.Author.Needs.{needs}
-use Rattle.hazards.specs.Floats.{inRange}
-use Rattle.hazards.specs.Rates.{intervalsFrom}
-use Rattle.hazards.proofs.CheckLaws.{most-eight, range-is}
+use mathlib.Core.Bool.{not}
+use mathlib.Core.Path.{ap}
 use Rattle.hazards.proofs.checks.range_fault.Statement.{statement}
 use Rattle.hazards.proofs.checks.range_fault.Tie as tie
 
-used-count-requires : tie.Need-used-count-requires
-used-count-requires c κs = search needs
+enum-told : tie.Need-enum-told
+enum-told c = search needs
 
-own-rate-requires : tie.Need-own-rate-requires
-own-rate-requires c κs = search needs
+enum-known-hazard : tie.Need-enum-known-hazard
+enum-known-hazard c = search needs
 
 in-range-requires : tie.Need-in-range-requires
 in-range-requires c κs = search needs
 
-rates-in-range-requires : tie.Need-rates-in-range-requires
-rates-in-range-requires c κs = omega (arith, most-eight (c .before .before .before .args .hazard), c .before .before .used-count .ensures)
+enum-known-hazard-2 : tie.Need-enum-known-hazard-2
+enum-known-hazard-2 c = search needs
+
+in-range-requires-2 : tie.Need-in-range-requires-2
+in-range-requires-2 c κs = search needs
+
+enum-known-hazard-3 : tie.Need-enum-known-hazard-3
+enum-known-hazard-3 c = search needs
+
+piecewise-range-fault-requires : tie.Need-piecewise-range-fault-requires
+piecewise-range-fault-requires c κs = search needs
 
 returns : tie.Need-returns
-returns c =
-    let s = c .before .before .before in
-    let a = s .before .args in
-    λ ends. range-is (a .hazard) (intervalsFrom ends (a .rates .now) (a .count)) (s .used-count .ensures)
-    (c .before .in-range .ensures ∙ ap inRange (c .before .before .own-rate .ensures)) (c .rates-in-range .ensures ends (a .count))
+unfolding rangeFault
+returns c = λ ends. rw (c .enum-told .given .1)
+
+returns-2 : tie.Need-returns-2
+unfolding rangeFault
+returns-2 c = λ ends. rw (c .before .before .hazard .given .1) (ap not (c .in-range .ensures))
+
+returns-3 : tie.Need-returns-3
+unfolding rangeFault
+returns-3 c = λ ends. rw (c .before .before .hazard2 .given .1) (ap not (c .in-range2 .ensures))
+
+returns-4 : tie.Need-returns-4
+unfolding rangeFault
+returns-4 c = λ ends. rw (c .before .before .hazard3 .given .1) (c .piecewise-range-fault .ensures ends)
 
 pub range-fault-spec : {M : Type 1} → statement M
 range-fault-spec =
     tie.close
     (tie.spec
-    used-count-requires
-    own-rate-requires
+    enum-told
+    enum-known-hazard
     in-range-requires
-    rates-in-range-requires
-    returns)
+    enum-known-hazard-2
+    in-range-requires-2
+    enum-known-hazard-3
+    piecewise-range-fault-requires
+    returns
+    returns-2
+    returns-3
+    returns-4)

@@ -4,21 +4,21 @@ use mathlib.Core.Path.{_≡_, refl, sym, _∙_}
 use Prim.Native.Nat.{ℕ, _-_}
 use native.Mathlib.Omega.{arith}
 use borrow.Author.Needs.{needs}
-use Rattle.hazards.specs.Checks.{zeroPair}
+use Rattle.hazards.specs.Checks.{pairsFrom, zeroPair}
 use Rattle.hazards.specs.Lists.{all}
-use Rattle.hazards.specs.Rates.{intervalsFrom, pairsFrom}
+use Rattle.hazards.specs.Rates.{intervalsFrom, pairAt}
 use Rattle.hazards.proofs.ListLaws.{all-so-far, all-done}
-use Rattle.hazards.proofs.Pairs.{pairs-next, pairs-end}
+use Rattle.hazards.proofs.Pieces.{pieces-next, pieces-end}
 use Rattle.hazards.proofs.checks.unused_are_zero.Statement.{statement}
 use Rattle.hazards.proofs.checks.unused_are_zero.Tie as tie
 
 abbrev Inv-loop : tie.InvT-loop
-Inv-loop ends rates used zero₀ i₀ zero i =
-    (n : ℕ) → (zero && all zeroPair (pairsFrom (intervalsFrom ends rates n) i (8 - i)))
-    ≡ all zeroPair (pairsFrom (intervalsFrom ends rates n) used (8 - used))
+Inv-loop ends rates from zero₀ i₀ zero i =
+    (n : ℕ) → (zero && all zeroPair (pairsFrom (intervalsFrom ends rates n) i))
+    ≡ all zeroPair (pairsFrom (intervalsFrom ends rates n) from)
 
 abbrev μ-loop : tie.MeasureT-loop
-μ-loop ends rates used zero₀ i₀ zero i = 8 - i
+μ-loop ends rates from zero₀ i₀ zero i = 8 - i
 
 loop-holds : tie.Need-loop-holds Inv-loop μ-loop
 loop-holds c = λ n. refl
@@ -49,15 +49,16 @@ loop-again c =
     let l = c .before .before .before .before in
     let a = l .before .args in
     λ n.
-    let next = pairs-next (intervalsFrom (a .ends .now) (a .rates .now) n) 8 (l .loop .i) (omega arith) in
+    let next = pieces-next (pairAt (intervalsFrom (a .ends .now) (a .rates .now) n)) 8 (l .loop .i) (omega arith) in
     all-so-far zeroPair (l .loop .zero) next (c .zero-pair .ensures) ∙ l .loop .inv n
 
 returns : tie.Need-returns Inv-loop μ-loop
 returns c =
     let l = c .before in
     let a = l .before .args in
-    λ n. sym (all-done zeroPair (l .loop .zero) (pairs-end (intervalsFrom (a .ends .now) (a .rates .now) n) 8 (l .loop .i) (omega arith)))
-    ∙ l .loop .inv n
+    λ n.
+    let end = pieces-end (pairAt (intervalsFrom (a .ends .now) (a .rates .now) n)) 8 (l .loop .i) (omega arith) in
+    sym (all-done zeroPair (l .loop .zero) end) ∙ l .loop .inv n
 
 pub unused-are-zero-spec : {M : Type 1} → statement M
 unused-are-zero-spec =

@@ -44,12 +44,12 @@ use denote.Exit.{yes}
 use denote.Signature.{plain}
 use Rattle.hazards.specs.Draws.{drawAt}
 use Rattle.hazards.specs.declared.draws.Draw.{Draw}
-use Rattle.hazards.specs.declared.draws.DrawOutcome.{DrawOutcome}
+use Rattle.hazards.specs.declared.draws.DrawAndPosition.{DrawAndPosition}
 use Rattle.hazards.specs.declared.draws.StreamPosition.{StreamPosition}
 use Rattle.hazards.proofs.draws.Draw as D
 use Rattle.hazards.proofs.draws.Draw.Laws as D′
-use Rattle.hazards.proofs.draws.DrawOutcome as N
-use Rattle.hazards.proofs.draws.DrawOutcome.Laws as N′
+use Rattle.hazards.proofs.draws.DrawAndPosition as N
+use Rattle.hazards.proofs.draws.DrawAndPosition.Laws as N′
 use Rattle.hazards.proofs.draws.StreamPosition as P
 use Rattle.hazards.proofs.draws.StreamPosition.Laws as P′
 use Rattle.hazards.proofs.draws.draw_at as draw-at
@@ -88,13 +88,13 @@ module _ {M : Type 1} (𝓤 : URA M) (H : Heap 𝓤) (A : Atoms 𝓤) (W : Given
   Own = ShrSlice (named 0) κ u8 .own s (v ∷ [])
 
   -- what is returned and what the position becomes, of what `draw_at` gives
-  abbrev result : DrawOutcome → Draw
+  abbrev result : DrawAndPosition → Draw
   result r = record { number = r .number; threshold = r .threshold }
 
-  abbrev moved : DrawOutcome → StreamPosition
-  moved r = record { next = r .position }
+  abbrev moved : DrawAndPosition → StreamPosition
+  moved r = r .position
 
-  module _ (r : DrawOutcome) (u : Val) (is : Is N.the-row r (u ∷ [])) where
+  module _ (r : DrawAndPosition) (u : Val) (is : Is N.the-row r (u ∷ [])) where
     result-is : Is D.the-row (result r) (D′.lowered (result r) ∷ [])
     result-is =
         let f = LL.owed N.the-type N′.the-laws r (u ∷ []) is in
@@ -103,7 +103,7 @@ module _ {M : Type 1} (𝓤 : URA M) (H : Heap 𝓤) (A : Atoms 𝓤) (W : Given
     moved-is : Is P.the-row (moved r) (P′.lowered (moved r) ∷ [])
     moved-is =
         let f = LL.owed N.the-type N′.the-laws r (u ∷ []) is in
-        LL.owes P.the-type P′.the-laws (moved r) (f .1 .1 .0, tt)
+        LL.owes P.the-type P′.the-laws (moved r) (LL.owed P.the-type P′.the-laws (moved r) _ (f .1 .1 .0))
 
   -- the call of `draw_at`: what it is passed, what it asks, and what is known of its result
   abbrev to : DrawnAt 𝓤 H A at-mem run .Ghost
@@ -120,18 +120,18 @@ module _ {M : Type 1} (𝓤 : URA M) (H : Heap 𝓤) (A : Atoms 𝓤) (W : Given
       use1 W (‵ Own ⊛ ‵ Own) (shr-slice-copy 𝓤 H A W (named 0) κ u8 .twice s (v ∷ [])) $ split ! $ move ! (2 ∷ 0 ∷ []) $
       use2 W (raw (DrawnAt 𝓤 H A at-mem run .pre to)) (asked fits) $ frame ! $ done !
 
-  said : (r : DrawOutcome) → ent 𝓤 (ensured 𝓤 H A draw-at.ended (draw-at.clauses 𝓤 H A at-mem run) (κ, tt) (s, (h .next, tt)) tt r)
+  said : (r : DrawAndPosition) → ent 𝓤 (ensured 𝓤 H A draw-at.ended (draw-at.clauses 𝓤 H A at-mem run) (κ, tt) (s, (h .next, tt)) tt r)
       (fact 𝓤 (r ≡ drawAt (now s) (h .next)))
   said r =
       exE 𝓤 _ (λ ws. snd∗ 𝓤 (sem 𝓤 H A (lasts draw-at.ended (κ, tt) (s, (h .next, tt)) ws)) (fact 𝓤 (r ≡ drawAt (now s) (h .next))))
 
   -- what is had at the end: the position's borrow with its token, and the stream's
-  abbrev left : DrawOutcome → List (Item 𝓤)
+  abbrev left : DrawAndPosition → List (Item 𝓤)
   left r =
       ‵ (fobs γ (P.the-row .coded .code (moved r))) ∷ ‵ (fbor κ′ (Body (mem P.the-row) b o γ)) ∷ ‵ (flft κ′ q′)
       ∷ (‵ (flft κ q) ⊛ ‵ ftrue) ∷ ‵ Own ∷ []
 
-  exits : (r : DrawOutcome) (u : Val) → Is N.the-row r (u ∷ []) → r ≡ drawAt (now s) (h .next)
+  exits : (r : DrawAndPosition) (u : Val) → Is N.the-row r (u ∷ []) → r ≡ drawAt (now s) (h .next)
       → ent 𝓤 (⋆ 𝓤 H A (left r)) (Post (D′.lowered (result r)))
   exits r u is e =
       qed W (left r) ∵
@@ -170,7 +170,7 @@ module _ {M : Type 1} (𝓤 : URA M) (H : Heap 𝓤) (A : Atoms 𝓤) (W : Given
         use2 W (raw (DrawnAt 𝓤 H A at-mem run .pre to) ⊛ ‵ Own) (goes (LL.owed P.the-type P′.the-laws h _ was .0 .1)) $ split ! $
         calls-at ! fm (DrawnAt 𝓤 H A at-mem run) known to
         (and-then ! (load ! (from ! (stop !)) (look ! 15 refl)) (and-then ! (load ! (from ! (stop !)) (look ! 9 refl)) (no-more !))) (λ u.
-        use1 W (later (some (λ (r : DrawOutcome). ((‵ (flft κ q) ⊛ ‵ ftrue) ⊛ ‵ (N.the-row .own r (u ∷ [])))
+        use1 W (later (some (λ (r : DrawAndPosition). ((‵ (flft κ q) ⊛ ‵ ftrue) ⊛ ‵ (N.the-row .own r (u ∷ [])))
         ⊛ raw (ensured 𝓤 H A draw-at.ended (draw-at.clauses 𝓤 H A at-mem run) (κ, tt) (s, (h .next, tt)) tt r)))) (id⊢ 𝓤 _) $
         await ! tt $ pick ! (λ r. split ! $ move ! (1 ∷ []) $ use1 W (raw (fact 𝓤 (r ≡ drawAt (now s) (h .next)))) (said r) $
         heard ! (r ≡ drawAt (now s) (h .next)) (λ e. split ! $ move ! (1 ∷ []) $
@@ -179,9 +179,9 @@ module _ {M : Type 1} (𝓤 : URA M) (H : Heap 𝓤) (A : Atoms 𝓤) (W : Given
         rewrite ! 12 (λ (w : Val). ‵ (fat fullShare N′.mir l₃ 0 w)) (ap only (LL.tells N.the-type N′.the-laws r _ is)) refl $
         -- [what the draw owns; the stream's token; what the stream owns; the position's cell; what it owned; the open borrow; obs;
         -- auth; true; true; _4; …; _3; …; _2; …; _1; …; room for _0; …]
-        assigns ! (of-opd ! (load ! (from ! (fld ! refl (stop !))) (look-in ! 12 (sub ! 2 refl (whole !)))))
+        assigns ! (of-opd ! (load ! (from ! (fld ! refl (fld ! refl (stop !)))) (look-in ! 12 (sub ! 0 refl (sub ! 2 refl (whole !))))))
         (from ! (hop ! (look ! 14 refl) (fld ! refl (stop !))))
-        (store-in ! 3 (sub ! 0 refl (whole !)) (tt, record { fits = LL.owed N.the-type N′.the-laws r _ is .1 .1 .0 .1 })) $
+        (store-in ! 3 (sub ! 0 refl (whole !)) (tt, record { fits = LL.owed P.the-type P′.the-laws (moved r) _ (moved-is r u is) .0 .1 })) $
         assigns ! (agg ! (and-then ! (load ! (from ! (fld ! refl (stop !))) (look-in ! 12 (sub ! 0 refl (whole !))))
         (and-then ! (load ! (from ! (fld ! refl (stop !))) (look-in ! 12 (sub ! 1 refl (whole !)))) (no-more !)))) (from ! (stop !))
         (init ! 18 refl (LL.lawful D.the-type D′.the-laws 𝓤 H A W .typed (result r) _ (result-is r u is) .0)) $

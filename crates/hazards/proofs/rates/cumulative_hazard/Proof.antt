@@ -1,12 +1,12 @@
--- `rates::cumulative_hazard` meets its contract: a time at most 0, then each kind.
+-- `rates::cumulative_hazard` meets its contract: a time at most 0, then each constructor.
 use lib.Ieee.{ofBits}
 use borrow.Author.Needs.{needs}
-use Rattle.hazards.specs.Rates.{cumulativeHazard, cumulativeOfKind}
+use Rattle.hazards.specs.Rates.{cumulativeHazard, cumulativeOfRate}
 use Rattle.hazards.proofs.rates.cumulative_hazard.Statement.{statement}
 use Rattle.hazards.proofs.rates.cumulative_hazard.Tie as tie
 
 returns : tie.Need-returns
-unfolding cumulativeHazard cumulativeOfKind ofBits
+unfolding cumulativeHazard cumulativeOfRate ofBits
 returns c = simp (c .if1 .taken)
 
 enum-told : tie.Need-enum-told
@@ -28,23 +28,23 @@ piecewise-cumulative-requires : tie.Need-piecewise-cumulative-requires
 piecewise-cumulative-requires c κs = search needs
 
 returns-2 : tie.Need-returns-2
-unfolding cumulativeHazard cumulativeOfKind ofBits
+unfolding cumulativeHazard cumulativeOfRate ofBits
 returns-2 c = simp (c .before .before .if1 .left, c .enum-told .given .1)
 
 returns-3 : tie.Need-returns-3
-unfolding cumulativeHazard cumulativeOfKind ofBits
+unfolding cumulativeHazard cumulativeOfRate ofBits
 returns-3 c = simp (c .before .before .before .before .if1 .left, c .before .before .hazard .given .1, c .not-below-zero .ensures)
 
 returns-4 : tie.Need-returns-4
-unfolding cumulativeHazard cumulativeOfKind ofBits
+unfolding cumulativeHazard cumulativeOfRate ofBits
 returns-4 c = simp (c .before .before .before .before .if1 .left, c .before .before .hazard2 .given .1, c .if2 .taken)
 
 returns-5 : tie.Need-returns-5
-unfolding cumulativeHazard cumulativeOfKind ofBits
+unfolding cumulativeHazard cumulativeOfRate ofBits
 returns-5 c = simp (c .before .before .before .before .if1 .left, c .before .before .hazard2 .given .1, c .if2 .left)
 
 returns-6 : tie.Need-returns-6
-unfolding cumulativeHazard cumulativeOfKind ofBits
+unfolding cumulativeHazard cumulativeOfRate ofBits
 returns-6 c = simp (c .before .before .before .before .if1 .left, c .before .before .hazard3 .given .1) (c .piecewise-cumulative .ensures)
 
 pub cumulative-hazard-spec : {M : Type 1} → statement M

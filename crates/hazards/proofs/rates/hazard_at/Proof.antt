@@ -1,12 +1,12 @@
--- `rates::hazard_at` meets its contract: a negative time, then each kind.
+-- `rates::hazard_at` meets its contract: a negative time, then each constructor.
 use lib.Ieee.{ofBits}
 use borrow.Author.Needs.{needs}
-use Rattle.hazards.specs.Rates.{hazardAt, hazardOfKind}
+use Rattle.hazards.specs.Rates.{hazardAt, hazardOfRate}
 use Rattle.hazards.proofs.rates.hazard_at.Statement.{statement}
 use Rattle.hazards.proofs.rates.hazard_at.Tie as tie
 
 returns : tie.Need-returns
-unfolding hazardAt hazardOfKind ofBits
+unfolding hazardAt hazardOfRate ofBits
 returns c = simp (c .if1 .taken)
 
 enum-told : tie.Need-enum-told
@@ -28,23 +28,23 @@ piecewise-hazard-requires : tie.Need-piecewise-hazard-requires
 piecewise-hazard-requires c κs = search needs
 
 returns-2 : tie.Need-returns-2
-unfolding hazardAt hazardOfKind ofBits
+unfolding hazardAt hazardOfRate ofBits
 returns-2 c = simp (c .before .before .if1 .left, c .enum-told .given .1)
 
 returns-3 : tie.Need-returns-3
-unfolding hazardAt hazardOfKind ofBits
+unfolding hazardAt hazardOfRate ofBits
 returns-3 c = simp (c .before .before .before .before .if1 .left, c .before .before .hazard .given .1) (c .not-below-zero .ensures)
 
 returns-4 : tie.Need-returns-4
-unfolding hazardAt hazardOfKind ofBits
+unfolding hazardAt hazardOfRate ofBits
 returns-4 c = simp (c .before .before .before .before .if1 .left, c .before .before .hazard2 .given .1, c .if2 .taken)
 
 returns-5 : tie.Need-returns-5
-unfolding hazardAt hazardOfKind ofBits
+unfolding hazardAt hazardOfRate ofBits
 returns-5 c = simp (c .before .before .before .before .if1 .left, c .before .before .hazard2 .given .1, c .if2 .left)
 
 returns-6 : tie.Need-returns-6
-unfolding hazardAt hazardOfKind ofBits
+unfolding hazardAt hazardOfRate ofBits
 returns-6 c = simp (c .before .before .before .before .if1 .left, c .before .before .hazard3 .given .1) (c .piecewise-hazard .ensures)
 
 pub hazard-at-spec : {M : Type 1} → statement M

@@ -1,19 +1,21 @@
--- `rates::interval_after` meets its contract: at each turn the pairs after t among those from i on are those among all that count.
-use mathlib.Core.Path.{_≡_, sym, _∙_, ap}
-use Prim.Native.Nat.{ℕ, _-_, min}
+-- `rates::interval_after` meets its contract: at each turn i pieces and then those before the first after t, among the pieces from i on,
+-- are those before the first after t.
+use mathlib.Core.Path.{_≡_, _∙_, ap}
+use Prim.Native.Nat.{_+_, _-_}
+use native.Mathlib.Nat.{zero-add}
 use native.Mathlib.Omega.{arith}
 use borrow.Author.Needs.{needs}
 use borrow.Author.Tests.{not-true, not-false}
-use Rattle.hazards.specs.Rates.{intervalsFrom, pairsFrom, pairsAfter}
-use Rattle.hazards.proofs.Pairs.{pairs-first, pairs-next, pairs-end}
+use Rattle.hazards.specs.Rates.{intervalsFrom, piecesBy, pairAt, usedPairs, firstAfter}
+use Rattle.hazards.proofs.Pieces.{used-start, pieces-next, pieces-end}
 use Rattle.hazards.proofs.Turns.{after-here, after-past, after-none}
 use Rattle.hazards.proofs.rates.interval_after.Statement.{statement}
 use Rattle.hazards.proofs.rates.interval_after.Tie as tie
 
 abbrev Inv-loop : tie.InvT-loop
 Inv-loop ends rates count t used i₀ i =
-    pairsAfter t (pairsFrom (intervalsFrom ends rates count) i (used - i))
-    ≡ pairsAfter t (pairsFrom (intervalsFrom ends rates count) 0 (min count 8))
+    i + firstAfter t (piecesBy (pairAt (intervalsFrom ends rates count)) i (used - i))
+    ≡ firstAfter t (usedPairs (intervalsFrom ends rates count))
 
 abbrev μ-loop : tie.MeasureT-loop
 μ-loop ends rates count t used i₀ i = used - i
@@ -24,7 +26,8 @@ at-most-eight-requires c κs = search needs
 loop-holds : tie.Need-loop-holds Inv-loop μ-loop
 loop-holds c =
     let a = c .before .args in
-    rw (pairs-first (intervalsFrom (a .ends .now) (a .rates .now) (a .count)) (c .at-most-eight .ensures))
+    let s = used-start (intervalsFrom (a .ends .now) (a .rates .now) (a .count)) (c .at-most-eight .ensures) in
+    zero-add _ ∙ ap (firstAfter (a .t)) s
 
 mul-if1 : tie.Need-mul-if1 Inv-loop μ-loop
 mul-if1 c = omega arith
@@ -37,10 +40,8 @@ returns c =
     let l = c .before .before .before in
     let a = l .before .before .args in
     let p = intervalsFrom (a .ends .now) (a .rates .now) (a .count) in
-    let next = pairs-next p (l .before .at-most-eight .result) (l .loop .i) (omega arith) in
-    ap (λ (k : ℕ). pairsFrom p (l .loop .i) (k - l .loop .i)) (sym (l .before .at-most-eight .ensures))
-    ∙ sym (after-here (a .t) next (not-true _ (c .if1 .taken)))
-    ∙ l .loop .inv
+    let next = pieces-next (pairAt p) (l .before .at-most-eight .result) (l .loop .i) (omega arith) in
+    omega (arith, l .loop .inv, after-here (a .t) next (not-true _ (c .if1 .taken)))
 
 add-i : tie.Need-add-i Inv-loop μ-loop
 add-i c = omega arith
@@ -53,18 +54,16 @@ loop-again c =
     let l = c .before .before .before in
     let a = l .before .before .args in
     let p = intervalsFrom (a .ends .now) (a .rates .now) (a .count) in
-    let next = pairs-next p (l .before .at-most-eight .result) (l .loop .i) (omega arith) in
-    sym (after-past (a .t) next (not-false _ (c .if1 .left))) ∙ l .loop .inv
+    let next = pieces-next (pairAt p) (l .before .at-most-eight .result) (l .loop .i) (omega arith) in
+    omega (arith, l .loop .inv, after-past (a .t) next (not-false _ (c .if1 .left)))
 
 returns-2 : tie.Need-returns-2 Inv-loop μ-loop
 returns-2 c =
     let l = c .before in
     let a = l .before .before .args in
     let p = intervalsFrom (a .ends .now) (a .rates .now) (a .count) in
-    let end = pairs-end p (l .before .at-most-eight .result) (l .loop .i) (omega arith) in
-    ap (λ (k : ℕ). pairsFrom p (l .loop .i) (k - l .loop .i)) (sym (l .before .at-most-eight .ensures))
-    ∙ sym (after-none (a .t) end)
-    ∙ l .loop .inv
+    let end = pieces-end (pairAt p) (l .before .at-most-eight .result) (l .loop .i) (omega arith) in
+    omega (arith, l .loop .inv, after-none (a .t) end)
 
 pub interval-after-spec : {M : Type 1} → statement M
 interval-after-spec =

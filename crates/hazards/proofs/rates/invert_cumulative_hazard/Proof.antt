@@ -1,12 +1,12 @@
--- `rates::invert_cumulative_hazard` meets its contract: a w at most 0, then each kind.
+-- `rates::invert_cumulative_hazard` meets its contract: a w at most 0, then each constructor.
 use lib.Ieee.{ofBits}
 use borrow.Author.Needs.{needs}
-use Rattle.hazards.specs.Rates.{invertCumulativeHazard, waitOfKind}
+use Rattle.hazards.specs.Rates.{invertCumulativeHazard, waitOfRate}
 use Rattle.hazards.proofs.rates.invert_cumulative_hazard.Statement.{statement}
 use Rattle.hazards.proofs.rates.invert_cumulative_hazard.Tie as tie
 
 returns : tie.Need-returns
-unfolding invertCumulativeHazard waitOfKind ofBits
+unfolding invertCumulativeHazard waitOfRate ofBits
 returns c = simp (c .if1 .taken)
 
 enum-told : tie.Need-enum-told
@@ -37,22 +37,22 @@ piecewise-wait-requires : tie.Need-piecewise-wait-requires
 piecewise-wait-requires c κs = search needs
 
 returns-2 : tie.Need-returns-2
-unfolding invertCumulativeHazard waitOfKind ofBits
+unfolding invertCumulativeHazard waitOfRate ofBits
 returns-2 c = simp (c .before .before .if1 .left, c .enum-told .given .1)
 
 returns-3 : tie.Need-returns-3
-unfolding invertCumulativeHazard waitOfKind ofBits
+unfolding invertCumulativeHazard waitOfRate ofBits
 returns-3 c =
     let h = c .before .before .before in
     simp (h .before .before .if1 .left, h .hazard .given .1, ← c .before .not-below-zero .ensures)
     (c .constant-wait .ensures)
 
 returns-4 : tie.Need-returns-4
-unfolding invertCumulativeHazard waitOfKind ofBits
+unfolding invertCumulativeHazard waitOfRate ofBits
 returns-4 c = simp (c .before .before .before .before .if1 .left, c .before .before .hazard2 .given .1) (c .constant-wait2 .ensures)
 
 returns-5 : tie.Need-returns-5
-unfolding invertCumulativeHazard waitOfKind ofBits
+unfolding invertCumulativeHazard waitOfRate ofBits
 returns-5 c =
     let h = c .before .before .before in
     simp (h .before .before .if1 .left, h .hazard3 .given .1, ← c .before .not-below-zero2 .ensures)

@@ -1,4 +1,4 @@
--- `rates::piecewise_cumulative` meets its contract: at each turn the cumulative hazard over the pairs from i on, added to cum, is
+-- `rates::piecewise_cumulative` meets its contract: at each turn the cumulative hazard over the pieces from i on, added to cum, is
 -- that over all used pairs.
 use mathlib.Core.Path.{_≡_, sym, _∙_}
 use Prim.Native.Nat.{_-_}
@@ -6,17 +6,16 @@ use native.Mathlib.Omega.{arith}
 use lib.Ieee.{ofBits}
 use borrow.Author.Needs.{needs}
 use Rattle.hazards.specs.Floats.{z}
-use Rattle.hazards.specs.Rates.{intervalsFrom, pairsFrom, usedPairs, piecewiseCumulative}
-use Rattle.hazards.specs.declared.rates.HazardRate.the-variants.{Piecewise}
-use Rattle.hazards.proofs.Pairs.{pairs-start, pairs-next, pairs-end}
+use Rattle.hazards.specs.Rates.{intervalsFrom, piecesBy, pairAt, usedPairs, piecewiseCumulative}
+use Rattle.hazards.proofs.Pieces.{used-start, pieces-next, pieces-end}
 use Rattle.hazards.proofs.Turns.{cumulative-here, cumulative-later, cumulative-trailing}
 use Rattle.hazards.proofs.rates.piecewise_cumulative.Statement.{statement}
 use Rattle.hazards.proofs.rates.piecewise_cumulative.Tie as tie
 
 abbrev Inv-loop : tie.InvT-loop
 Inv-loop ends rates count trailing t used cum₀ cur-t₀ i₀ cum cur-t i =
-    piecewiseCumulative (pairsFrom (intervalsFrom ends rates count) i (used - i)) trailing t cum cur-t
-    ≡ piecewiseCumulative (usedPairs (Piecewise trailing) (intervalsFrom ends rates count)) trailing t z z
+    piecewiseCumulative (piecesBy (pairAt (intervalsFrom ends rates count)) i (used - i)) trailing t cum cur-t
+    ≡ piecewiseCumulative (usedPairs (intervalsFrom ends rates count)) trailing t z z
 
 abbrev μ-loop : tie.MeasureT-loop
 μ-loop ends rates count trailing t used cum₀ cur-t₀ i₀ cum cur-t i = used - i
@@ -28,7 +27,7 @@ loop-holds : tie.Need-loop-holds Inv-loop μ-loop
 unfolding ofBits
 loop-holds c =
     let a = c .before .args in
-    rw (pairs-start (a .trailing) (intervalsFrom (a .ends .now) (a .rates .now) (a .count)) (c .at-most-eight .ensures))
+    rw (used-start (intervalsFrom (a .ends .now) (a .rates .now) (a .count)) (c .at-most-eight .ensures))
 
 mul-end-t : tie.Need-mul-end-t Inv-loop μ-loop
 mul-end-t c = omega arith
@@ -50,7 +49,7 @@ returns c =
     let l = c .before .before .before .before .before in
     let a = l .before .before .args in
     let p = intervalsFrom (a .ends .now) (a .rates .now) (a .count) in
-    let next = pairs-next p (l .before .at-most-eight .result) (l .loop .i) (omega arith) in
+    let next = pieces-next (pairAt p) (l .before .at-most-eight .result) (l .loop .i) (omega arith) in
     sym (cumulative-here (a .trailing) (a .t) (l .loop .cum) (l .loop .cur-t) next (c .before .not-below-zero .ensures) (c .if1 .taken))
     ∙ l .loop .inv
 
@@ -65,7 +64,7 @@ loop-again c =
     let l = c .before .before .before .before .before in
     let a = l .before .before .args in
     let p = intervalsFrom (a .ends .now) (a .rates .now) (a .count) in
-    let next = pairs-next p (l .before .at-most-eight .result) (l .loop .i) (omega arith) in
+    let next = pieces-next (pairAt p) (l .before .at-most-eight .result) (l .loop .i) (omega arith) in
     sym (cumulative-later (a .trailing) (a .t) (l .loop .cum) (l .loop .cur-t) next (c .before .not-below-zero .ensures) (c .if1 .left))
     ∙ l .loop .inv
 
@@ -77,7 +76,7 @@ returns-2 c =
     let l = c .before .before in
     let a = l .before .before .args in
     let p = intervalsFrom (a .ends .now) (a .rates .now) (a .count) in
-    let end = pairs-end p (l .before .at-most-eight .result) (l .loop .i) (omega arith) in
+    let end = pieces-end (pairAt p) (l .before .at-most-eight .result) (l .loop .i) (omega arith) in
     sym (cumulative-trailing (a .trailing) (a .t) (l .loop .cum) (l .loop .cur-t) end (c .not-below-zero2 .ensures)) ∙ l .loop .inv
 
 pub piecewise-cumulative-spec : {M : Type 1} → statement M

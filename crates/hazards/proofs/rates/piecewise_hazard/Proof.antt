@@ -1,19 +1,18 @@
--- `rates::piecewise_hazard` meets its contract: at each turn the hazard over the pairs from i on is the hazard over all used pairs.
+-- `rates::piecewise_hazard` meets its contract: at each turn the hazard over the pieces from i on is the hazard over all used pairs.
 use mathlib.Core.Path.{_≡_, sym, _∙_}
 use Prim.Native.Nat.{_-_}
 use native.Mathlib.Omega.{arith}
 use borrow.Author.Needs.{needs}
-use Rattle.hazards.specs.Rates.{intervalsFrom, pairsFrom, usedPairs, piecewiseHazard}
-use Rattle.hazards.specs.declared.rates.HazardRate.the-variants.{Piecewise}
-use Rattle.hazards.proofs.Pairs.{pairs-start, pairs-next, pairs-end}
+use Rattle.hazards.specs.Rates.{intervalsFrom, piecesBy, pairAt, usedPairs, piecewiseHazard}
+use Rattle.hazards.proofs.Pieces.{used-start, pieces-next, pieces-end}
 use Rattle.hazards.proofs.Turns.{hazard-here, hazard-later, hazard-trailing}
 use Rattle.hazards.proofs.rates.piecewise_hazard.Statement.{statement}
 use Rattle.hazards.proofs.rates.piecewise_hazard.Tie as tie
 
 abbrev Inv-loop : tie.InvT-loop
 Inv-loop ends rates count trailing t used i₀ i =
-    piecewiseHazard (pairsFrom (intervalsFrom ends rates count) i (used - i)) trailing t
-    ≡ piecewiseHazard (usedPairs (Piecewise trailing) (intervalsFrom ends rates count)) trailing t
+    piecewiseHazard (piecesBy (pairAt (intervalsFrom ends rates count)) i (used - i)) trailing t
+    ≡ piecewiseHazard (usedPairs (intervalsFrom ends rates count)) trailing t
 
 abbrev μ-loop : tie.MeasureT-loop
 μ-loop ends rates count trailing t used i₀ i = used - i
@@ -24,7 +23,7 @@ at-most-eight-requires c κs = search needs
 loop-holds : tie.Need-loop-holds Inv-loop μ-loop
 loop-holds c =
     let a = c .before .args in
-    rw (pairs-start (a .trailing) (intervalsFrom (a .ends .now) (a .rates .now) (a .count)) (c .at-most-eight .ensures))
+    rw (used-start (intervalsFrom (a .ends .now) (a .rates .now) (a .count)) (c .at-most-eight .ensures))
 
 mul-if1 : tie.Need-mul-if1 Inv-loop μ-loop
 mul-if1 c = omega arith
@@ -46,7 +45,7 @@ returns c =
     let l = c .before .before .before .before .before in
     let a = l .before .before .args in
     let p = intervalsFrom (a .ends .now) (a .rates .now) (a .count) in
-    let next = pairs-next p (l .before .at-most-eight .result) (l .loop .i) (omega arith) in
+    let next = pieces-next (pairAt p) (l .before .at-most-eight .result) (l .loop .i) (omega arith) in
     c .not-below-zero .ensures ∙ sym (hazard-here (a .trailing) (a .t) next (c .before .before .if1 .taken)) ∙ l .loop .inv
 
 add-i : tie.Need-add-i Inv-loop μ-loop
@@ -60,7 +59,7 @@ loop-again c =
     let l = c .before .before .before in
     let a = l .before .before .args in
     let p = intervalsFrom (a .ends .now) (a .rates .now) (a .count) in
-    let next = pairs-next p (l .before .at-most-eight .result) (l .loop .i) (omega arith) in
+    let next = pieces-next (pairAt p) (l .before .at-most-eight .result) (l .loop .i) (omega arith) in
     sym (hazard-later (a .trailing) (a .t) next (c .if1 .left)) ∙ l .loop .inv
 
 not-below-zero-requires-2 : tie.Need-not-below-zero-requires-2 Inv-loop μ-loop
@@ -71,7 +70,7 @@ returns-2 c =
     let l = c .before .before in
     let a = l .before .before .args in
     let p = intervalsFrom (a .ends .now) (a .rates .now) (a .count) in
-    let end = pairs-end p (l .before .at-most-eight .result) (l .loop .i) (omega arith) in
+    let end = pieces-end (pairAt p) (l .before .at-most-eight .result) (l .loop .i) (omega arith) in
     c .not-below-zero2 .ensures ∙ sym (hazard-trailing (a .trailing) (a .t) end) ∙ l .loop .inv
 
 pub piecewise-hazard-spec : {M : Type 1} → statement M

@@ -1,20 +1,19 @@
--- `rates::piecewise_wait` meets its contract: at each turn the wait over the pairs from i on, for what is left of w, is the wait
+-- `rates::piecewise_wait` meets its contract: at each turn the wait over the pieces from i on, for what is left of w, is the wait
 -- from the start.
 use mathlib.Core.Path.{_≡_, sym, _∙_}
 use Prim.Native.Nat.{_-_}
 use native.Mathlib.Omega.{arith}
 use borrow.Author.Needs.{needs}
-use Rattle.hazards.specs.Rates.{intervalsFrom, pairsFrom, mostPairs, usedPairs, pairsAfter, piecewiseWait}
-use Rattle.hazards.specs.declared.rates.HazardRate.the-variants.{Piecewise}
-use Rattle.hazards.proofs.Pairs.{pairs-next, pairs-end}
+use Rattle.hazards.specs.Rates.{intervalsFrom, piecesBy, pairAt, usedPairs, waitFrom, piecewiseWait}
+use Rattle.hazards.proofs.Pieces.{used-after, pieces-next, pieces-end}
 use Rattle.hazards.proofs.Turns.{wait-here, wait-later}
 use Rattle.hazards.proofs.rates.piecewise_wait.Statement.{statement}
 use Rattle.hazards.proofs.rates.piecewise_wait.Tie as tie
 
 abbrev Inv-loop : tie.InvT-loop
 Inv-loop ends rates count trailing start w used i₀ cur-t₀ remaining-w₀ i cur-t remaining-w =
-    piecewiseWait (pairsFrom (intervalsFrom ends rates count) i (used - i)) trailing start cur-t remaining-w
-    ≡ piecewiseWait (pairsAfter start (usedPairs (Piecewise trailing) (intervalsFrom ends rates count))) trailing start start w
+    waitFrom (piecesBy (pairAt (intervalsFrom ends rates count)) i (used - i)) trailing start cur-t remaining-w
+    ≡ piecewiseWait (usedPairs (intervalsFrom ends rates count)) trailing start w
 
 abbrev μ-loop : tie.MeasureT-loop
 μ-loop ends rates count trailing start w used i₀ cur-t₀ remaining-w₀ i cur-t remaining-w = used - i
@@ -26,8 +25,10 @@ interval-after-requires : tie.Need-interval-after-requires Inv-loop μ-loop
 interval-after-requires c κs = search needs
 
 loop-holds : tie.Need-loop-holds Inv-loop μ-loop
-unfolding usedPairs mostPairs
-loop-holds c = simp (c .before .at-most-eight .ensures, c .interval-after .ensures)
+loop-holds c =
+    let a = c .before .before .args in
+    let p = intervalsFrom (a .ends .now) (a .rates .now) (a .count) in
+    rw (used-after p (c .before .at-most-eight .ensures) (a .start) (c .interval-after .ensures))
 
 mul-end-t : tie.Need-mul-end-t Inv-loop μ-loop
 mul-end-t c = omega arith
@@ -52,7 +53,7 @@ returns c =
     let l = c .before .before .before .before .before .before in
     let a = l .before .before .before .args in
     let p = intervalsFrom (a .ends .now) (a .rates .now) (a .count) in
-    let next = pairs-next p (l .before .before .at-most-eight .result) (l .loop .i) (omega arith) in
+    let next = pieces-next (pairAt p) (l .before .before .at-most-eight .result) (l .loop .i) (omega arith) in
     sym (wait-here (a .trailing) (a .start) (l .loop .cur-t) (l .loop .remaining-w) next (c .before .before .not-below-zero .ensures)
     (sym (c .before .within-capacity .ensures) ∙ c .if1 .taken))
     ∙ l .loop .inv
@@ -68,7 +69,7 @@ loop-again c =
     let l = c .before .before .before .before .before .before in
     let a = l .before .before .before .args in
     let p = intervalsFrom (a .ends .now) (a .rates .now) (a .count) in
-    let next = pairs-next p (l .before .before .at-most-eight .result) (l .loop .i) (omega arith) in
+    let next = pieces-next (pairAt p) (l .before .before .at-most-eight .result) (l .loop .i) (omega arith) in
     sym (wait-later (a .trailing) (a .start) (l .loop .cur-t) (l .loop .remaining-w) next (c .before .before .not-below-zero .ensures)
     (sym (c .before .within-capacity .ensures) ∙ c .if1 .left))
     ∙ l .loop .inv
@@ -82,7 +83,7 @@ returns-2 c =
     let a = l .before .before .before .args in
     let p = intervalsFrom (a .ends .now) (a .rates .now) (a .count) in
     c .trailing-wait .ensures
-    ∙ rw (pairs-end p (l .before .before .at-most-eight .result) (l .loop .i) (omega arith)) at (l .loop .inv)
+    ∙ rw (pieces-end (pairAt p) (l .before .before .at-most-eight .result) (l .loop .i) (omega arith)) at (l .loop .inv)
 
 pub piecewise-wait-spec : {M : Type 1} → statement M
 piecewise-wait-spec =

@@ -1,7 +1,7 @@
 -- `rates::trailing_wait` meets its contract: the trailing rate is at most 0, or not.
 use lib.Ieee.{ofBits}
 use borrow.Author.Needs.{needs}
-use Rattle.hazards.specs.Rates.{piecewiseWait}
+use Rattle.hazards.specs.Rates.{waitFrom}
 use Rattle.hazards.proofs.rates.trailing_wait.Statement.{statement}
 use Rattle.hazards.proofs.rates.trailing_wait.Tie as tie
 
@@ -9,11 +9,11 @@ not-below-zero-requires : tie.Need-not-below-zero-requires
 not-below-zero-requires c κs = search needs
 
 returns : tie.Need-returns
-unfolding piecewiseWait ofBits
+unfolding waitFrom ofBits
 returns c = simp (← c .before .not-below-zero .ensures, c .if1 .taken)
 
 returns-2 : tie.Need-returns-2
-unfolding piecewiseWait ofBits
+unfolding waitFrom ofBits
 returns-2 c = simp (← c .before .not-below-zero .ensures, c .if1 .left)
 
 pub trailing-wait-spec : {M : Type 1} → statement M

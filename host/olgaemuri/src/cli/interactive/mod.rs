@@ -25,8 +25,8 @@ enum Next {
 }
 
 pub fn interactive(arguments: &Arguments) -> Result<u8, Failure> {
-    let (text, left_out) = match arguments.files.as_slice() {
-        [] => (SessionText::default(), 0),
+    let (report, left_out) = match arguments.files.as_slice() {
+        [] => (Report::new(SessionText::default()), 0),
         [file] if file != "-" => accepted_part(load(file)?),
         _ => {
             return Err(Failure::usage(
@@ -37,7 +37,7 @@ pub fn interactive(arguments: &Arguments) -> Result<u8, Failure> {
     };
     let mut out = stdout().lock();
     let mut talk = Talk {
-        typed: Typed::new(text, &mut out),
+        typed: Typed::new(report, &mut out),
         terminal: stdin().is_terminal(),
         warned: false,
     };
@@ -53,11 +53,18 @@ pub fn interactive(arguments: &Arguments) -> Result<u8, Failure> {
 }
 
 /// The session without the commands that are refused, which change nothing, and how many these are.
-fn accepted_part(text: SessionText) -> (SessionText, usize) {
+fn accepted_part(text: SessionText) -> (Report, usize) {
     let report = Report::new(text);
+    let refused = report.refused();
+    if refused == 0 {
+        return (report, 0);
+    }
     let steps = &report.outcome().steps;
-    let is_accepted = |place: usize| steps[place].answer.is_accepted();
-    (report.text.retain_inputs(is_accepted), report.refused())
+    // what the run did not read is left out too
+    let step = |place: usize| steps.get(place);
+    let is_accepted = |place| step(place).is_some_and(|step| step.answer.is_accepted());
+    let accepted = report.text.retain_inputs(is_accepted);
+    (Report::new(accepted), refused)
 }
 
 /// What is typed, line after line.

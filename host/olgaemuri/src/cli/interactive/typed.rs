@@ -2,9 +2,9 @@
 
 use super::shown;
 use crate::cli::report::Report;
-use crate::cli::wording::told;
+use crate::cli::wording::{counted, told};
+use olgaemuri::Command;
 use olgaemuri::text::{Item, Line, Reader, Source, visible};
-use olgaemuri::{Command, SessionText};
 use std::io::{self, Write};
 use std::mem::replace;
 
@@ -21,10 +21,10 @@ pub struct Typed<'a> {
 }
 
 impl<'a> Typed<'a> {
-    pub fn new(text: SessionText, out: &'a mut dyn Write) -> Self {
-        let reader = Reader::after(&text, Source::named("typed").in_folder(""));
+    pub fn new(report: Report, out: &'a mut dyn Write) -> Self {
+        let reader = Reader::after(&report.text, Source::named("typed").in_folder(""));
         Self {
-            report: Report::new(text),
+            report,
             reader,
             count: 0,
             changed: false,
@@ -87,7 +87,8 @@ impl<'a> Typed<'a> {
         };
         let applied = self.report.outcome().applied().len();
         if times > 1 && times > applied {
-            return self.say(&format!("in force: {applied}; nothing has changed"));
+            let commands = counted(applied, "command");
+            return self.say(&format!("only {commands} in force; nothing has changed"));
         }
         let undo = Line::from(Item::Command(Command::Undo));
         self.attempt(vec![undo; times], false).map(|_| ())
@@ -108,7 +109,8 @@ impl<'a> Typed<'a> {
         match lines.len() {
             0 => self.say("nothing to do again; nothing has changed"),
             found if found < times => {
-                self.say(&format!("taken back: {found}; nothing has changed"))
+                let commands = counted(found, "command");
+                self.say(&format!("only {commands} taken back; nothing has changed"))
             }
             _ => self.attempt(lines, true).map(|_| ()),
         }
