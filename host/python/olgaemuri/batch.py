@@ -9,8 +9,8 @@ from typing import Iterable, Optional, Sequence, Union
 from . import library
 from .answer import Answer
 from .choices import Refusal
-from .commands import Command, Raw, Undo, split
-from .layout import ANSWER_BYTES, RESULT_BYTES
+from .commands import Command, Raw, Undo, check, split
+from .layout import ANSWER_BYTES, RESULT_BYTES, THRESHOLD_BYTES
 from .ledger import Event, Ledger
 
 
@@ -85,6 +85,26 @@ class Outcome:
         return [event.row() for event in self.breakdowns]
 
 
+def thresholds_bytes(thresholds: Union[bytes, Sequence[float]]) -> bytes:
+    """The bytes of thresholds, which are floats or their bytes already."""
+    if not isinstance(thresholds, (bytes, bytearray, memoryview)):
+        values = [float(threshold) for threshold in thresholds]
+        return struct.pack(f"<{len(values)}d", *values)
+    if memoryview(thresholds).nbytes % THRESHOLD_BYTES:
+        raise ValueError("the thresholds' bytes are no multiple of 8")
+    return bytes(thresholds)
+
+
+def commands_bytes(commands: Union[bytes, Iterable[Union[Command, Raw]]]) -> bytes:
+    """The bytes of commands, which are typed or bytes already."""
+    if isinstance(commands, (bytes, bytearray, memoryview)):
+        return bytes(commands)
+    commands = list(commands)
+    for command in commands:
+        check(command)
+    return b"".join(command.to_bytes() for command in commands)
+
+
 def run(
     commands: Union[bytes, Iterable[Union[Command, Raw]]], thresholds: Union[bytes, Sequence[float]], journal_length: Optional[int] = None
 ) -> Outcome:
@@ -94,18 +114,13 @@ def run(
     ``journal_length`` it has room for so many bytes of commands in force. Refusals are values here: ``answers`` has them. The same list
     gives the same outcome.
     """
-    if not isinstance(commands, bytes):
-        commands = b"".join(command.to_bytes() for command in commands)
-    if not isinstance(thresholds, bytes):
-        thresholds = struct.pack(f"<{len(thresholds)}d", *thresholds)
+    commands, thresholds = commands_bytes(commands), thresholds_bytes(thresholds)
     if journal_length is not None and journal_length < 0:
         raise ValueError("a journal's length is not below 0")
     inputs = list(split(commands))
     # more than the list can fill is never needed
     length = len(commands) if journal_length is None else min(journal_length, len(commands))
     number, journal, answers, result = library.call(commands, thresholds, length, ANSWER_BYTES * len(inputs), RESULT_BYTES)
-    if number == Refusal.INVALID_BUFFERS:
-        raise ValueError("the thresholds' bytes are no multiple of 8")
     answered, bytes_read = struct.unpack("<2Q", result)
     parts = (answers[ANSWER_BYTES * place:ANSWER_BYTES * (place + 1)] for place in range(answered))
     return _outcome(Refusal(number) if number else None, bytes_read, inputs, [Answer.from_bytes(part) for part in parts], journal)

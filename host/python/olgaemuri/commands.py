@@ -22,6 +22,12 @@ def _packed(form: str, *values) -> bytes:
         raise ValueError(f"a value does not fit into its field: {error}") from None
 
 
+def check(command) -> None:
+    """TypeError where this is no command. An int would pass for one, as it has ``to_bytes`` too."""
+    if not isinstance(command, (_Command, Raw)):
+        raise TypeError(f"expected a command as Create(...) or Set(...), not {command!r}")
+
+
 class _Command:
     code: int
 
@@ -67,6 +73,10 @@ class Set(_Command):
     now: float
     priority: int = 0
     code = layout.SET
+
+    def __post_init__(self):
+        if not isinstance(self.hazard, (hazards.Zero, hazards.Constant, hazards.Gompertz, hazards.PiecewiseConstant)):
+            raise TypeError(f"a hazard is Zero, Constant, Gompertz or PiecewiseConstant, not {self.hazard!r}")
 
     def operands(self) -> bytes:
         kind, first, pairs = hazards.to_fields(self.hazard)

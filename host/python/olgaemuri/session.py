@@ -2,13 +2,14 @@
 
 from __future__ import annotations
 
+import struct
 from contextlib import contextmanager
-from typing import Iterable, Iterator, Optional, Sequence
+from typing import Iterable, Iterator, Optional, Sequence, Union
 
 from .answer import Answer
-from .batch import Outcome, run
+from .batch import Outcome, run, thresholds_bytes
 from .choices import Refusal
-from .commands import Command, Raw, Undo
+from .commands import Command, Raw, Undo, check
 
 
 class Refused(Exception):
@@ -34,11 +35,14 @@ class Session:
 
     The engine is opened anew for each call and given the whole list; ``extend`` gives many commands in one call. Undo is the
     engine's own, so what is undone is what the engine says. A step is what one undo takes back: one ``execute``, or all that is
-    executed in a ``group``. Sessions share nothing, so different ones may be used in different threads.
+    executed in a ``group``. Sessions share nothing, so different ones may be used in different threads. ``thresholds`` are floats or
+    their bytes, as ``load`` gives them; ``commands`` are typed: ``split`` makes them of bytes.
     """
 
-    def __init__(self, thresholds: Sequence[float], commands: Iterable[Command] = (), journal_length: Optional[int] = None):
-        self._thresholds = [float(threshold) for threshold in thresholds]
+    def __init__(
+        self, thresholds: Union[bytes, Sequence[float]], commands: Iterable[Command] = (), journal_length: Optional[int] = None
+    ):
+        self._thresholds = [value for value, in struct.iter_unpack("<d", thresholds_bytes(thresholds))]
         self._journal_length = journal_length
         self._outcome: Optional[Outcome] = None
         self._list: list[Command] = []  # every command accepted, Undo among them
@@ -73,8 +77,11 @@ class Session:
 
     def extend(self, commands: Iterable[Command]) -> list[Answer]:
         """Executes several commands in one run of the engine, each a step of its own. One refused refuses all of them."""
+        if isinstance(commands, (bytes, bytearray, memoryview)):
+            raise TypeError("a session executes typed commands, not bytes: `split` makes them of bytes")
         commands = list(commands)
         for command in commands:
+            check(command)
             if isinstance(command, (Undo, Raw)):
                 raise TypeError(f"a session executes typed commands other than Undo, not {command!r}")
         answers = self._given(commands)

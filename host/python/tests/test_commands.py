@@ -29,6 +29,11 @@ class Bytes(unittest.TestCase):
             with self.assertRaises(ValueError):
                 command.to_bytes()
 
+    def test_what_is_no_hazard(self):
+        for wrong in [7, None, 0.5, om.Constant]:
+            with self.assertRaisesRegex(TypeError, "a hazard is Zero, Constant"):
+                om.Set(clock=0, cause=1, hazard=wrong, now=0.0)
+
     def test_bytes_that_no_command_has(self):
         wrong_policy = bytearray(press().to_bytes())
         wrong_policy[10] = 2

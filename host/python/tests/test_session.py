@@ -2,6 +2,7 @@
 
 import doctest
 import random
+import struct
 import unittest
 from concurrent.futures import ThreadPoolExecutor
 
@@ -114,6 +115,37 @@ class Refused(unittest.TestCase):
         with self.assertRaises(ValueError):
             session.execute(om.Pause(256, 0.0))
         self.assertEqual(session.commands, [])
+
+
+class Given(unittest.TestCase):
+    """What a session is made of."""
+
+    def test_thresholds_as_bytes(self):
+        given = struct.pack("<2d", 2.0, 1.0)
+        outcome = om.run(b"".join(command.to_bytes() for command in row_9()), given)
+        for thresholds in [given, bytearray(given), memoryview(given)]:
+            session = om.Session(thresholds, outcome.applied)
+            self.assertEqual(session.thresholds, [2.0, 1.0])
+            self.assertEqual(session.outcome.pending[0].ticks, 40)
+            self.assertEqual(om.run(row_9(), thresholds).pending[0].ticks, 40)
+            self.assertEqual(om.run(bytearray(row_9()[0].to_bytes()), thresholds).applied, row_9()[:1])
+        with self.assertRaisesRegex(ValueError, "no multiple of 8"):
+            om.Session(given[1:])
+
+    def test_what_is_no_command(self):
+        session = om.Session([2.0, 1.0], row_9())
+        before = shown(session)
+        for wrong in [7, 8, b"\x07", None, "undo", om.Undo]:
+            with self.assertRaisesRegex(TypeError, "expected a command"):
+                session.execute(wrong)
+            with self.assertRaisesRegex(TypeError, "expected a command"):
+                session.extend([om.Deliver(), wrong])
+            with self.assertRaisesRegex(TypeError, "expected a command"):
+                om.run([wrong], [2.0])
+        for wrong in [b"\x07", bytearray(b"\x07")]:
+            with self.assertRaisesRegex(TypeError, "not bytes"):
+                om.Session([2.0], wrong)
+        self.assertEqual(shown(session), before)
 
 
 class Groups(unittest.TestCase):

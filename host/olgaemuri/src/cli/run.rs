@@ -58,7 +58,8 @@ pub fn width(arguments: &Arguments) -> Result<Option<usize>, String> {
     width.map(Some).ok_or_else(expected)
 }
 
-const NARROWEST: usize = 40;
+/// With names cut and numbers of common length every table has room in so many columns.
+const NARROWEST: usize = 64;
 
 /// The one file that is to be run, or what is wrong with the words.
 fn session_file(arguments: &Arguments) -> Result<&str, &'static str> {

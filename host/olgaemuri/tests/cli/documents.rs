@@ -31,7 +31,7 @@ fn the_tour_can_be_typed() {
         .into_iter()
         .filter(|block| block.starts_with("> "))
         .collect();
-    assert_eq!(tour.len(), 3);
+    assert_eq!(tour.len(), 4);
     let tour = tour.concat();
     let (typed, shown): (Vec<&str>, Vec<&str>) = tour.lines().partition(|l| l.starts_with("> "));
     let input: String = typed

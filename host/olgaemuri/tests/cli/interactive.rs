@@ -11,8 +11,8 @@ pub fn typed(words: &[&str], input: &str) -> String {
     ran.text().to_string()
 }
 
-/// What is said on standard error where the input ends before what was typed is saved.
-const NOT_SAVED: &str = "not saved: the input has ended\n";
+/// What is said on standard error where the input ends, or `quit` comes, before what was typed is saved.
+const NOT_SAVED: &str = "not saved: what was typed is dropped\n";
 
 pub const PRESS: &str = "thresholds 2 1
 machine 0 \"press 1\"
@@ -237,6 +237,21 @@ fn help_on_every_word() {
 }
 
 #[test]
+fn help_on_topics() {
+    for topic in ["refusals", "format", "answers"] {
+        let shown = olgaemuri(&["help", topic], b"");
+        let out = typed(&[], &format!("help {topic}\nquit\n"));
+        let lines: Vec<&str> = out.lines().skip(2).collect();
+        assert_eq!(lines.join("\n"), shown.text().trim_end(), "{topic}");
+    }
+    let out = typed(&[], "help cause\n");
+    assert!(out.contains("one of the ways in which a machine breaks down"));
+    // a word of the format goes before a topic of the same name
+    let out = typed(&[], "help thresholds\n");
+    assert!(out.contains("  thresholds 0.7 1.9 0.2 "), "{out}");
+}
+
+#[test]
 fn names_with_spaces_can_be_saved_to() {
     let file = scratch("my shop.session");
     let path = file.to_str().unwrap();
@@ -263,7 +278,8 @@ fn the_end_of_the_input_warns_of_what_is_not_saved() {
         ("# noted\n", NOT_SAVED),
         ("list\n\nbanana\n", ""),
         (&save, ""),
-        ("thresholds 1\nquit\n", ""),
+        ("thresholds 1\nquit\n", NOT_SAVED),
+        ("list\nquit\n", ""),
     ] {
         let ran = olgaemuri(&["interactive"], input.as_bytes());
         assert_eq!((ran.status, ran.err.as_str()), (0, err), "{input}");

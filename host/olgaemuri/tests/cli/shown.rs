@@ -119,7 +119,7 @@ fn control_characters_do_not_reach_the_terminal() {
 #[test]
 fn tables_fit_the_width() {
     let session = String::from_utf8(super::program::example("press-shop.session")).unwrap();
-    for width in [80, 100, 120, 159] {
+    for width in [64, 80, 100, 120, 159] {
         let out = run(&["--width", &width.to_string()], &session);
         let widest = out.lines().map(columns).max().unwrap();
         assert!(widest <= width, "{widest} columns of {width}\n{out}");
@@ -134,14 +134,12 @@ fn tables_fit_the_width() {
         }
     }
     assert_eq!(run(&["--width", "400"], &session), run(&[], &session));
-    let ran = olgaemuri(&["run", "-", "--width", "x"], b"");
-    assert_eq!(ran.status, 2);
-    assert!(
-        ran.err
-            .starts_with("expected a whole number of columns, 40 or more, not `x`\n"),
-        "{}",
-        ran.err
-    );
+    for word in ["x", "63"] {
+        let ran = olgaemuri(&["run", "-", "--width", word], b"");
+        assert_eq!(ran.status, 2);
+        let told = format!("expected a whole number of columns, 64 or more, not `{word}`\n");
+        assert!(ran.err.starts_with(&told), "{}", ran.err);
+    }
 }
 
 #[test]

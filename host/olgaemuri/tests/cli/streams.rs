@@ -16,7 +16,8 @@ fn standard_error_that_cannot_be_written() {
 
 #[test]
 fn standard_output_that_cannot_be_written() {
-    let words: [&[&str]; 6] = [
+    let words: [&[&str]; 7] = [
+        &["interactive"],
         &["run", SESSION],
         &["run", SESSION, "--csv"],
         &["run", SESSION, "--json"],

@@ -40,17 +40,25 @@ const TOPICS: [(&str, &str); 9] = [
 ];
 
 /// Shows a topic, what is said of a word of the format, or where to begin.
-pub fn show(topic: Option<&str>) -> Result<u8, Failure> {
-    let text = match topic {
+pub fn show(word: Option<&str>) -> Result<u8, Failure> {
+    let text = match word {
         None => GENERAL.to_string(),
-        Some("refusals") => refusals(),
-        Some(topic) => match TOPICS.iter().find(|known| known.0 == topic) {
-            Some(known) => known.1.to_string(),
-            None => on_word(topic)?,
+        Some(word) => match topic(word) {
+            Some(text) => text,
+            None => on_word(word)?,
         },
     };
     write("-", text.as_bytes())?;
     Ok(0)
+}
+
+/// What is said of a topic.
+pub fn topic(name: &str) -> Option<String> {
+    if name == "refusals" {
+        return Some(refusals());
+    }
+    let known = TOPICS.iter().find(|known| known.0 == name)?;
+    Some(known.1.to_string())
 }
 
 /// What is said of a word of the format.

@@ -45,10 +45,14 @@ pub fn interactive(arguments: &Arguments) -> Result<u8, Failure> {
         .greet(left_out)
         .and_then(|()| talk.listen(&mut stdin().lock()));
     match ended {
-        Err(error) if error.kind() != io::ErrorKind::BrokenPipe => {
-            Err(Failure::from(format!("cannot go on: {error}")))
-        }
-        _ => Ok(0),
+        Ok(None) => Ok(0),
+        Ok(Some(unread)) => Err(Failure::from(format!(
+            "cannot read standard input: {unread}"
+        ))),
+        Err(error) if error.kind() == io::ErrorKind::BrokenPipe => Ok(0),
+        Err(error) => Err(Failure::from(format!(
+            "cannot write standard output: {error}"
+        ))),
     }
 }
 
@@ -87,8 +91,9 @@ impl Talk<'_> {
         self.typed.status()
     }
 
-    /// Reads line after line until `quit` or the end of the input.
-    fn listen(&mut self, input: &mut dyn BufRead) -> io::Result<()> {
+    /// Reads line after line until `quit` or the end of the input. Returns why a line could not be read, if that is so; an error is
+    /// one of writing.
+    fn listen(&mut self, input: &mut dyn BufRead) -> io::Result<Option<io::Error>> {
         let mut next = Next::On;
         while next == Next::On {
             if self.terminal {
@@ -96,13 +101,14 @@ impl Talk<'_> {
                 self.typed.out.flush()?;
             }
             let mut line = Vec::new();
-            next = if input.read_until(b'\n', &mut line)? == 0 {
-                self.end_of_input()?
-            } else {
-                self.take(String::from_utf8_lossy(&line).trim_end())?
+            next = match input.read_until(b'\n', &mut line) {
+                Ok(0) => self.end_of_input()?,
+                Ok(_) => self.take(String::from_utf8_lossy(&line).trim_end())?,
+                Err(unread) => return Ok(Some(unread)),
             };
         }
-        self.typed.out.flush()
+        self.typed.out.flush()?;
+        Ok(None)
     }
 
     /// Takes one typed line.
@@ -135,9 +141,15 @@ impl Talk<'_> {
         Ok(Next::On)
     }
 
-    /// Leaves, or warns where something on the terminal is not saved.
+    /// Leaves, or warns where something is not saved. From a pipe nobody can answer a warning, so that it is only told.
     fn quit(&mut self, advice: &str) -> io::Result<Next> {
-        if !self.typed.changed || !self.terminal || self.warned {
+        if !self.typed.changed || self.warned {
+            return Ok(Next::Quit);
+        }
+        if !self.terminal {
+            self.typed.out.flush()?;
+            // where it cannot be told nobody is there to hear it
+            let _ = writeln!(stderr(), "not saved: what was typed is dropped");
             return Ok(Next::Quit);
         }
         self.warned = true;
@@ -145,18 +157,12 @@ impl Talk<'_> {
         Ok(Next::On)
     }
 
-    /// On a terminal as `quit`; from a pipe nothing more can come, so that it is only told.
+    /// As `quit`; on a terminal the line with the prompt is ended first.
     fn end_of_input(&mut self) -> io::Result<Next> {
         if self.terminal {
             self.typed.say("")?;
-            return self.quit("type `save FILE`, or end the input again to leave it");
         }
-        if self.typed.changed {
-            self.typed.out.flush()?;
-            // where it cannot be told nobody is there to hear it
-            let _ = writeln!(stderr(), "not saved: the input has ended");
-        }
-        Ok(Next::Quit)
+        self.quit("type `save FILE`, or end the input again to leave it")
     }
 }
 
@@ -168,7 +174,10 @@ fn unknown(typed: &mut Typed, word: &str) -> io::Result<()> {
 
 fn help_on(typed: &mut Typed, word: &str) -> io::Result<()> {
     match help::lines_on(word, &[help::INTERACTIVE, help::FORMAT]) {
-        lines if lines.is_empty() => unknown(typed, word),
+        lines if lines.is_empty() => match help::topic(word) {
+            Some(text) => typed.say(text.trim_end_matches('\n')),
+            None => unknown(typed, word),
+        },
         lines => typed.say(lines.trim_end_matches('\n')),
     }
 }
