@@ -1,5 +1,6 @@
 -- Document 01, "Answer": the answer's fields for each reply, and what one input leaves: its answer, the state and the journal.
--- The answer's own fields and bytes are in hazards' Answers, which the sampler shares.
+-- The answer's own fields and bytes are in hazards' Answers, which the sampler shares. What each command fills in is in
+-- Execution (eventAnswer).
 use mathlib.Core.List.{List}
 use Prim.Native.Nat.{ℕ}
 use Rattle.hazards.specs.Answers.{noEvent}

@@ -1,5 +1,6 @@
 -- Document 01, refusal 1: what a state handed in is tested for, in the words of its row, and no more. Only present clocks and used places
 -- are looked at.
+-- The part about one clock is in clocks' Validation.
 use mathlib.Core.Bool.{Bool, true, not, cond, _&&_}
 use mathlib.Core.List.{List, [], _∷_}
 use Prim.Native.Nat.{ℕ}

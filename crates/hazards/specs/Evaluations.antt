@@ -1,5 +1,6 @@
 -- Document 01, "Hazard arithmetic": the three evaluations as public calls on the fields of a hazard as in SET. They refuse by 4,
 -- 5 and 6 on the hazard, and by 5 on a time or w that is NaN, infinite or above 2^40 in size.
+-- What they evaluate, operation by operation, is in Rates.
 use mathlib.Core.Bool.{Bool, true, false, cond, _&&_}
 use Prim.Native.Nat.{ℕ}
 use lib.Dec.{eqb}
