@@ -5,7 +5,7 @@ use native.Mathlib.Omega.{arith}
 use mathlib.Core.Path.{_≡_, refl, sym, ap, _∙_}
 use mathlib.Core.List.{List, [], _∷_, _++_, append-assoc, append-nil}
 use lib.ListN.{length-drop, drop-of-length-le, length, getD, take, drop, set, replicate, length-append, length-replicate}
-use lib.ListN.{replicate-append-replicate}
+use lib.ListN.{replicate-append-replicate, length-set}
 use native.Mathlib.Numerals.{add-one}
 use lib.Seq.{take-all, paste, take-at, drop-at, take-length, drop-append-add, drop-cons, set-at, append-snoc, take-suc, length-take-le}
 use lib.Seq.{drop-drop, getD-drop}
@@ -73,10 +73,48 @@ copy-suc s d i hs hd =
     front-set (take i s) d i (getD s i 0) (length-take-le i s (omega arith)) hd
     ∙ ap (λ (l : Bytes). l ++ drop (i + 1) d) (sym (take-suc s i 0 hs) ∙ ap (λ (k : ℕ). take k s) (sym (add-one i)))
 
-pub zero-suc : (d : Bytes) (i : ℕ) → i < length d → set (replicate i 0 ++ drop i d) i 0 ≡ replicate (i + 1) 0 ++ drop (i + 1) d
-zero-suc d i hd =
-    front-set (replicate i 0) d i 0 (length-replicate i 0) hd
+-- one zero more over the front of d
+pub zero-next : (d x : Bytes) (i k : ℕ) → k ≡ i + 1 → i < length d → x ≡ replicate i 0 ++ drop i d → set x i 0 ≡ replicate k 0 ++ drop k d
+zero-next d x i k e h q =
+    ap (λ (l : Bytes). set l i 0) q
+    ∙ front-set (replicate i 0) d i 0 (length-replicate i 0) h
     ∙ ap (λ (l : Bytes). l ++ drop (i + 1) d) (replicate-append-replicate i 1 0)
+    ∙ ap (λ (m : ℕ). replicate m 0 ++ drop m d) (sym e)
+
+-- zero stored at place i, then at each of the n places behind it
+unfoldable pub zerosStored : Bytes → ℕ → ℕ → Bytes
+zerosStored x i zero = set x i 0
+zerosStored x i (suc n) = set (zerosStored x i n) (i + suc n) 0
+
+pub stored-length : (x : Bytes) (i n : ℕ) → length (zerosStored x i n) ≡ length x
+unfolding zerosStored
+stored-length x i zero = length-set x i 0
+stored-length x i (suc n) = length-set (zerosStored x i n) (i + suc n) 0 ∙ stored-length x i n
+
+-- so many zeros more over the front of d
+pub zeros-next : (d x : Bytes) (i n k : ℕ) → k ≡ i + n + 1 → i + n < length d → x ≡ replicate i 0 ++ drop i d
+    → zerosStored x i n ≡ replicate k 0 ++ drop k d
+unfolding zerosStored
+zeros-next d x i zero k e h q = zero-next d x i k (omega arith) (omega arith) q
+zeros-next d x i (suc n) k e h q =
+    zero-next d (zerosStored x i n) (i + suc n) k e h (zeros-next d x i n (i + suc n) (omega arith) (omega arith) q)
+
+-- zeros over the front of d up to e: the first k are there, the rest is a part of its own
+pub zeros-joined : (d x z : Bytes) (k e : ℕ) → k ≤ e → e ≤ length d → x ≡ replicate k 0 ++ drop k d
+    → z ≡ replicate (length (take (e - k) (drop k x))) 0 → take k x ++ (z ++ drop (e - k) (drop k x)) ≡ replicate e 0 ++ drop e d
+zeros-joined d x z k e h₁ h₂ q p =
+    let f : take k x ≡ replicate k 0 = ap (λ (l : Bytes). take k l) q ∙ take-at (replicate k 0) (drop k d) k (length-replicate k 0) in
+    let r : drop k x ≡ drop k d = ap (λ (l : Bytes). drop k l) q ∙ drop-at (replicate k 0) (drop k d) k (length-replicate k 0) in
+    let n : length (take (e - k) (drop k d)) ≡ e - k = length-take-le (e - k) (drop k d) (omega (arith, length-drop k d)) in
+    let s : k + (e - k) ≡ e = omega arith in
+    ap (λ (l : Bytes). l ++ (z ++ drop (e - k) (drop k x))) f
+    ∙ ap (λ (l : Bytes). replicate k 0 ++ (l ++ drop (e - k) (drop k x))) p
+    ∙ ap (λ (l : Bytes). replicate k 0 ++ (replicate (length (take (e - k) l)) 0 ++ drop (e - k) l)) r
+    ∙ ap (λ (m : ℕ). replicate k 0 ++ (replicate m 0 ++ drop (e - k) (drop k d))) n
+    ∙ ap (λ (l : Bytes). replicate k 0 ++ (replicate (e - k) 0 ++ l)) (drop-drop (e - k) k d)
+    ∙ sym (append-assoc (replicate k 0) (replicate (e - k) 0) (drop (k + (e - k)) d))
+    ∙ ap (λ (l : Bytes). l ++ drop (k + (e - k)) d) (replicate-append-replicate k (e - k) 0)
+    ∙ ap (λ (m : ℕ). replicate m 0 ++ drop m d) s
 
 -- a part of the journal from k, with its front replaced by s
 pub paste-part : (j s : Bytes) (k : ℕ) → take k j ++ (s ++ drop (length s) (drop k j)) ≡ paste j k s (length s)

@@ -1,66 +1,60 @@
--- `journal::clear` meets its contract: at each turn the first i bytes are zero, and the rest are as they were.
-use mathlib.Core.Path.{_≡_, refl, sym, _∙_, ap}
-use mathlib.Core.List.{List, _++_}
-use Prim.Native.Nat.{ℕ, _≤_, _-_, min}
+-- `journal::clear` meets its contract: the whole eights are cleared, then the bytes left over, as a part of their own.
+use mathlib.Core.Path.{sym, _∙_}
+use Prim.Native.Nat.{_*_, _/_}
 use native.Mathlib.Omega.{arith}
 use borrow.Author.Needs.{needs}
-use lib.ListN.{length, drop, set, replicate, length-set}
-use Rattle.engine.proofs.JournalBytes.{zero-suc}
-use Rattle.engine.proofs.PartLaws.{cleared-front}
+use Rattle.engine.proofs.JournalBytes.{zeros-joined}
+use Rattle.engine.proofs.PartLaws.{cleared-front, cleared-whole}
 use Rattle.engine.proofs.journal.clear.Statement.{statement}
 use Rattle.engine.proofs.journal.clear.Tie as tie
 
-abbrev Inv-loop : tie.InvT-loop
-Inv-loop bytes₀ count end i₀ bytes i = (bytes ≡ replicate i 0 ++ drop i bytes₀) × (i ≤ end) × (length bytes ≡ length bytes₀)
-
-abbrev μ-loop : tie.MeasureT-loop
-μ-loop bytes₀ count end i₀ bytes i = end - i
-
-at-most-requires : tie.Need-at-most-requires Inv-loop μ-loop
+at-most-requires : tie.Need-at-most-requires
 at-most-requires c κs = search needs
 
-loop-holds : tie.Need-loop-holds Inv-loop μ-loop
-loop-holds c = (refl, omega arith, refl)
+clear-eights-requires : tie.Need-clear-eights-requires
+clear-eights-requires c κs = search needs
 
-slice-write-bytes : tie.Need-slice-write-bytes Inv-loop μ-loop
-slice-write-bytes c = omega arith
+mul-whole : tie.Need-mul-whole
+mul-whole c = search needs
 
-add-i : tie.Need-add-i Inv-loop μ-loop
-add-i c = omega arith
+sub-clear-singly : tie.Need-sub-clear-singly
+sub-clear-singly c = search needs
 
-loop-less : tie.Need-loop-less Inv-loop μ-loop
-loop-less c = omega arith
+part-clear-singly-start : tie.Need-part-clear-singly-start
+part-clear-singly-start c = search needs
 
-loop-again : tie.Need-loop-again Inv-loop μ-loop
-loop-again c =
-    let l = c .before .loop in
-    let bytes = c .before .before .before .before .args .bytes .now in (
-      ap (λ (x : List ℕ). set x (l .i) 0) (l .inv .0) ∙ zero-suc bytes (l .i) (omega arith),
-      omega arith,
-      length-set (l .bytes) (l .i) 0 ∙ l .inv .2,
-    )
+part-clear-singly-end : tie.Need-part-clear-singly-end
+part-clear-singly-end c = search needs
 
-same-length : tie.Need-same-length Inv-loop μ-loop
-same-length c = omega arith
+clear-singly-requires : tie.Need-clear-singly-requires
+clear-singly-requires c κs = search needs
 
-returns : tie.Need-returns Inv-loop μ-loop
+same-length : tie.Need-same-length
+same-length c = search needs
+
+returns : tie.Need-returns
 returns c =
-    let l = c .before .loop in
-    let a = c .before .before .before .before .args in
-    let e : l .i ≡ min (a .count) (length (a .bytes .now)) = omega arith in
-    l .inv .0 ∙ sym (cleared-front (a .bytes .now) (a .count) e)
+    let m = c .before .before .before .before .before .before in
+    let a = m .before .before .before .before .args in
+    let bytes = a .bytes .now in
+    let end = m .before .before .at-most .result in
+    let whole = end / 8 * 8 in
+    let rest = c .before .before .clear-singly in
+    zeros-joined bytes (m .clear-eights .last .0) (rest .last .0) whole end (omega arith) (omega arith)
+    (m .clear-eights .ensures ∙ cleared-whole bytes whole (omega arith))
+    (rest .ensures)
+    ∙ sym (cleared-front bytes (a .count) {end = end} (omega arith))
 
 pub clear-spec : {M : Type 1} → statement M
 clear-spec =
     tie.close
     (tie.spec
-    Inv-loop
-    μ-loop
     at-most-requires
-    loop-holds
-    slice-write-bytes
-    add-i
-    loop-less
-    loop-again
+    clear-eights-requires
+    mul-whole
+    sub-clear-singly
+    part-clear-singly-start
+    part-clear-singly-end
+    clear-singly-requires
     same-length
     returns)
