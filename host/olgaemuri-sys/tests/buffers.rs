@@ -59,6 +59,20 @@ fn enough_answer_bytes_reach_the_end() {
 }
 
 #[test]
+fn a_journal_of_any_length_is_opened_between_bytes_that_stay() {
+    let parts = (0..8).flat_map(|place| (0..=17).map(move |length| place..place + length));
+    for part in parts {
+        let (mut space, mut result) = ([0x5a; 32], [0xc3; RESULT_BYTES]);
+        let journal = &mut space[part.clone()];
+        assert_eq!(run(&[], &[], journal, &mut [], &mut result), 0);
+        assert_eq!(result, [0; RESULT_BYTES]);
+        for (place, byte) in space.into_iter().enumerate() {
+            assert_eq!(byte == 0, part.contains(&place), "{part:?}: {place}");
+        }
+    }
+}
+
+#[test]
 fn other_lengths_are_refused_by_18_and_nothing_is_written() {
     let lengths = (0..=24).flat_map(|stream| (0..=24).map(move |result| (stream, result)));
     for (stream, result) in lengths {

@@ -1,0 +1,32 @@
+// What the program writes: each wrong case as it is met, then the counts.
+use libc::STDOUT_FILENO;
+
+fn print(text: &[u8]) {
+    io::write_all(STDOUT_FILENO, text);
+}
+
+fn print_number(number: u64) {
+    io::print_decimal(STDOUT_FILENO, number);
+}
+
+pub fn print_count(label: &[u8], count: u64, what: &[u8], wrong: u64) {
+    print(label);
+    print_number(count);
+    print(what);
+    print_number(wrong);
+    print(b" wrong\n");
+}
+
+pub fn print_part(length: u64, place: u64) {
+    print(b"length ");
+    print_number(length);
+    print(b" at place ");
+    print_number(place);
+    print(b" is not cleared as is due\n");
+}
+
+pub fn print_command(command: u64) {
+    print(b"command ");
+    print_number(command);
+    print(b" is not reverted as is due\n");
+}
