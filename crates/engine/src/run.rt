@@ -154,7 +154,9 @@ fn run_commands(
     ensures { λ r. ⌜ ran r (now (journal .exit)) (now (answers .exit)) (now (result .exit))
         ≡ openedRun (now (commands .entry)) (now (stream .entry)) (length (now (journal .entry))) (now (answers .entry)) ⌝ }
 {
-    let mut state = crate::opening::opened_state();
+    let opened = crate::opening::opened_state();
+    let mut slots = opened.slots;
+    let mut shared = opened.shared;
     let mut applied: usize = 0;
     let mut stale = false;
     let mut answered: usize = 0;
@@ -176,15 +178,21 @@ fn run_commands(
             continue;
         }
         if stale {
-            state = crate::replay::replayed_state(stream, journal.len(), &journal[..applied]);
+            let replayed = crate::replay::replayed_state(
+                stream,
+                journal.len(),
+                &journal[..applied],
+            );
+            slots = replayed.slots;
+            shared = replayed.shared;
             stale = false;
         }
         let command = &commands[start..at];
-        let target = crate::execution::target(state.shared, command);
+        let target = crate::execution::target(shared, command);
         // A clock above 15 is refused before its slot is looked at, so any slot does.
         let near = if target < 16 { target } else { 15 };
         let size = journal.len();
-        let outcome = perform_on(state.slots[near], state.shared, stream, size, command);
+        let outcome = perform_on(slots[near], shared, stream, size, command);
         let refusal = outcome.number;
         let answer = outcome.answer;
         if answer_reverted(refusal, answer, &commands[at..], answers, place) {
@@ -195,10 +203,9 @@ fn run_commands(
         answer_at(refusal, answer, applied, journal, answers, place, command);
         if refusal == 0 {
             let moved = outcome.slot;
-            state.slots[target] = moved;
-            let next = outcome.shared;
-            state.shared = next;
-            applied = state.shared.applied_length;
+            slots[target] = moved;
+            shared = outcome.shared;
+            applied = shared.applied_length;
         }
     }
     finish(result, answered, at);

@@ -19,6 +19,7 @@ use Rattle.engine.specs.Run.{ran}
 use Rattle.engine.specs.RunInternals.{journalAndAnswers, answerAt, openedRun}
 use Rattle.engine.specs.declared.state.ClockSlot.{ClockSlot}
 use Rattle.engine.specs.declared.state.EngineState.{EngineState}
+use Rattle.engine.specs.declared.state.SharedState.{SharedState}
 use Rattle.engine.proofs.SoundState.{SoundState}
 use Rattle.engine.proofs.EveryPlace.{getD-any}
 use Rattle.engine.proofs.JournalBytes.{partOf, code-at}
@@ -29,15 +30,19 @@ use Rattle.engine.proofs.RunUndos.{Deferred, deferred-begins, goes-on-i
 use Rattle.engine.proofs.run.run_commands.Statement.{statement}
 use Rattle.engine.proofs.run.run_commands.Tie as tie
 
+-- the state stands in two locals
+abbrev stateOf : List ClockSlot → SharedState → EngineState
+stateOf slots shared = record { slots = slots; shared = shared }
+
 abbrev Inv-loop : tie.InvT-loop
-Inv-loop commands stream journal₀ answers₀ result₀ state₀ applied₀ stale₀ answered₀ at₀ journal answers result state applied stale
-    answered at =
+Inv-loop commands stream journal₀ answers₀ result₀ slots₀ shared₀ applied₀ stale₀ answered₀ at₀ journal answers result slots shared
+    applied stale answered at =
     Deferred commands stream (length journal₀) (length answers₀) (openedRun commands stream (length journal₀) answers₀) journal answers
-    result state applied stale answered at
+    result (stateOf slots shared) applied stale answered at
 
 abbrev μ-loop : tie.MeasureT-loop
-μ-loop commands stream journal₀ answers₀ result₀ state₀ applied₀ stale₀ answered₀ at₀ journal answers result state applied stale
-    answered at =
+μ-loop commands stream journal₀ answers₀ result₀ slots₀ shared₀ applied₀ stale₀ answered₀ at₀ journal answers result slots shared
+    applied stale answered at =
     length commands - at
 
 opened-state-requires : tie.Need-opened-state-requires Inv-loop μ-loop
@@ -45,11 +50,11 @@ opened-state-requires c κs = search needs
 
 loop-holds : tie.Need-loop-holds Inv-loop μ-loop
 loop-holds c =
-    let m = c .before .before .before .before .before .before in
+    let m = c .before .before .before .before .before .before .before .before in
     let a = m .args in
     let bound : length (a .journal .now) < 2 ^ 63 = omega arith in
     deferred-begins (a .commands .now) (a .stream .now) (length (a .journal .now)) (a .answers .now) (a .result .now)
-    (c .opened-state .ensures) (m .pre .0) bound (m .pre .1)
+    (c .before .before .opened-state .ensures) (m .pre .0) bound (m .pre .1)
 
 sub-end-run : tie.Need-sub-end-run Inv-loop μ-loop
 sub-end-run c = omega arith
@@ -69,7 +74,7 @@ abbrev turn : tie.After-end-run Inv-loop μ-loop → tie.At-loop Inv-loop μ-loo
 turn c = c .before .before .before .before .before
 
 abbrev begin : tie.After-end-run Inv-loop μ-loop → tie.Start Inv-loop μ-loop
-begin c = turn c .before .before .before .before .before .before .before
+begin c = turn c .before .before .before .before .before .before .before .before .before
 
 more : (c : tie.After-end-run Inv-loop μ-loop) → turn c .loop .at < length (begin c .args .commands .now)
 more c = c .before .before .before .before .loop-test .taken
@@ -182,7 +187,7 @@ loop-again c =
     let reverted = c .before .before .revert in
     next-deferred _ _ _ _ _ (input (known w)) (w .width .result) (wide w) (code-is w ∙ put .before .before .before .before .if2 .taken)
     (l .applied) (l .inv .counted) (reverted .ensures .0) (reverted .ensures .1) (omega (arith, l .inv .running .same-journal))
-    (omega (arith, l .inv .running .same-answers)) (l .state) (put .put-answer .ensures ∙ ap (withAnswer _ _) (undo-answer put))
+    (omega (arith, l .inv .running .same-answers)) (stateOf (l .slots) (l .shared)) (put .put-answer .ensures ∙ ap (withAnswer _ _) (undo-answer put))
 
 -- ---- another command: a stale state is replayed first
 
@@ -200,23 +205,30 @@ replayed-state-requires c κs =
 abbrev knownAt : tie.Joined3 Inv-loop μ-loop → tie.Else1 Inv-loop μ-loop
 knownAt c = known (c .before .before)
 
-fresh : (c : tie.Joined3 Inv-loop μ-loop) → c .if3 .state ≡ turn (ended (knownAt c)) .loop .inv .current
+-- the state of the two locals
+abbrev stateAt : tie.Joined3 Inv-loop μ-loop → EngineState
+stateAt c = stateOf (c .if3 .slots) (c .if3 .shared)
+
+same-parts : {a b : List ClockSlot} {x y : SharedState} → a ≡ b → x ≡ y → stateOf a x ≡ stateOf b y
+same-parts {b = b} {x = x} p q = ap (λ (l : List ClockSlot). stateOf l x) p ∙ ap (λ (t : SharedState). stateOf b t) q
+
+fresh : (c : tie.Joined3 Inv-loop μ-loop) → stateAt c ≡ turn (ended (knownAt c)) .loop .inv .current
 fresh c =
     let l = turn (ended (knownAt c)) .loop in
     ⊎-elim
-    (λ w. w .3 ∙ replayed-current _ _ _ _ _ (l .inv .running) (l .applied) (l .inv .counted) _ (w .2 .ensures))
-    (λ w. w .1 ∙ l .inv .fresh (w .0 .left))
+    (λ w. same-parts (w .5) (w .6) ∙ replayed-current _ _ _ _ _ (l .inv .running) (l .applied) (l .inv .counted) _ (w .2 .ensures))
+    (λ w. same-parts (w .1) (w .2) ∙ l .inv .fresh (w .0 .left))
     (c .if3 .came)
 
-counted : (c : tie.Joined3 Inv-loop μ-loop) → turn (ended (knownAt c)) .loop .applied ≡ c .if3 .state .shared .«applied_length»
+counted : (c : tie.Joined3 Inv-loop μ-loop) → turn (ended (knownAt c)) .loop .applied ≡ c .if3 .shared .«applied_length»
 counted c =
     turn (ended (knownAt c)) .loop .inv .counted ∙ ap (λ (s : EngineState). s .shared .«applied_length») (sym (fresh c))
 
-now-input : (c : tie.Joined3 Inv-loop μ-loop) → Here (knownAt c) (c .if3 .state)
+now-input : (c : tie.Joined3 Inv-loop μ-loop) → Here (knownAt c) (stateAt c)
 now-input c = subst (Here (knownAt c)) (sym (fresh c)) (input (knownAt c))
 
 good : (c : tie.Joined3 Inv-loop μ-loop)
-    → SoundState (start (knownAt c) .args .stream .now) (length (start (knownAt c) .args .journal .now)) (c .if3 .state)
+    → SoundState (start (knownAt c) .args .stream .now) (length (start (knownAt c) .args .journal .now)) (stateAt c)
 good c = running-sound _ _ _ _ _ (now-input c .running)
 
 sub-command : tie.Need-sub-command Inv-loop μ-loop
@@ -241,24 +253,24 @@ near-is c b = ⊎-elim (λ w. w .1) (λ w. absurd (omega (arith, w .0 .left, b))
 mul-perform-on : tie.Need-mul-perform-on Inv-loop μ-loop
 mul-perform-on c = omega (arith, near (c .before))
 
-element-copy-out-perform-on : tie.Need-element-copy-out-perform-on Inv-loop μ-loop
-element-copy-out-perform-on c = omega (arith, near (c .before))
+array-copy-out-perform-on : tie.Need-array-copy-out-perform-on Inv-loop μ-loop
+array-copy-out-perform-on c = omega (arith, near (c .before))
 
 perform-on-requires : tie.Need-perform-on-requires Inv-loop μ-loop
 perform-on-requires c κs =
-    let k = c .before .before .before .before .before .before .before in
+    let k = c .before .before .before .before .before in
     let g = good k in
     record { places = g .queued; requests = omega (arith, g .count, g .applied, now-input k .running .bound) }
 
 -- the command that is performed: the slot read for it, the clock that it is about, the state that it is performed on and its width
 abbrev chosen : tie.After-perform-on Inv-loop μ-loop → tie.Joined4 Inv-loop μ-loop
-chosen c = c .before .before .before .before
+chosen c = c .before .before .before
 
 abbrev targeted : tie.After-perform-on Inv-loop μ-loop → tie.After-target Inv-loop μ-loop
 targeted c = chosen c .before
 
 abbrev freshened : tie.After-perform-on Inv-loop μ-loop → tie.Joined3 Inv-loop μ-loop
-freshened c = targeted c .before .before .before
+freshened c = targeted c .before .before
 
 abbrev widthed : tie.After-perform-on Inv-loop μ-loop → tie.After-width Inv-loop μ-loop
 widthed c = freshened c .before .before
@@ -269,9 +281,9 @@ other : (c : tie.After-perform-on Inv-loop μ-loop)
 other c q = freshened c .before .if2 .left (sym (code-is (widthed c)) ∙ q)
 
 slot-is : (c : tie.After-perform-on Inv-loop μ-loop) (d : ClockSlot) → targeted c .target .result < 16
-    → getD (freshened c .if3 .state .slots) (chosen c .if4 .near) d ≡ slotAt (freshened c .if3 .state) (targeted c .target .result)
+    → getD (freshened c .if3 .slots) (chosen c .if4 .near) d ≡ slotAt (stateAt (freshened c)) (targeted c .target .result)
 slot-is c d b =
-    let s = freshened c .if3 .state in
+    let s = stateAt (freshened c) in
     let sixteen = good (freshened c) .slots in
     getD-any (s .slots) (chosen c .if4 .near) d emptySlot (omega (arith, near (chosen c)))
     ∙ ap (slotAt s) (near-is (chosen c) b)
@@ -365,11 +377,11 @@ below c =
     next-below _ _ _ _ _ (now-input (freshened m)) (w .width .result) (wide w) (other m) (m .perform-on .result) (targeted m .target .result)
     (targeted m .target .ensures) _ (slot-is m _) (m .perform-on .ensures) (c .before .if6 .taken)
 
-mul-moved : tie.Need-mul-moved Inv-loop μ-loop
-mul-moved c = let b = below c in omega arith
+mul-slots : tie.Need-mul-slots Inv-loop μ-loop
+mul-slots c = let b = below c in omega arith
 
-element-set-from-moved : tie.Need-element-set-from-moved Inv-loop μ-loop
-element-set-from-moved c = let b = below c in omega arith
+array-set-from-slots : tie.Need-array-set-from-slots Inv-loop μ-loop
+array-set-from-slots c = let b = below c in omega arith
 
 loop-less-3 : tie.Need-loop-less-3 Inv-loop μ-loop
 loop-less-3 c =
@@ -380,7 +392,7 @@ loop-less-3 c =
 answered : (c : tie.After-answer-at Inv-loop μ-loop)
     → journalAndAnswers (c .answer-at .last .1 .1 .1 .0) (c .answer-at .last .1 .1 .1 .1 .0)
     ≡ answerAt (performed c .perform-on .result .number) (performed c .perform-on .result .answer)
-    (freshened (performed c) .if3 .state .shared .«applied_length») (turn (ended (known (widthed (performed c)))) .loop .journal)
+    (freshened (performed c) .if3 .shared .«applied_length») (turn (ended (known (widthed (performed c)))) .loop .journal)
     (ended (known (widthed (performed c))) .end-run .last .1 .0)
     (answerWidth * turn (ended (known (widthed (performed c)))) .loop .answered)
     (partOf (bytes (widthed (performed c))) (place (widthed (performed c))) (widthed (performed c) .width .result))
@@ -484,7 +496,7 @@ run-commands-spec =
     part-command-end
     target-requires
     mul-perform-on
-    element-copy-out-perform-on
+    array-copy-out-perform-on
     perform-on-requires
     sub-answer-reverted
     part-answer-reverted-start
@@ -495,8 +507,8 @@ run-commands-spec =
     loop-less-2
     loop-again-2
     answer-at-requires
-    mul-moved
-    element-set-from-moved
+    mul-slots
+    array-set-from-slots
     loop-less-3
     loop-again-3
     loop-less-4
