@@ -4,7 +4,7 @@ ghost use mathlib.Core.Path.{_≡_};
 ghost use Prim.Native.Nat.{ℕ};
 ghost use lib.ListN.{length};
 ghost use Rattle.engine.specs.State.{emptySlot};
-ghost use Rattle.engine.specs.Opening.{openedState};
+ghost use Rattle.engine.specs.Opening.{openedShared, openedState};
 ghost use Rattle.engine.specs.Sessions.{newSession};
 ghost use Rattle.engine.specs.Instance.{engineOf, openedWith};
 use crate::state::ClockSlot;
@@ -39,26 +39,34 @@ pub fn empty_slot() -> ClockSlot
     }
 }
 
-// At opening nothing exists.
-pub(crate) fn opened_state() -> EngineState
-    ensures { λ r. ⌜ r ≡ openedState ⌝ }
+// At opening nothing is queued, made, drawn or applied.
+pub(crate) fn opened_shared() -> SharedState
+    ensures { λ r. ⌜ r ≡ openedShared ⌝ }
 {
-    let slot = empty_slot();
     let request = Request {
         clock: 0,
         ticks: Ticks { low: 0, high: 0 },
         priority: 0,
         index: 0,
     };
+    SharedState {
+        queue: [request; 16],
+        queued: 0,
+        request_count: 0,
+        position: 0,
+        applied_length: 0,
+    }
+}
+
+// At opening nothing exists.
+pub(crate) fn opened_state() -> EngineState
+    ensures { λ r. ⌜ r ≡ openedState ⌝ }
+{
+    let slot = empty_slot();
+    let shared = opened_shared();
     EngineState {
         slots: [slot; 16],
-        shared: SharedState {
-            queue: [request; 16],
-            queued: 0,
-            request_count: 0,
-            position: 0,
-            applied_length: 0,
-        },
+        shared,
     }
 }
 

@@ -154,9 +154,9 @@ fn run_commands(
     ensures { λ r. ⌜ ran r (now (journal .exit)) (now (answers .exit)) (now (result .exit))
         ≡ openedRun (now (commands .entry)) (now (stream .entry)) (length (now (journal .entry))) (now (answers .entry)) ⌝ }
 {
-    let opened = crate::opening::opened_state();
-    let mut slots = opened.slots;
-    let mut shared = opened.shared;
+    let slot = crate::opening::empty_slot();
+    let mut slots = [slot; 16];
+    let mut shared = crate::opening::opened_shared();
     let mut applied: usize = 0;
     let mut stale = false;
     let mut answered: usize = 0;

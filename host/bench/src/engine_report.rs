@@ -5,6 +5,7 @@ use crate::timing::best;
 use cases::sessions::Run;
 use reference::batch::{self, RESULT_BYTES};
 use reference::unvalidated;
+use std::cell::RefCell;
 use std::hint::black_box;
 
 /// The oracle as written, the Rust without what a run from opening never needs, Rattle.
@@ -134,12 +135,14 @@ fn checked_times(workload: &EngineWorkload) -> [f64; 3] {
     times(SIDES, workload)
 }
 
-/// Nanoseconds of a whole run, for each side.
+/// Nanoseconds of a whole run, for each side. All sides write the same buffers: how the pages of a large one lie in the cache makes more
+/// difference than the sides do.
 fn times<const N: usize>(sides: [Run; N], workload: &EngineWorkload) -> [f64; N] {
+    let buffers = RefCell::new(Buffers::new(workload));
     let mut runs = sides.map(|side| {
-        let mut buffers = Buffers::new(workload);
+        let buffers = &buffers;
         move || {
-            black_box(buffers.run(side, workload));
+            black_box(buffers.borrow_mut().run(side, workload));
         }
     });
     best(1, runs.each_mut().map(|run| run as &mut dyn FnMut()))

@@ -7,9 +7,12 @@ use Rattle.engine.proofs.opening.opened_state.Tie as tie
 empty-slot-requires : tie.Need-empty-slot-requires
 empty-slot-requires c κs = search needs
 
+opened-shared-requires : tie.Need-opened-shared-requires
+opened-shared-requires c κs = search needs
+
 returns : tie.Need-returns
 unfolding openedState
-returns c = simp (c .empty-slot .ensures)
+returns c = simp (c .before .empty-slot .ensures, c .opened-shared .ensures)
 
 pub opened-state-spec : {M : Type 1} → statement M
-opened-state-spec = tie.close (tie.spec empty-slot-requires returns)
+opened-state-spec = tie.close (tie.spec empty-slot-requires opened-shared-requires returns)

@@ -7,13 +7,14 @@ use Prim.Native.Nat.{ℕ, _+_, _-_, _*_, _<_, _≤_, _^_}
 use native.Mathlib.Omega.{arith}
 use borrow.Author.Needs.{needs}
 use lib.Dec.{eqb}
-use lib.ListN.{length, getD, drop}
+use lib.ListN.{length, getD, drop, replicate}
 use lib.Seq.{length-take-le}
 use Rattle.hazards.specs.Answers.{answerWidth, noEvent, withAnswer}
 use Rattle.engine.specs.Refusals.{nothingApplied}
 use Rattle.engine.specs.Commands as commands
 use Rattle.engine.specs.Commands.{widthOf}
 use Rattle.engine.specs.State.{emptySlot, slotAt}
+use Rattle.engine.specs.Opening.{openedShared, openedState}
 use Rattle.engine.specs.Engine.{code}
 use Rattle.engine.specs.Run.{ran}
 use Rattle.engine.specs.RunInternals.{journalAndAnswers, answerAt, openedRun}
@@ -45,16 +46,24 @@ abbrev μ-loop : tie.MeasureT-loop
     applied stale answered at =
     length commands - at
 
-opened-state-requires : tie.Need-opened-state-requires Inv-loop μ-loop
-opened-state-requires c κs = search needs
+empty-slot-requires : tie.Need-empty-slot-requires Inv-loop μ-loop
+empty-slot-requires c κs = search needs
+
+opened-shared-requires : tie.Need-opened-shared-requires Inv-loop μ-loop
+opened-shared-requires c κs = search needs
+
+opened : {slot : ClockSlot} {shared : SharedState} → slot ≡ emptySlot → shared ≡ openedShared → stateOf (replicate 16 slot) shared ≡ openedState
+unfolding openedState
+opened {shared = shared} e f =
+    ap (λ (s : ClockSlot). stateOf (replicate 16 s) shared) e ∙ ap (λ (t : SharedState). stateOf (replicate 16 emptySlot) t) f
 
 loop-holds : tie.Need-loop-holds Inv-loop μ-loop
 loop-holds c =
-    let m = c .before .before .before .before .before .before .before .before in
+    let m = c .before .before .before .before .before .before .before in
     let a = m .args in
     let bound : length (a .journal .now) < 2 ^ 63 = omega arith in
     deferred-begins (a .commands .now) (a .stream .now) (length (a .journal .now)) (a .answers .now) (a .result .now)
-    (c .before .before .opened-state .ensures) (m .pre .0) bound (m .pre .1)
+    (opened (c .before .empty-slot .ensures) (c .opened-shared .ensures)) (m .pre .0) bound (m .pre .1)
 
 sub-end-run : tie.Need-sub-end-run Inv-loop μ-loop
 sub-end-run c = omega arith
@@ -74,7 +83,7 @@ abbrev turn : tie.After-end-run Inv-loop μ-loop → tie.At-loop Inv-loop μ-loo
 turn c = c .before .before .before .before .before
 
 abbrev begin : tie.After-end-run Inv-loop μ-loop → tie.Start Inv-loop μ-loop
-begin c = turn c .before .before .before .before .before .before .before .before .before
+begin c = turn c .before .before .before .before .before .before .before .before
 
 more : (c : tie.After-end-run Inv-loop μ-loop) → turn c .loop .at < length (begin c .args .commands .now)
 more c = c .before .before .before .before .loop-test .taken
@@ -467,7 +476,8 @@ run-commands-spec =
     (tie.spec
     Inv-loop
     μ-loop
-    opened-state-requires
+    empty-slot-requires
+    opened-shared-requires
     loop-holds
     sub-end-run
     part-end-run-start
