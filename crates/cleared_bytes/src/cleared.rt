@@ -18,37 +18,39 @@ fn bytes_but(from: usize, to: usize) -> [u8; 32] {
     bytes
 }
 
-// The first `length` of the bytes from a place to the buffer's end.
-fn clears_front(length: usize, place: usize) -> bool
-    requires { ⌜ (length ≤ 17) × (place ≤ 7) ⌝ }
-{
-    let mut bytes = bytes_but(0, 0);
-    engine::journal::clear(&mut bytes[place..], length);
-    let due = bytes_but(place, place + length);
-    check::same(&bytes, &due)
+// So many bytes from a place on, as the front of all that is behind it.
+fn clear_front(bytes: &mut [u8], place: usize, length: usize) {
+    if place <= bytes.len() {
+        engine::journal::clear(&mut bytes[place..], length);
+    }
 }
 
-// A part of `length` bytes, with a count of 18.
-fn clears_part(length: usize, place: usize) -> bool
-    requires { ⌜ (length ≤ 17) × (place ≤ 7) ⌝ }
-{
-    let mut bytes = bytes_but(0, 0);
-    let end = place + length;
-    engine::journal::clear(&mut bytes[place..end], 18);
-    let due = bytes_but(place, end);
-    check::same(&bytes, &due)
+// The bytes from one place up to another, as a part of their own; the count is above every length.
+fn clear_part(bytes: &mut [u8], from: usize, to: usize) {
+    if from <= to {
+        if to <= bytes.len() {
+            engine::journal::clear(&mut bytes[from..to], 18);
+        }
+    }
 }
 
-fn wrong_ways(length: usize, place: usize) -> u64
-    requires { ⌜ (length ≤ 17) × (place ≤ 7) ⌝ }
+fn wrong_ways(place: usize, length: usize) -> u64
+    requires { ⌜ (place ≤ 7) × (length ≤ 17) ⌝ }
     ensures { λ r. ⌜ r ≤ 2 ⌝ }
 {
-    let front = clears_front(length, place);
-    let part = clears_part(length, place);
-    if !(front & part) {
-        crate::report::print_part(length as u64, place as u64);
+    let end = place + length;
+    let due = bytes_but(place, end);
+    let mut front = bytes_but(0, 0);
+    clear_front(&mut front, place, length);
+    let mut part = bytes_but(0, 0);
+    clear_part(&mut part, place, end);
+    let front_is_due = check::same(&front, &due);
+    let part_is_due = check::same(&part, &due);
+    if front_is_due & part_is_due {
+        return 0;
     }
-    (!front) as u64 + (!part) as u64
+    crate::report::print_part(place as u64, length as u64);
+    if front_is_due | part_is_due { 1 } else { 2 }
 }
 
 fn wrong_lengths(place: usize) -> u64
@@ -58,7 +60,7 @@ fn wrong_lengths(place: usize) -> u64
     let mut wrong: u64 = 0;
     let mut length: usize = 0;
     while length < 18 {
-        wrong += wrong_ways(length, place);
+        wrong += wrong_ways(place, length);
         length += 1;
     }
     wrong

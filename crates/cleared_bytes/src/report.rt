@@ -17,16 +17,16 @@ pub fn print_count(label: &[u8], count: u64, what: &[u8], wrong: u64) {
     print(b" wrong\n");
 }
 
-pub fn print_part(length: u64, place: u64) {
-    print(b"length ");
-    print_number(length);
-    print(b" at place ");
+pub fn print_part(place: u64, length: u64) {
+    print(b"place ");
     print_number(place);
-    print(b" is not cleared as is due\n");
+    print(b", length ");
+    print_number(length);
+    print(b": not cleared as is due\n");
 }
 
 pub fn print_command(command: u64) {
     print(b"command ");
     print_number(command);
-    print(b" is not reverted as is due\n");
+    print(b": not reverted as is due\n");
 }

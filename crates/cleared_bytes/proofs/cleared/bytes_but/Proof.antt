@@ -1,7 +1,5 @@
 -- `cleared::bytes_but` is safe and ends: 32 turns.
-use Prim.Native.Nat.{_≤_, _+_, _-_, _*_}
-use mathlib.Core.Path.{_≡_}
-use lib.ListN.{length}
+use Prim.Native.Nat.{_≤_, _-_}
 use borrow.Author.Needs.{needs}
 use native.Mathlib.Omega.{arith}
 use Rattle.cleared_bytes.proofs.cleared.bytes_but.Statement.{statement}

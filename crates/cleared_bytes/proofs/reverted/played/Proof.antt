@@ -1,5 +1,5 @@
 -- `reverted::played` is safe and ends: seven commands, and the journal keeps its length.
-use Prim.Native.Nat.{_≤_, _+_, _-_, _*_}
+use Prim.Native.Nat.{_≤_, _-_}
 use mathlib.Core.Path.{_≡_}
 use lib.ListN.{length}
 use borrow.Author.Needs.{needs}
