@@ -21,8 +21,8 @@ const PAIRS: [usize; 3] = [8, 8, 1024];
 type Undos = fn(usize, usize) -> EngineWorkload;
 
 const HEAD: &str = "
-The engine's batch run. All sides are given the same bytes and leave the same bytes; nothing is cleared between runs, and
-the journal of a run was written by the run before it.
+The engine's batch run. All sides are given the same bytes and leave the same bytes, in the same buffers in turn; nothing is
+cleared between runs, and the journal of a run was written by the run before it.
 Oracle: document 01's rules over the Rust, as written: every state validated, UNDO with a journal of its own and a
 comparison of states. Rust: the same without these, which no run from opening needs; UNDO replays straight from the journal.
 Rattle: no state is validated, and UNDO compares none and replays only where a command needs the state (proved needless).
