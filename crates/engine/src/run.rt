@@ -12,6 +12,7 @@ ghost use Rattle.engine.specs.Run.{runOf, ran};
 ghost use Rattle.engine.specs.RunInternals.{stop, endNumber, stopAt, journalAndAnswers, answerAt, isReverted, bothAnswered};
 ghost use Rattle.engine.specs.RunInternals.{openedRun};
 use crate::execution::perform_on;
+use crate::replay::replayed_state;
 use hazards::answers::ANSWER_WIDTH;
 use hazards::answers::Answer;
 use hazards::answers::no_event;
@@ -178,11 +179,7 @@ fn run_commands(
             continue;
         }
         if stale {
-            let replayed = crate::replay::replayed_state(
-                stream,
-                journal.len(),
-                &journal[..applied],
-            );
+            let replayed = replayed_state(stream, journal.len(), &journal[..applied]);
             slots = replayed.slots;
             shared = replayed.shared;
             stale = false;
