@@ -1,9 +1,7 @@
 // Every length from 0 to 17 from each of eight places on, between bytes that stay: as the front of all that is behind the place, and as
 // a part that is shorter than the count.
 ghost use Prim.Native.Nat.{_≤_};
-
-// 18 lengths, 8 places, two ways.
-pub const TRIES: u64 = 288;
+use crate::tally::Tally;
 
 // The bytes 1 to 32, but for zero from one place up to another.
 fn bytes_but(from: usize, to: usize) -> [u8; 32] {
@@ -34,9 +32,8 @@ fn clear_part(bytes: &mut [u8], from: usize, to: usize) {
     }
 }
 
-fn wrong_ways(place: usize, length: usize) -> u64
+fn try_both_ways(place: usize, length: usize, tally: Tally) -> Tally
     requires { ⌜ (place ≤ 7) × (length ≤ 17) ⌝ }
-    ensures { λ r. ⌜ r ≤ 2 ⌝ }
 {
     let end = place + length;
     let due = bytes_but(place, end);
@@ -46,33 +43,30 @@ fn wrong_ways(place: usize, length: usize) -> u64
     clear_part(&mut part, place, end);
     let front_is_due = check::same(&front, &due);
     let part_is_due = check::same(&part, &due);
-    if front_is_due & part_is_due {
-        return 0;
+    if !(front_is_due & part_is_due) {
+        crate::report::print_part(place as u64, length as u64);
     }
-    crate::report::print_part(place as u64, length as u64);
-    if front_is_due | part_is_due { 1 } else { 2 }
+    tally.with(front_is_due).with(part_is_due)
 }
 
-fn wrong_lengths(place: usize) -> u64
+fn try_lengths(place: usize, tally: Tally) -> Tally
     requires { ⌜ place ≤ 7 ⌝ }
-    ensures { λ r. ⌜ r ≤ 36 ⌝ }
 {
-    let mut wrong: u64 = 0;
+    let mut after = tally;
     let mut length: usize = 0;
     while length < 18 {
-        wrong += wrong_ways(place, length);
+        after = try_both_ways(place, length, after);
         length += 1;
     }
-    wrong
+    after
 }
 
-// How many of the tries leave another byte than is due.
-pub fn wrong() -> u64 {
-    let mut wrong: u64 = 0;
+pub fn try_all() -> Tally {
+    let mut tally = Tally::new();
     let mut place: usize = 0;
     while place < 8 {
-        wrong += wrong_lengths(place);
+        tally = try_lengths(place, tally);
         place += 1;
     }
-    wrong
+    tally
 }

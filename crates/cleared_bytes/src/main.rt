@@ -3,13 +3,9 @@ mod cleared;
 mod report;
 mod reverted;
 mod session;
+mod tally;
 
 fn main() {
-    report::print_count(b"cleared: ", cleared::TRIES, b" parts, ", cleared::wrong());
-    report::print_count(
-        b"reverted: ",
-        reverted::TRIES,
-        b" commands, ",
-        reverted::wrong(),
-    );
+    report::print_tally(b"cleared: ", b" parts, ", cleared::try_all());
+    report::print_tally(b"reverted: ", b" commands, ", reverted::try_all());
 }

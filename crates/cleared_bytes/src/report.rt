@@ -1,4 +1,5 @@
-// What the program writes: each wrong case as it is met, then the counts.
+// What the program writes: each wrong try as it is met, then the counts.
+use crate::tally::Tally;
 use libc::STDOUT_FILENO;
 
 fn print(text: &[u8]) {
@@ -9,11 +10,11 @@ fn print_number(number: u64) {
     io::print_decimal(STDOUT_FILENO, number);
 }
 
-pub fn print_count(label: &[u8], count: u64, what: &[u8], wrong: u64) {
+pub fn print_tally(label: &[u8], what: &[u8], tally: Tally) {
     print(label);
-    print_number(count);
+    print_number(tally.tries);
     print(what);
-    print_number(wrong);
+    print_number(tally.wrong);
     print(b" wrong\n");
 }
 

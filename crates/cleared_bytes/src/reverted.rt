@@ -1,10 +1,8 @@
 // A command of each kind taken back by UNDO, the last first: of the journal only that command's bytes are cleared, which begin anywhere and
 // are 1, 6, 10, 23, 33 or 156; the commands before it stay, and so do the bytes behind it.
-ghost use Prim.Native.Nat.{_≤_};
 use crate::session;
+use crate::tally::Tally;
 use engine::state::EngineState;
-
-pub const TRIES: u64 = 7;
 
 // The session's bytes up to a place, then zero up to its end, then A5 hex.
 fn journal_after(applied: usize) -> [u8; 300] {
@@ -33,12 +31,11 @@ fn played(stream: &[u8]) -> EngineState {
     state
 }
 
-// How many commands are not reverted as is due.
-pub fn wrong() -> u64 {
+pub fn try_all() -> Tally {
     let stream = session::stream();
     let mut state = played(&stream);
-    let mut journal = journal_after(252);
-    let mut wrong: u64 = 0;
+    let mut journal = journal_after(session::place(session::COMMANDS));
+    let mut tally = Tally::new();
     let mut left: usize = session::COMMANDS;
     while left > 0 {
         left -= 1;
@@ -46,10 +43,11 @@ pub fn wrong() -> u64 {
         state = executed.state;
         let due = journal_after(session::place(left));
         let accepted = executed.answer.number == 0;
-        if !(accepted & check::same(&journal, &due)) {
+        let right = accepted & check::same(&journal, &due);
+        if !right {
             crate::report::print_command(left as u64);
-            wrong += 1;
         }
+        tally = tally.with(right);
     }
-    wrong
+    tally
 }
