@@ -41,21 +41,24 @@ static int failed(const char *what, const char *why)
     return 1;
 }
 
-static void clear(const struct side *side)
+/* 0, or the number by which a run was refused */
+static uint8_t clear(const struct side *side)
 {
-    uint8_t result[RESULT];
+    uint8_t result[RESULT], number = 0;
     if (side->run)
-        side->run(nothing, 0, nothing, 0, journal, side->length, nothing, 0, result, sizeof result);
+        number = side->run(nothing, 0, nothing, 0, journal, side->length, nothing, 0, result, sizeof result);
     else
         memset(journal, 0, side->length);
     __asm__ volatile("" ::: "memory");
+    return number;
 }
 
-/* every byte of the journal is zero after it, and every byte around it as it was */
+/* nothing is refused, every byte of the journal is zero after it, and every byte around it as it was */
 static int clears(const struct side *side)
 {
     memset(space, 0xA5, SPACE);
-    clear(side);
+    if (clear(side) != 0)
+        return 0;
     for (size_t i = 0; i < SPACE; i++)
         if (space[i] != (i >= GUARD && i < GUARD + side->length ? 0 : 0xA5))
             return 0;
@@ -83,7 +86,7 @@ static int next_buffer(void)
 static int warm_up(struct side *side)
 {
     if (!clears(side))
-        return failed(side->label, "the journal is not cleared, or more is");
+        return failed(side->label, "refused, or the journal is not cleared, or more is");
     for (side->repeats = 1; taken(side) < RUN_NS;)
         side->repeats *= 2;
     return 0;
@@ -134,7 +137,9 @@ int main(int count, char **words)
 {
     static struct side sides[1 + 2 * MOST] = {{.label = "memset", .length = JOURNAL}};
     int n = 1;
-    for (int i = 1; i + 1 < count && n < 2 * MOST; i += 2, n += 2)
+    if (count % 2 == 0 || count < 3 || count > 1 + 2 * MOST)
+        return failed("arguments", "a label and a library for each build, eight builds at most");
+    for (int i = 1; i < count; i += 2, n += 2)
         if (add_build(sides + n, words[i], words[i + 1]))
             return 1;
     for (int buffer = 0; buffer < BUFFERS; buffer++) {
@@ -145,7 +150,7 @@ int main(int count, char **words)
                 return 1;
         measure(sides, n, buffer);
     }
-    printf("medians over %d buffers of the best of %d runs of 1 ms, in turn\n", BUFFERS, RUNS);
+    printf("medians over %d buffers of the best of %d runs of 1 ms, in turn, and of the buffers' ratios\n", BUFFERS, RUNS);
     printf("%-36s%16s%12s%14s\n", "", "2^20 bytes, ns", "/ memset", "no bytes, ns");
     printf("%-36s%16.0f%12.2f\n", "memset", median(sides[0].best), 1.0);
     for (int i = 1; i < n; i += 2)

@@ -1,4 +1,4 @@
-// The batch run (document 01: run call): it opens an engine and answers command after command. The state stays in one local.
+// The batch run (document 01: run call): it opens an engine and answers command after command. The state stays in two locals.
 ghost use mathlib.Core.Path.{_≡_};
 ghost use mathlib.Core.Bool.{cond, _&&_};
 ghost use mathlib.Core.List.{_++_};
