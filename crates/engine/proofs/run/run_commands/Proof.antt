@@ -35,6 +35,9 @@ use Rattle.engine.proofs.run.run_commands.Tie as tie
 abbrev stateOf : List ClockSlot → SharedState → EngineState
 stateOf slots shared = record { slots = slots; shared = shared }
 
+same-parts : {a b : List ClockSlot} {x y : SharedState} → a ≡ b → x ≡ y → stateOf a x ≡ stateOf b y
+same-parts {b = b} {x = x} p q = ap (λ (l : List ClockSlot). stateOf l x) p ∙ ap (λ (t : SharedState). stateOf b t) q
+
 abbrev Inv-loop : tie.InvT-loop
 Inv-loop commands stream journal₀ answers₀ result₀ slots₀ shared₀ applied₀ stale₀ answered₀ at₀ journal answers result slots shared
     applied stale answered at =
@@ -52,10 +55,10 @@ empty-slot-requires c κs = search needs
 opened-shared-requires : tie.Need-opened-shared-requires Inv-loop μ-loop
 opened-shared-requires c κs = search needs
 
-opened : {slot : ClockSlot} {shared : SharedState} → slot ≡ emptySlot → shared ≡ openedShared → stateOf (replicate 16 slot) shared ≡ openedState
+opened : {slot : ClockSlot} {shared : SharedState} → slot ≡ emptySlot → shared ≡ openedShared
+    → stateOf (replicate 16 slot) shared ≡ openedState
 unfolding openedState
-opened {shared = shared} e f =
-    ap (λ (s : ClockSlot). stateOf (replicate 16 s) shared) e ∙ ap (λ (t : SharedState). stateOf (replicate 16 emptySlot) t) f
+opened e f = same-parts (ap (λ (s : ClockSlot). replicate 16 s) e) f
 
 loop-holds : tie.Need-loop-holds Inv-loop μ-loop
 loop-holds c =
@@ -196,7 +199,8 @@ loop-again c =
     let reverted = c .before .before .revert in
     next-deferred _ _ _ _ _ (input (known w)) (w .width .result) (wide w) (code-is w ∙ put .before .before .before .before .if2 .taken)
     (l .applied) (l .inv .counted) (reverted .ensures .0) (reverted .ensures .1) (omega (arith, l .inv .running .same-journal))
-    (omega (arith, l .inv .running .same-answers)) (stateOf (l .slots) (l .shared)) (put .put-answer .ensures ∙ ap (withAnswer _ _) (undo-answer put))
+    (omega (arith, l .inv .running .same-answers)) (stateOf (l .slots) (l .shared))
+    (put .put-answer .ensures ∙ ap (withAnswer _ _) (undo-answer put))
 
 -- ---- another command: a stale state is replayed first
 
@@ -217,9 +221,6 @@ knownAt c = known (c .before .before)
 -- the state of the two locals
 abbrev stateAt : tie.Joined3 Inv-loop μ-loop → EngineState
 stateAt c = stateOf (c .if3 .slots) (c .if3 .shared)
-
-same-parts : {a b : List ClockSlot} {x y : SharedState} → a ≡ b → x ≡ y → stateOf a x ≡ stateOf b y
-same-parts {b = b} {x = x} p q = ap (λ (l : List ClockSlot). stateOf l x) p ∙ ap (λ (t : SharedState). stateOf b t) q
 
 fresh : (c : tie.Joined3 Inv-loop μ-loop) → stateAt c ≡ turn (ended (knownAt c)) .loop .inv .current
 fresh c =
