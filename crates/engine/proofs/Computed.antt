@@ -1,4 +1,4 @@
--- What the table of rows and the worked list compute with. To unfold `computed` is to unfold all that its line names.
+-- What the table of rows and the worked lists compute with. To unfold `computed` is to unfold all that its line names.
 use lib.Ieee.{ofBits, toBits, isNan, add, sub, mul, div, lt, le}
 use Rattle.hazards.specs.Floats.{notBelowZero, zeroBits, inRange, isTime, isThreshold, isFiniteWait}
 use Rattle.hazards.specs.Lists.{all, foldl, insertBy, sortBy}
@@ -18,7 +18,7 @@ use Rattle.clocks.specs.Setting.{setAgain, setNew, setChannel}
 use Rattle.clocks.specs.Scheduling.{finalEvent, scheduledFor, reschedule, pause, resume, onEventDispatched}
 use Rattle.clocks.specs.Validation.{isFinite, ascendingFrom, validChannel, validClock}
 use Rattle.engine.specs.Commands.{widthOf, createFaults, setFaults, rescheduleFaults, pauseFaults}
-use Rattle.engine.specs.Queue.{nextRequest, without, isQueued}
+use Rattle.engine.specs.Queue.{comesFirst, nextRequest, without, isQueued}
 use Rattle.engine.specs.Opening.{openedState}
 use Rattle.engine.specs.Validation.{validSlot, validRequest, distinct, validQueue, validShared, validState}
 use Rattle.engine.specs.Comparison.{sameFloat, everyBelow, sameHazard, sameIntervals, sameChannel, sameSettings, sameChannels}
@@ -39,7 +39,7 @@ unfolding ofBits toBits isNan add sub mul div lt le notBelowZero zeroBits inRang
     earlier earliest faultsOfAll settingsFaults drawsRefusal sampleRefusal candidates censoredAt sampledEvent sampleNext settledHazard
     onUsed placeOfCause placeForNew insertAt channelCandidate wholeTicks newClock clockCandidates earliestEvent setAgain setNew setChannel
     finalEvent scheduledFor reschedule pause resume onEventDispatched isFinite ascendingFrom validChannel validClock widthOf
-    nextRequest without isQueued openedState validSlot validRequest distinct validQueue validShared validState sameFloat everyBelow
+    comesFirst nextRequest without isQueued openedState validSlot validRequest distinct validQueue validShared validState sameFloat everyBelow
     sameHazard sameIntervals sameChannel sameSettings sameChannels sameSchedule sameClock sameSlot sameRequest sameShared sameState
     createFaults setFaults rescheduleFaults pauseFaults performCreate performSet performReschedule performPause performResume
     performDeliver performOn target perform classify replay splitFrom undo execute feed feedAll newSession recordCommand ledgerOf

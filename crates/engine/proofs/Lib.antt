@@ -46,6 +46,7 @@ pub mod Supplied
 pub mod Applied
 pub mod Reached
 pub mod Picks
+pub mod DeliveryOrder
 pub mod LedgerLinks
 pub mod Balance
 pub mod EngineLaws

@@ -57,16 +57,16 @@ module _ (a b : Request) where
     more-later u = rw (t, u)
 
     module _ (u : ltb (requestTicks b) (requestTicks a) ≡ false) where
-      pub lower-first : ltZ (a .priority) (b .priority) ≡ true → comesFirst a b ≡ true
+      pub higher-first : ltZ (b .priority) (a .priority) ≡ true → comesFirst a b ≡ true
       unfolding comesFirst
-      lower-first p = rw (t, u, p)
+      higher-first p = rw (t, u, p)
 
-      module _ (p : ltZ (a .priority) (b .priority) ≡ false) where
-        pub higher-later : ltZ (b .priority) (a .priority) ≡ true → comesFirst a b ≡ false
+      module _ (p : ltZ (b .priority) (a .priority) ≡ false) where
+        pub lower-later : ltZ (a .priority) (b .priority) ≡ true → comesFirst a b ≡ false
         unfolding comesFirst
-        higher-later q = rw (t, u, p, q)
+        lower-later q = rw (t, u, p, q)
 
-        pub by-index : ltZ (b .priority) (a .priority) ≡ false → comesFirst a b ≡ ltb (a .index) (b .index)
+        pub by-index : ltZ (a .priority) (b .priority) ≡ false → comesFirst a b ≡ ltb (a .index) (b .index)
         unfolding comesFirst
         by-index q = rw (t, u, p, q)
 

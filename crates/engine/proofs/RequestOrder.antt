@@ -1,7 +1,7 @@
 -- The order of two requests: it is asymmetric, "does not come first" is transitive, and two of which neither comes first have one index.
 use mathlib.Core.Path.{_≡_, refl, sym, _∙_}
 use mathlib.Core.Bool.{Bool, true, false, cond, true≢false}
-use Prim.Native.Nat.{ℕ}
+use Prim.Native.Nat.{ℕ, _≤_}
 use native.Mathlib.Omega.{arith}
 use borrow.Author.Tests.{ltb-true, ltb-false, le-ltb}
 use lib.Dec.{ltb}
@@ -52,6 +52,19 @@ by-integer key = record {
   trans = λ a b c. integer-trans (key a) (key b) (key c);
 }
 
+-- ---- one of itself, and the other way round
+
+module _ {A : Type 0} (f : A → A → Bool) (of : Ordered f) where
+  self : (a : A) → f a a ≡ false
+  self a = go (f a a) refl
+    where
+      go : (t : Bool) → f a a ≡ t → f a a ≡ false
+      go true e = of .asym a a e
+      go false e = e
+
+  reversed : Ordered (λ (a b : A). f b a)
+  reversed = record { asym = λ a b. of .asym b a; trans = λ a b c e h. of .trans c b a h e }
+
 -- ---- by one test, then by another
 
 module _ {A : Type 0} (f g : A → A → Bool) where
@@ -95,16 +108,28 @@ module _ {A : Type 0} (f g : A → A → Bool) where
       go a b false et true eu e = absurd (true≢false (sym e))
       go a b false et false eu e = rw (et, eu) (og .asym a b e)
 
--- ---- requests: by ticks, then by priority, then by index
+-- ---- requests: by ticks, then by priority, the higher first, then by index
+
+abbrev fewerTicks : Request → Request → Bool
+fewerTicks a b = ltb (requestTicks a) (requestTicks b)
+
+abbrev higherPriority : Request → Request → Bool
+higherPriority a b = ltZ (b .priority) (a .priority)
+
+abbrev lowerIndex : Request → Request → Bool
+lowerIndex a b = ltb (a .index) (b .index)
+
+by-ticks : Ordered fewerTicks
+by-ticks = by-number requestTicks
+
+by-priority : Ordered higherPriority
+by-priority = reversed _ (by-integer (λ (r : Request). r .priority))
 
 ordered : Ordered comesFirst
 unfolding comesFirst
 ordered =
-    by-both (λ a b. ltb (requestTicks a) (requestTicks b))
-    (thenBy (λ a b. ltZ (a .priority) (b .priority)) (λ a b. ltb (a .index) (b .index)))
-    (by-number requestTicks)
-    (by-both (λ a b. ltZ (a .priority) (b .priority)) (λ a b. ltb (a .index) (b .index)) (by-integer (λ r. r .priority))
-    (by-number (λ r. r .index)))
+    by-both fewerTicks (thenBy higherPriority lowerIndex) by-ticks
+    (by-both higherPriority lowerIndex by-priority (by-number (λ r. r .index)))
 
 -- the first does not come after the second
 abbrev pub NotAfter : Request → Request → Type 0
@@ -116,24 +141,38 @@ first-not-after a b e = ordered .asym a b e
 
 -- none comes before itself
 pub not-after-self : (a : Request) → NotAfter a a
-not-after-self a = go (comesFirst a a) refl
-  where
-    go : (t : Bool) → comesFirst a a ≡ t → comesFirst a a ≡ false
-    go true e = ordered .asym a a e
-    go false e = e
+not-after-self a = self comesFirst ordered a
 
 pub not-after-trans : (a b c : Request) → NotAfter a b → NotAfter b c → NotAfter a c
 not-after-trans a b c e f = ordered .trans a b c e f
+
+-- what that says of ticks, of priorities where the ticks are the same, and of indices where both are
+pub record NotBehind (a b : Request) : Type 0 where
+  pub ticks : requestTicks a ≤ requestTicks b
+  pub priority : requestTicks b ≡ requestTicks a → ltZ (a .priority) (b .priority) ≡ false
+  pub index : requestTicks b ≡ requestTicks a → b .priority ≡ a .priority → a .index ≤ b .index
+
+pub not-behind : (a b : Request) → NotAfter a b → NotBehind a b
+unfolding comesFirst
+not-behind a b e =
+    record {
+      ticks = ltb-false (requestTicks b) (requestTicks a) (l .first);
+      priority = λ t. m t .first;
+      index = λ t p. ltb-false (b .index) (a .index) (m t .second (rw p (self higherPriority by-priority a)));
+    }
+  where
+    l : Later fewerTicks (thenBy higherPriority lowerIndex) b a
+    l = later fewerTicks (thenBy higherPriority lowerIndex) b a e
+
+    m : requestTicks b ≡ requestTicks a → Later higherPriority lowerIndex b a
+    m t = later higherPriority lowerIndex b a (l .second (rw t (self fewerTicks by-ticks a)))
 
 -- total up to the index
 pub one-index : (a b : Request) → NotAfter a b → NotAfter b a → a .index ≡ b .index
 unfolding comesFirst
 one-index a b e f =
-    let byTicks : Request → Request → Bool = λ a b. ltb (requestTicks a) (requestTicks b) in
-    let byPriority : Request → Request → Bool = λ a b. ltZ (a .priority) (b .priority) in
-    let byIndex : Request → Request → Bool = λ a b. ltb (a .index) (b .index) in
-    let l = later byTicks (thenBy byPriority byIndex) b a e in
-    let m = later byTicks (thenBy byPriority byIndex) a b f in
-    let l′ = later byPriority byIndex b a (l .second (m .first)) in
-    let m′ = later byPriority byIndex a b (m .second (l .first)) in
+    let l = later fewerTicks (thenBy higherPriority lowerIndex) b a e in
+    let m = later fewerTicks (thenBy higherPriority lowerIndex) a b f in
+    let l′ = later higherPriority lowerIndex b a (l .second (m .first)) in
+    let m′ = later higherPriority lowerIndex a b (m .second (l .first)) in
     omega (arith, ltb-false (b .index) (a .index) (l′ .second (m′ .first)), ltb-false (a .index) (b .index) (m′ .second (l′ .first)))

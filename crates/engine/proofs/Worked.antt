@@ -1,8 +1,11 @@
--- Demand 3 on a list worked through: bytes that are no command, commands accepted, refused and undone, computed from the definitions.
+-- Demand 3 on two lists worked through, computed from the definitions: bytes that are no command, commands accepted, refused and undone;
+-- then two events at one tick.
 use mathlib.Core.Path.{_≡_, refl}
 use mathlib.Core.List.{List, [], _∷_, _++_}
 use Prim.Native.Nat.{ℕ}
+use lib.ListN.{replicate}
 use Rattle.hazards.specs.Floats.{z}
+use Rattle.hazards.specs.Fields.{bytesOf}
 use Rattle.hazards.specs.declared.answers.Answer.{Answer}
 use Rattle.clocks.specs.Clocks.{one}
 use Rattle.engine.specs.Commands as commands
@@ -12,7 +15,7 @@ use Rattle.engine.specs.Sessions.{Session, feed, newSession}
 use Rattle.engine.specs.Instance.{engineOf}
 use Rattle.engine.specs.Demand3 as demand
 use Rattle.engine.specs.Rows as rows
-use Rattle.engine.specs.Rows.{two, stream, setBytes, censorAt, undoBytes, channelIn}
+use Rattle.engine.specs.Rows.{two, stream, f64, setBytes, censorAt, undoBytes, channelIn}
 use Rattle.engine.proofs.Computed.{computed}
 
 -- CREATE of a clock, Restart, scale 1.0
@@ -74,3 +77,31 @@ pub worked : (numbers (newSession engine 236) inputs ≡ 12 ∷ 3 ∷ 2 ∷ 0 �
     × (demand.ledger stream 236 inputs .rows 0 .delivered ≡ 1) × (demand.queued stream 236 inputs 0 ≡ 0)
 unfolding computed
 worked = (refl, refl, refl, refl, refl, refl, refl, refl, refl, refl)
+
+-- ---- two events at one tick, of clock 0 with priority -1 and of clock 1 with priority 0
+
+-- RESCHEDULE at 0, censored at 1.0, with a priority's four bytes
+abbrev rescheduleWith : ℕ → Bytes → Bytes
+rescheduleWith clock priority = (commands.reschedule ∷ clock ∷ f64 z) ++ (censorAt one ++ priority)
+
+abbrev minusOne : Bytes
+minusOne = bytesOf 4 0xffff_ffff
+
+-- the delivery is undone and comes again
+abbrev equalTicks : List Bytes
+equalTicks =
+    create 0
+    ∷ create 1
+    ∷ rescheduleWith 0 minusOne
+    ∷ rescheduleWith 1 (replicate 4 0)
+    ∷ deliver
+    ∷ undoBytes
+    ∷ deliver
+    ∷ []
+
+-- that of clock 1 is delivered, in the engine and in the ledger; that of clock 0 stays queued
+pub worked-ticks : (numbers (newSession engine 236) equalTicks ≡ replicate 7 0)
+    × (demand.queued stream 236 equalTicks 0 ≡ 1) × (demand.queued stream 236 equalTicks 1 ≡ 0)
+    × (demand.ledger stream 236 equalTicks .rows 0 .delivered ≡ 0) × (demand.ledger stream 236 equalTicks .rows 1 .delivered ≡ 1)
+unfolding computed
+worked-ticks = (refl, refl, refl, refl, refl)

@@ -1,5 +1,5 @@
 -- The definitions of the engine crate, in the order in which they build on each other. A file has the name of the module of src/ that it
--- defines, or is what several of them share; theorem.rt has Demand3 and Rows.
+-- defines, or is what several of them share; theorem.rt has DeliveryOrder, Demand3 and Rows.
 
 -- commands and refusals
 pub mod Refusals
@@ -21,9 +21,10 @@ pub mod Execute
 pub mod Instance
 pub mod Answers
 pub mod Run
--- demand 3 and the table of rows
+-- the order of deliveries, demand 3 and the table of rows
 pub mod Sessions
 pub mod Ledger
+pub mod DeliveryOrder
 pub mod Demand3
 pub mod Rows
 -- internals: what the answers of the code's inner functions mean; no call that document 01 names cites these

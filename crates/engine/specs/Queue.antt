@@ -1,4 +1,4 @@
--- Document 01, "Queue and ticks": the order of requests, the one that is delivered next, and taking one out.
+-- Document 01, "Queue and ticks", with change 2 of document 02: the order of requests, the one that is delivered next, and taking one out.
 -- What `schedule` puts in is requestOf in Execution and withRequest in State; ticks are in clocks' Ticks.
 use mathlib.Core.Bool.{Bool, true, false, not, cond}
 use mathlib.Core.List.{List, [], _∷_}
@@ -12,13 +12,13 @@ use Rattle.engine.specs.declared.state.Request.{Request}
 abbrev pub requestTicks : Request → ℕ
 requestTicks r = r .ticks .low + 2 ^ 64 * r .ticks .high
 
--- fewest ticks, then lower priority number, then lower index
+-- fewest ticks, then higher priority number, then lower index
 unfoldable pub comesFirst : Request → Request → Bool
 comesFirst a b =
     cond (ltb (requestTicks a) (requestTicks b)) true
     (cond (ltb (requestTicks b) (requestTicks a)) false
-    (cond (ltZ (a .priority) (b .priority)) true
-    (cond (ltZ (b .priority) (a .priority)) false (ltb (a .index) (b .index)))))
+    (cond (ltZ (b .priority) (a .priority)) true
+    (cond (ltZ (a .priority) (b .priority)) false (ltb (a .index) (b .index)))))
 
 -- the earlier of two, the first where neither is
 abbrev pub earlierOf : Option Request → Option Request → Option Request

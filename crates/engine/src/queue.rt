@@ -40,7 +40,7 @@ fn fewer_ticks(a: Request, b: Request) -> bool
     a.ticks.low < b.ticks.low
 }
 
-// Fewest ticks, then lower priority number, then lower index.
+// Fewest ticks, then higher priority number, then lower index.
 pub fn comes_first(a: Request, b: Request) -> bool
     ensures { λ r. ⌜ r ≡ comesFirst a b ⌝ }
 {
@@ -52,10 +52,10 @@ pub fn comes_first(a: Request, b: Request) -> bool
     }
     let p = a.priority;
     let q = b.priority;
-    if p < q {
+    if p > q {
         return true;
     }
-    if q < p {
+    if p < q {
         return false;
     }
     a.index < b.index

@@ -4,6 +4,7 @@ ghost use Prim.Native.Nat.{ℕ};
 ghost use mathlib.Core.List.{List};
 ghost use Rattle.engine.specs.Refusals.{badBuffers};
 ghost use Rattle.engine.specs.Run.{runOf};
+ghost use Rattle.engine.specs.DeliveryOrder.{DeliveryOrder};
 ghost use Rattle.engine.specs.Demand3.{Demand3, RunDemand3};
 ghost use Rattle.engine.specs.Rows.{TwelveRows};
 
@@ -16,6 +17,11 @@ pub fn demand_3()
 pub fn demand_3_of_runs()
     ensures { λ _. ⌜ ((commands stream journal answers result : List ℕ)
         → (runOf commands stream journal answers result .number ≡ badBuffers → ⊥) → RunDemand3 commands stream journal answers result) ⌝ }
+{}
+
+// Change 2 of document 02: of two events at the same tick the higher priority number is delivered first, then the lower index.
+pub fn delivery_order()
+    ensures { λ _. ⌜ DeliveryOrder ⌝ }
 {}
 
 // Document 01's table of twelve rows holds.

@@ -288,7 +288,7 @@ static inline size_t olgaemuri_put_schedule(uint8_t *out, enum olgaemuri_code co
     return OLGAEMURI_RESCHEDULE_BYTES;
 }
 
-/* `censor`, the time at which observation ends, may be NULL. Among events at the same tick the lower `priority` is delivered first. */
+/* `censor`, the time at which observation ends, may be NULL. Among events at the same tick the higher `priority` is delivered first. */
 static inline size_t olgaemuri_put_reschedule(uint8_t *out, uint8_t clock, double now, const double *censor, int32_t priority)
 {
     return olgaemuri_put_schedule(out, OLGAEMURI_RESCHEDULE, clock, now, censor, priority);

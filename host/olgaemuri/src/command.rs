@@ -68,7 +68,7 @@ pub enum Command {
         now: f64,
         /// The time at which observation ends, if any: an event after it is scheduled as censored.
         censor: Option<f64>,
-        /// Decides between events at the same tick; the lower one is delivered first.
+        /// Decides between events at the same tick; the higher one is delivered first.
         priority: i32,
     },
     /// Stops a clock: its event is withdrawn, and what was used up of the thresholds is counted.
@@ -86,7 +86,7 @@ pub enum Command {
         now: f64,
         /// The time at which observation ends, if any.
         censor: Option<f64>,
-        /// Decides between events at the same tick; the lower one is delivered first.
+        /// Decides between events at the same tick; the higher one is delivered first.
         priority: i32,
     },
     /// Takes the earliest pending event out of the queue; its clock stops. The thresholds stay: a SET gives the cause its next one.

@@ -2,6 +2,7 @@
 
 use crate::answer::Answer;
 use crate::command::{CLOCKS, Command};
+use std::cmp::Reverse;
 
 /// An event that is scheduled and not yet delivered or withdrawn.
 #[derive(Clone, Copy, Debug, PartialEq)]
@@ -11,7 +12,7 @@ pub struct Pending {
     pub clock: u8,
     /// Its time in ticks.
     pub ticks: u128,
-    /// The priority of the command that scheduled it; among events at the same tick the lower one is delivered first.
+    /// The priority of the command that scheduled it; among events at the same tick the higher one is delivered first.
     pub priority: i32,
     /// How many events were scheduled before it; decides after ticks and priority.
     pub index: u64,
@@ -28,8 +29,8 @@ pub struct Pending {
 impl Pending {
     /// What decides which event is delivered first: the least of these.
     #[must_use]
-    pub fn delivery_order(&self) -> (u128, i32, u64) {
-        (self.ticks, self.priority, self.index)
+    pub fn delivery_order(&self) -> (u128, Reverse<i32>, u64) {
+        (self.ticks, Reverse(self.priority), self.index)
     }
 }
 

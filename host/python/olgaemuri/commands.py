@@ -103,7 +103,7 @@ class Reschedule(_Command):
     """Finds the clock's earliest event from now on and schedules it in place of one that was pending.
 
     Nothing counts as used up since the last SET, PAUSE or RESUME. An event after ``censor`` is scheduled as censored. Of events at the
-    same tick the one with the lower priority is delivered first.
+    same tick the one with the higher priority is delivered first.
     """
 
     clock: int

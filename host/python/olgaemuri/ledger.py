@@ -31,7 +31,7 @@ class Event:
     @property
     def delivery_order(self) -> tuple[int, int, int]:
         """The least of these is delivered first."""
-        return self.ticks, self.priority, self.index
+        return self.ticks, -self.priority, self.index
 
     def row(self) -> dict:
         """The event as a row; the cause of a censored one is NO_CAUSE."""

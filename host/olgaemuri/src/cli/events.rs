@@ -1,6 +1,7 @@
 //! The events that the applied commands schedule, and what became of each.
 
 use olgaemuri::{Answer, Applied, CLOCKS, Command, Outcome, Pending};
+use std::cmp::Reverse;
 
 /// What became of an event.
 #[derive(Clone, Copy, Debug, PartialEq)]
@@ -31,7 +32,7 @@ pub struct Event {
     pub ticks: u128,
     pub fate: Fate,
     /// What decides among pending events: the least is delivered first.
-    pub order: (u128, i32, u64),
+    pub order: (u128, Reverse<i32>, u64),
     /// Its place among the deliveries.
     pub delivery: Option<usize>,
 }
@@ -112,7 +113,7 @@ impl Walk {
             time: now + answer.delta,
             ticks: answer.ticks,
             fate: Fate::Pending,
-            order: (answer.ticks, priority, index as u64),
+            order: (answer.ticks, Reverse(priority), index as u64),
             delivery: None,
         });
     }

@@ -4,9 +4,10 @@
 use crate::answer::Answer;
 use crate::command::Command;
 use crate::command_fields::CLOCKS;
+use std::cmp::Reverse;
 
-/// Document 01's noted request, in the order of delivery: ticks, priority, index.
-pub type Pending = (u128, i32, u64);
+/// Document 01's noted request, in the order of delivery: fewest ticks, higher priority, lower index.
+pub type Pending = (u128, Reverse<i32>, u64);
 
 /// The requests of one clock.
 #[derive(Clone, Copy, Debug, Default, PartialEq)]
@@ -49,7 +50,7 @@ impl Ledger {
             let index = self.accounts.iter().map(|account| account.made).sum();
             let account = &mut self.accounts[usize::from(clock)];
             account.made += 1;
-            account.pending = Some((answer.ticks(), priority, index));
+            account.pending = Some((answer.ticks(), Reverse(priority), index));
         }
     }
 

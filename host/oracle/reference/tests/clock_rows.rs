@@ -8,6 +8,7 @@ use common::{
 };
 use reference::command::Command;
 use reference::fields::LIMIT;
+use std::cmp::Reverse;
 
 /// The ticks of a time: that of a censored event without a channel.
 fn ticks(time: f64, scale: f64) -> u128 {
@@ -48,7 +49,7 @@ fn ticks_from_2_to_the_128_on() {
 #[test]
 fn row_9_reschedule() {
     let engine = row_9();
-    assert_eq!(engine.state.scheduler.queue[0].order(), (40, 0, 0));
+    assert_eq!(engine.state.scheduler.queue[0].order(), (40, Reverse(0), 0));
 }
 
 #[test]
@@ -60,7 +61,7 @@ fn row_10_pause_resume_and_two_undos() {
     let resumed = engine.give(resume(3.0));
     assert_eq!((resumed.delta, resumed.ticks()), (3.0, 60));
     engine.accepts(&[Command::Undo, Command::Undo]);
-    assert_eq!(engine.state.scheduler.queue[0].order(), (40, 0, 0));
+    assert_eq!(engine.state.scheduler.queue[0].order(), (40, Reverse(0), 0));
     assert_eq!(engine.accumulated(1), 0.0);
 }
 

@@ -1,4 +1,4 @@
-//! The order of deliveries: fewest ticks, then lower priority number, then lower index.
+//! The order of deliveries: fewest ticks, then higher priority number, then lower index.
 
 mod common;
 
@@ -25,7 +25,7 @@ fn delivered(requests: &[(f64, i32)]) -> Vec<u32> {
 
 #[test]
 fn by_ticks() {
-    assert_eq!(delivered(&[(8.0, -5), (2.0, 9), (4.0, 0)]), [101, 102, 100]);
+    assert_eq!(delivered(&[(8.0, 9), (2.0, -5), (4.0, 0)]), [101, 102, 100]);
 }
 
 #[test]
@@ -37,7 +37,7 @@ fn by_priority_where_ticks_are_equal() {
         (4.0, i32::MIN),
         (4.0, 0),
     ];
-    assert_eq!(delivered(&requests), [103, 102, 104, 100, 101]);
+    assert_eq!(delivered(&requests), [101, 100, 104, 102, 103]);
 }
 
 #[test]
@@ -49,7 +49,7 @@ fn by_index_where_both_are_equal() {
 #[test]
 fn times_that_differ_may_have_the_same_ticks() {
     assert_eq!(
-        delivered(&[(3.75, 1), (4.0, 0), (8.0, -1)]),
+        delivered(&[(3.75, 0), (4.0, 1), (8.0, 2)]),
         [101, 100, 102]
     );
 }

@@ -1,7 +1,7 @@
 -- `queue::comes_first` meets its contract, in the order of its tests: ticks, priorities, indices.
 use mathlib.Core.Path.{sym, _∙_}
 use borrow.Author.Needs.{needs}
-use Rattle.engine.proofs.QueueLaws.{fewer-first, more-later, lower-first, higher-later, by-index, compared}
+use Rattle.engine.proofs.QueueLaws.{fewer-first, more-later, higher-first, lower-later, by-index, compared}
 use Rattle.engine.proofs.queue.comes_first.Statement.{statement}
 use Rattle.engine.proofs.queue.comes_first.Tie as tie
 
@@ -28,8 +28,8 @@ returns-3 c =
     let b = m .args .b in
     let p = m .good .0 .1 .1 .1 .1 .0 .1 in
     let q = m .good .1 .0 .1 .1 .1 .1 .0 .1 in
-    sym (lower-first a b (sym (l .before .fewer-ticks .ensures) ∙ l .if1 .left) (sym (k .before .fewer-ticks2 .ensures) ∙ k .if2 .left)
-    (compared (a .priority) (b .priority) p q (c .if3 .taken)))
+    sym (higher-first a b (sym (l .before .fewer-ticks .ensures) ∙ l .if1 .left) (sym (k .before .fewer-ticks2 .ensures) ∙ k .if2 .left)
+    (compared (b .priority) (a .priority) q p (c .if3 .taken)))
 
 returns-4 : tie.Need-returns-4
 returns-4 c =
@@ -40,9 +40,9 @@ returns-4 c =
     let b = m .args .b in
     let p = m .good .0 .1 .1 .1 .1 .0 .1 in
     let q = m .good .1 .0 .1 .1 .1 .1 .0 .1 in
-    sym (higher-later a b (sym (l .before .fewer-ticks .ensures) ∙ l .if1 .left)
+    sym (lower-later a b (sym (l .before .fewer-ticks .ensures) ∙ l .if1 .left)
     (sym (k .before .fewer-ticks2 .ensures) ∙ k .if2 .left)
-    (compared (a .priority) (b .priority) p q (c .before .if3 .left)) (compared (b .priority) (a .priority) q p (c .if4 .taken)))
+    (compared (b .priority) (a .priority) q p (c .before .if3 .left)) (compared (a .priority) (b .priority) p q (c .if4 .taken)))
 
 returns-5 : tie.Need-returns-5
 returns-5 c =
@@ -55,7 +55,7 @@ returns-5 c =
     let p = s .good .0 .1 .1 .1 .1 .0 .1 in
     let q = s .good .1 .0 .1 .1 .1 .1 .0 .1 in
     sym (by-index a b (sym (m .before .fewer-ticks .ensures) ∙ m .if1 .left) (sym (l .before .fewer-ticks2 .ensures) ∙ l .if2 .left)
-    (compared (a .priority) (b .priority) p q (k .before .if3 .left)) (compared (b .priority) (a .priority) q p (k .if4 .left)))
+    (compared (b .priority) (a .priority) q p (k .before .if3 .left)) (compared (a .priority) (b .priority) p q (k .if4 .left)))
 
 pub comes-first-spec : {M : Type 1} → statement M
 comes-first-spec =

@@ -1,9 +1,10 @@
 //! Stand-in for the crate `kairo_ecs_core`: the scheduler that hazard_clock.rs names, with the
-//! meaning that document 01 gives it ("Queue and ticks").
+//! meaning that document 01 ("Queue and ticks") and change 2 of document 02 give it.
 
 #![forbid(unsafe_code)]
 
 use kairo_ecs_types::{EventId, ScheduleRequest};
+use std::cmp::Reverse;
 
 /// A request in the queue.
 #[derive(Clone, Copy, Debug, PartialEq)]
@@ -15,11 +16,11 @@ pub struct Queued {
 }
 
 impl Queued {
-    /// Document 01's order of delivery: fewest ticks, lower priority number, lower index.
-    pub fn order(&self) -> (u128, i32, u64) {
+    /// The order of delivery: fewest ticks, higher priority number, lower index.
+    pub fn order(&self) -> (u128, Reverse<i32>, u64) {
         (
             self.request.at.ticks(),
-            self.request.priority,
+            Reverse(self.request.priority),
             self.id.index,
         )
     }
