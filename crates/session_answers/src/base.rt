@@ -1,4 +1,4 @@
-// What is tampered with: the state after four commands on clock 0, the journal that holds them, and the stream.
+// What is tampered with: the journal with four commands on clock 0, the stream, and the state that commands give.
 use engine::state::EngineState;
 use hazards::fields::put_f64;
 use hazards::fields::put_u8;
@@ -49,12 +49,12 @@ pub fn journal() -> [u8; 400] {
     bytes
 }
 
-// The state that these commands give, with one request queued.
-pub fn state<'a>(commands: &'a [u8], stream: &'a [u8]) -> EngineState {
+// The state that so many of the commands give.
+pub fn state<'a>(commands: &'a [u8], stream: &'a [u8], count: usize) -> EngineState {
     let mut journal = [0x5Au8; 400];
     let mut state = engine::opening::open(&mut journal);
     let mut at: usize = 0;
-    let mut left: usize = 4;
+    let mut left = count;
     while left > 0 {
         let input = crate::commands::rest_from(commands, at);
         let executed = engine::execute::execute(state, stream, &mut journal, input);

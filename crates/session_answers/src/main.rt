@@ -7,6 +7,7 @@ mod changes;
 mod commands;
 mod invalid_channels;
 mod invalid_states;
+mod older_rule;
 mod other_journals;
 mod other_states;
 mod parts;

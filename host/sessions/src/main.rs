@@ -1,5 +1,5 @@
-//! `sessions SEED COUNT`: the chosen sessions and COUNT random ones through the batch run of the proved engine and through the unchanged
-//! Rust behind document 01's rules. Compares the returned number, every byte of answers, journal and result, and what the wrapper derives
+//! `sessions SEED COUNT [KIND]`: the chosen sessions and COUNT random ones, of every kind or of one, through the batch run of the proved
+//! engine and through the unchanged Rust behind document 01's rules. Compares the returned number, every byte of answers, journal and result, and what the wrapper derives
 //! from these with the oracle's state. The first session on which they part is shrunk and printed, and the program ends with 1.
 
 #![forbid(unsafe_code)]
@@ -11,7 +11,7 @@ mod report;
 mod shrink;
 
 use cases::random::Random;
-use cases::session_kinds;
+use cases::session_kinds::{self, KINDS, Maker};
 use cases::sessions::{Run, Session, command_count};
 use comparison::Difference;
 use std::env;
@@ -20,14 +20,15 @@ use std::process::ExitCode;
 const ENGINE: Run = olgaemuri_sys::run;
 
 fn main() -> ExitCode {
-    let words: Option<Vec<u64>> = env::args().skip(1).map(|word| word.parse().ok()).collect();
-    let Some([seed, count]) = words.as_deref() else {
-        eprintln!("usage: sessions SEED COUNT");
+    let words: Vec<String> = env::args().skip(1).collect();
+    let Some((seed, count, maker)) = arguments(&words) else {
+        let names = KINDS.map(|(name, _)| name).join(", ");
+        eprintln!("usage: sessions SEED COUNT [KIND]\nKIND is one of {names}");
         return ExitCode::from(2);
     };
     let chosen = session_kinds::chosen();
-    let mut random = Random::new(*seed);
-    let random = (0..*count).map(|_| session_kinds::random(&mut random));
+    let mut random = Random::new(seed);
+    let random = (0..count).map(|_| maker(&mut random));
     let (mut sessions, mut commands) = (0, 0);
     for session in chosen.into_iter().chain(random) {
         sessions += 1;
@@ -40,6 +41,19 @@ fn main() -> ExitCode {
     }
     println!("seed {seed}: {sessions} sessions, {commands} commands, no difference");
     ExitCode::SUCCESS
+}
+
+/// Seed, count, and what makes the random sessions; none where a word is not understood.
+fn arguments(words: &[String]) -> Option<(u64, u64, Maker)> {
+    let (numbers, maker) = match words {
+        [seed, count] => ([seed, count], session_kinds::random as Maker),
+        [seed, count, kind] => {
+            let named = KINDS.iter().find(|(name, _)| name == kind)?;
+            ([seed, count], named.1)
+        }
+        _ => return None,
+    };
+    Some((numbers[0].parse().ok()?, numbers[1].parse().ok()?, maker))
 }
 
 /// Where the sides part on a session, or else the wrapper and the oracle.
@@ -64,4 +78,22 @@ fn smallest(session: &Session) -> String {
     let small = shrink::shrink(session, &|session| difference(session).is_some());
     let seen = difference(&small).expect("shrinking keeps a difference");
     report::report(ENGINE, &small, &seen)
+}
+
+#[cfg(test)]
+mod tests {
+    use super::arguments;
+
+    #[test]
+    fn words_that_are_understood() {
+        let read = |line: &str| {
+            let words: Vec<String> = line.split_whitespace().map(str::to_string).collect();
+            arguments(&words).map(|(seed, count, _)| (seed, count))
+        };
+        assert_eq!(read("7 20"), Some((7, 20)));
+        assert_eq!(read("7 20 equal-ticks"), Some((7, 20)));
+        for line in ["", "7", "7 -1", "x 20", "7 20 ties", "7 20 junk cuts"] {
+            assert_eq!(read(line), None, "{line}");
+        }
+    }
 }

@@ -1,5 +1,5 @@
 //! Chosen sessions: rows 9 to 12 of document 01's table with their undos, its errors to shut out,
-//! sixteen clocks.
+//! sixteen clocks, priorities at the ends of i32.
 
 use crate::chosen_histories::{censored, constant, create, pause, remove, reschedule, resume};
 use crate::sessions::{Session, command_count};
@@ -35,6 +35,7 @@ pub fn sessions() -> Vec<Session> {
     let mut all = rows();
     all.extend(undos());
     all.extend(sixteen_clocks());
+    all.push(urgent_first());
     all
 }
 
@@ -141,4 +142,26 @@ fn sixteen_clocks() -> Vec<Session> {
         ..of(&[2.0; 16], commands)
     };
     vec![whole(&delivers), whole(&undos)]
+}
+
+/// Five events at one tick, each delivered, taken back and delivered again: 2^31 - 1, 1, 0, -1, -2^31.
+fn urgent_first() -> Session {
+    let mut commands = Vec::new();
+    for (clock, priority) in (0..).zip([1, i32::MAX, -1, i32::MIN, 0]) {
+        commands.extend([
+            Command::Create(Create {
+                clock,
+                ..create(1, 0, 1.0)
+            }),
+            set_on(clock, 100 + u32::from(clock), 0.5),
+            reschedule_on(clock, 0.0, priority),
+        ]);
+    }
+    let again = [Command::Deliver, Command::Undo, Command::Deliver];
+    commands.extend(again.repeat(5));
+    commands.push(Command::Deliver);
+    Session {
+        journal: 1200,
+        ..of(&[2.0; 5], &commands)
+    }
 }

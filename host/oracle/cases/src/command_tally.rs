@@ -10,6 +10,7 @@ use reference::command::{Command, NAMES};
 use reference::fields::Reader;
 use reference::refusal::Refusal;
 use reference::state::State;
+use std::cmp::Reverse;
 
 pub fn clock_steps(steps: &[ClockStep]) -> Tally {
     let mut tally = Tally::default();
@@ -106,12 +107,27 @@ pub fn decided_by_tie(clock: &SurvivalClock, command: &Command, answer: &Answer)
 
 /// What decides which of the queued requests is delivered.
 pub fn delivered_by(state: &State) -> &'static str {
-    let mut orders: Vec<_> = state.scheduler.queue.iter().map(|q| q.order()).collect();
-    orders.sort_unstable();
-    match orders.as_slice() {
+    match queued_orders(state).as_slice() {
         [first, second, ..] if first.0 < second.0 => "delivered by ticks",
         [first, second, ..] if first.1 < second.1 => "delivered by priority",
         [_, _, ..] => "delivered by index",
         _ => "delivered, no other queued",
     }
+}
+
+/// The priorities of the request that is delivered next and of the one after it, where these decide.
+pub fn deciding_priorities(state: &State) -> Option<(i32, i32)> {
+    match queued_orders(state).as_slice() {
+        [first, second, ..] if first.0 == second.0 && first.1 != second.1 => {
+            Some((first.1.0, second.1.0))
+        }
+        _ => None,
+    }
+}
+
+/// In the order of delivery.
+fn queued_orders(state: &State) -> Vec<(u128, Reverse<i32>, u64)> {
+    let mut orders: Vec<_> = state.scheduler.queue.iter().map(|q| q.order()).collect();
+    orders.sort_unstable();
+    orders
 }

@@ -11,6 +11,7 @@ pub mod clock_steps;
 pub mod command_damage;
 pub mod command_tally;
 pub mod commands;
+pub mod equal_ticks;
 pub mod evaluations;
 pub mod floats;
 pub mod full_clocks;

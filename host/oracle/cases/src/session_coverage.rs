@@ -1,6 +1,6 @@
 //! What a list of sessions shows, read off what they do and not off how they were made.
 
-use crate::command_tally::{answered, decided_by_tie, delivered_by};
+use crate::command_tally::{answered, decided_by_tie, deciding_priorities, delivered_by};
 use crate::sessions::{Outcome, Session, Step};
 use crate::tally::count;
 use kairo_ecs_rng::{DeterministicStream, THRESHOLD_BYTES};
@@ -85,6 +85,8 @@ fn of_steps(steps: &[Step]) -> Shown {
         ("undone request", undoes(steps, requests)),
         ("tie", some(&is_tie)),
         ("by priority", delivered("delivered by priority")),
+        ("by sign", some(&|s| by_priorities(s, of_two_signs))),
+        ("by the ends", some(&|s| by_priorities(s, at_an_end))),
         ("by index", delivered("delivered by index")),
         ("all clocks full", some(&|s| clocks_full(&s.before))),
         ("queue full", some(&|step| queued(step) == CLOCKS)),
@@ -126,6 +128,22 @@ fn is_undo(command: &Command) -> bool {
 
 fn is_deliver(command: &Command) -> bool {
     *command == Command::Deliver
+}
+
+/// Whether the priorities decide which request is delivered, and are of a sort.
+fn by_priorities(step: &Step, sort: fn(i32, i32) -> bool) -> bool {
+    let decide = |(first, second)| sort(first, second);
+    accepted(step, is_deliver) && deciding_priorities(&step.before).is_some_and(decide)
+}
+
+/// One is below 0 and one is not: as unsigned numbers they would stand the other way round.
+fn of_two_signs(first: i32, second: i32) -> bool {
+    (first < 0) != (second < 0)
+}
+
+/// The most urgent number before any, or any before the least urgent: with the sign turned, this one would overflow.
+fn at_an_end(first: i32, second: i32) -> bool {
+    first == i32::MAX || second == i32::MIN
 }
 
 /// Whether an UNDO changes a number of the state. The step after it has the state that it leaves.

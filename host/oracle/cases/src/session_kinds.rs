@@ -4,7 +4,7 @@ use crate::chosen_histories::{constant, pause, reschedule, resume};
 use crate::chosen_sessions::{self, table_clock};
 use crate::random::Random;
 use crate::sessions::Session;
-use crate::{full_clocks, random_sessions, refused_sessions};
+use crate::{equal_ticks, full_clocks, random_sessions, refused_sessions};
 use kairo_ecs_rng::THRESHOLD_BYTES;
 use reference::command::Command;
 
@@ -52,12 +52,25 @@ fn cut_at_every_length(whole: &Session) -> Vec<Session> {
         .collect()
 }
 
-/// Of a thousand: 900 as in the fixed list, 50 with junk among their bytes, 45 cut, 5 with full clocks.
+/// Makes a random session.
+pub type Maker = fn(&mut Random) -> Session;
+
+/// Those of one kind alone, by its name.
+pub const KINDS: [(&str, Maker); 5] = [
+    ("as-listed", random_sessions::session),
+    ("full-clocks", full_clocks::session),
+    ("junk", with_junk),
+    ("cuts", with_cuts),
+    ("equal-ticks", equal_ticks::session),
+];
+
+/// Of a thousand: 850 as in the fixed list, 50 with junk among their bytes, 50 with equal ticks, 45 cut, 5 with full clocks.
 pub fn random(random: &mut Random) -> Session {
     match random.below(1000) {
         0..5 => full_clocks::session(random),
         5..55 => with_junk(random),
         55..100 => with_cuts(random),
+        100..150 => equal_ticks::session(random),
         _ => random_sessions::session(random),
     }
 }

@@ -13,7 +13,7 @@ use std::collections::BTreeSet;
 fn sessions_are_the_same_each_time() {
     let bytes = lists::session_bytes(&lists::sessions());
     assert_eq!(bytes, lists::session_bytes(&lists::sessions()));
-    assert_eq!(checksum(&bytes), 0x5791_7285_A0D9_C2A0);
+    assert_eq!(checksum(&bytes), 0xF8F0_BED5_69BB_3B7A);
 }
 
 /// Row 9 comes first: CREATE, SET, RESCHEDULE over the thresholds 2.0 and 1.0.

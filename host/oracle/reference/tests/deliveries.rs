@@ -48,10 +48,7 @@ fn by_index_where_both_are_equal() {
 /// Rounded to whole ticks first: 3.75 and 4.0 are equal, and the priority decides.
 #[test]
 fn times_that_differ_may_have_the_same_ticks() {
-    assert_eq!(
-        delivered(&[(3.75, 0), (4.0, 1), (8.0, 2)]),
-        [101, 100, 102]
-    );
+    assert_eq!(delivered(&[(3.75, 0), (4.0, 1), (8.0, 2)]), [101, 100, 102]);
 }
 
 /// A request that is made again is the last of its equals.

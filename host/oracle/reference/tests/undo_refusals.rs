@@ -2,8 +2,9 @@
 
 mod common;
 
-use common::{Engine, constant, create, pause, reschedule};
-use reference::command::Command;
+use common::{Engine, constant, constant_on, create, create_on, pause, reschedule, reschedule_on};
+use reference::clock::deliver;
+use reference::command::{Command, DELIVER};
 use reference::dump::dump_state;
 
 fn engine() -> Engine {
@@ -95,6 +96,38 @@ fn refused_by_13_for_another_stream() {
     assert_eq!(number(|e| e.stream = other(&[2.0, 5.0])), 0);
     assert_eq!(number(|e| e.stream = other(&[1.0, 1.0])), 13);
     assert_eq!(number(|e| e.stream = other(&[f64::NAN, 1.0])), 13);
+}
+
+/// Clocks 0 and 1 have events at one tick, with these priorities; one was delivered before change 2 of document 02, when the lower
+/// priority number came first. The number of an UNDO today.
+fn undo_of_older_delivery(priorities: [i32; 2]) -> u8 {
+    let mut engine = Engine::open(&[2.0, 2.0], 500);
+    for (clock, priority) in (0..).zip(priorities) {
+        let set = constant_on(clock, 1, 0.5, 0.0);
+        engine.accepts(&[
+            create_on(clock, 10.0),
+            set,
+            reschedule_on(clock, 0.0, priority),
+        ]);
+    }
+    let queue = engine.state.scheduler.queue.iter();
+    let older = queue.min_by_key(|queued| (queued.request.priority, queued.id.index));
+    let older = *older.expect("two requests are queued");
+    assert!(engine.state.scheduler.cancel(older.id));
+    deliver(engine.clock(usize::from(older.clock)), &older);
+    engine.journal[engine.state.applied_length as usize] = DELIVER;
+    engine.state.applied_length += 1;
+    engine.number(Command::Undo)
+}
+
+#[test]
+fn refused_by_13_for_a_delivery_by_the_older_rule() {
+    assert_eq!(undo_of_older_delivery([0, 1]), 13);
+    assert_eq!(undo_of_older_delivery([1, 0]), 13);
+    assert_eq!(undo_of_older_delivery([-1, 0]), 13);
+    assert_eq!(undo_of_older_delivery([i32::MIN, i32::MAX]), 13);
+    // both rules deliver the same event
+    assert_eq!(undo_of_older_delivery([0, 0]), 0);
 }
 
 /// Zero over the bytes of the last command; other bytes stay, those past the applied ones too.

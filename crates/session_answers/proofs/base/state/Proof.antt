@@ -1,5 +1,4 @@
--- `state` is safe and ends: four commands.
-use Prim.Native.Nat.{_≤_}
+-- `state` is safe and ends: so many commands.
 use mathlib.Core.Path.{_≡_}
 use lib.ListN.{length}
 use borrow.Author.Needs.{needs}
@@ -8,10 +7,10 @@ use Rattle.session_answers.proofs.base.state.Statement.{statement}
 use Rattle.session_answers.proofs.base.state.Tie as tie
 
 abbrev Inv-loop : tie.InvT-loop
-Inv-loop commands stream journal₀ state₀ at₀ left₀ journal state at left = (length journal ≡ 400) × (left ≤ 4)
+Inv-loop commands stream count journal₀ state₀ at₀ left₀ journal state at left = length journal ≡ 400
 
 abbrev μ-loop : tie.MeasureT-loop
-μ-loop commands stream journal₀ state₀ at₀ left₀ journal state at left = left
+μ-loop commands stream count journal₀ state₀ at₀ left₀ journal state at left = left
 
 slice-aggregate-open : tie.Need-slice-aggregate-open Inv-loop μ-loop
 slice-aggregate-open c = search needs
@@ -20,7 +19,7 @@ open-requires : tie.Need-open-requires Inv-loop μ-loop
 open-requires c κs = search needs
 
 loop-holds : tie.Need-loop-holds Inv-loop μ-loop
-loop-holds c = (search needs, search needs)
+loop-holds c = search needs
 
 rest-from-requires : tie.Need-rest-from-requires Inv-loop μ-loop
 rest-from-requires c κs = search needs
@@ -41,7 +40,7 @@ loop-less : tie.Need-loop-less Inv-loop μ-loop
 loop-less c = omega arith
 
 loop-again : tie.Need-loop-again Inv-loop μ-loop
-loop-again c = (search needs, search needs)
+loop-again c = search needs
 
 returns : tie.Need-returns Inv-loop μ-loop
 returns c = search needs

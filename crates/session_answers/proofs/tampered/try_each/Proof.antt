@@ -1,4 +1,4 @@
--- `try_each` is safe and ends: the cases are numbered up to 51.
+-- `try_each` is safe and ends: the cases are numbered up to 52.
 use Prim.Native.Nat.{_≤_, _-_}
 use borrow.Author.Needs.{needs}
 use native.Mathlib.Omega.{arith}
@@ -6,10 +6,10 @@ use Rattle.session_answers.proofs.tampered.try_each.Statement.{statemen
 use Rattle.session_answers.proofs.tampered.try_each.Tie as tie
 
 abbrev Inv-loop : tie.InvT-loop
-Inv-loop base stream verdicts₀ case₀ verdicts case = case ≤ 51
+Inv-loop base stream verdicts₀ case₀ verdicts case = case ≤ 52
 
 abbrev μ-loop : tie.MeasureT-loop
-μ-loop base stream verdicts₀ case₀ verdicts case = 51 - case
+μ-loop base stream verdicts₀ case₀ verdicts case = 52 - case
 
 try-untampered-requires : tie.Need-try-untampered-requires Inv-loop μ-loop
 try-untampered-requires c κs = search needs
