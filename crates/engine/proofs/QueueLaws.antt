@@ -37,13 +37,9 @@ module _ (low high low′ high′ : ℕ) (small : low < 2 ^ 64) (small′ : low�
       go true e = lt-ltb (low + 2 ^ 64 * high) (low′ + 2 ^ 64 * high′) (omega (arith, ltb-true low low′ e)) ∙ sym e
       go false e = le-ltb (low + 2 ^ 64 * high) (low′ + 2 ^ 64 * high′) (omega (arith, ltb-false low low′ e)) ∙ sym e
 
--- ---- two priorities, as the code compares them
+-- ---- a priority, as the code compares it
 pub reads-back : (z : ℤ) → mag z < 2 ^ hbits w32 → z ≡ toZ w32 (ofZ w32 z)
 reads-back z f = sym (toZ-ofZ (record { sfits = f }))
-
-pub compared : (y z : ℤ) → mag y < 2 ^ hbits w32 → mag z < 2 ^ hbits w32 → {t : Bool}
-    → ltZ (toZ w32 (ofZ w32 y)) (toZ w32 (ofZ w32 z)) ≡ t → ltZ y z ≡ t
-compared y z f g h = ap₂ ltZ (reads-back y f) (reads-back z g) ∙ h
 
 -- ---- which of two comes first
 module _ (a b : Request) where

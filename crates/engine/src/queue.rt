@@ -3,6 +3,7 @@ ghost use mathlib.Core.Path.{_≡_};
 ghost use mathlib.Core.Option.{some};
 ghost use Prim.Native.Nat.{_≤_, min};
 ghost use lib.Dec.{ltb};
+ghost use lib.Signed.{ltZ};
 ghost use Rattle.engine.specs.Queue.{requestTicks, comesFirst, earlierOf, nextRequest, isQueued, without};
 ghost use Rattle.engine.specs.State.{emptyRequest, queuedRequests, withQueue, withRequest};
 ghost use Rattle.engine.specs.QueueInternals.{pickOf};
@@ -40,6 +41,13 @@ fn fewer_ticks(a: Request, b: Request) -> bool
     a.ticks.low < b.ticks.low
 }
 
+// As signed numbers: 0 is higher than -1.
+fn higher_priority(a: Request, b: Request) -> bool
+    ensures { λ r. ⌜ r ≡ ltZ (b .priority) (a .priority) ⌝ }
+{
+    a.priority > b.priority
+}
+
 // Fewest ticks, then higher priority number, then lower index.
 pub fn comes_first(a: Request, b: Request) -> bool
     ensures { λ r. ⌜ r ≡ comesFirst a b ⌝ }
@@ -50,12 +58,10 @@ pub fn comes_first(a: Request, b: Request) -> bool
     if fewer_ticks(b, a) {
         return false;
     }
-    let p = a.priority;
-    let q = b.priority;
-    if p > q {
+    if higher_priority(a, b) {
         return true;
     }
-    if p < q {
+    if higher_priority(b, a) {
         return false;
     }
     a.index < b.index

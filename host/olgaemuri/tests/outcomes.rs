@@ -246,6 +246,44 @@ fn censored_events_and_other_clocks() {
     assert_eq!((event.priority, event.index), (-3, 0));
 }
 
+/// Five events at one tick: pending and delivered from the highest priority number to the lowest.
+#[test]
+fn urgent_events_come_first() {
+    let mut session = Session::new([2.0; 5]);
+    for (clock, priority) in (0..).zip([1, i32::MAX, -1, i32::MIN, 0]) {
+        let (policy, tie) = (Policy::Restart, Tie::LowestCause);
+        session.push(Command::Create {
+            clock,
+            process: 0,
+            policy,
+            tie,
+            scale: 1.0,
+            entity: None,
+        });
+        session.push(Command::Set {
+            clock,
+            cause: 100 + u32::from(clock),
+            priority: 0,
+            hazard: Hazard::Constant(0.5),
+            now: 0.0,
+        });
+        session.push(Command::Reschedule {
+            clock,
+            now: 0.0,
+            censor: None,
+            priority,
+        });
+    }
+    let pending: Vec<u8> = session.run().pending().iter().map(|e| e.clock).collect();
+    assert_eq!(pending, [1, 0, 4, 2, 3]);
+    for clock in pending {
+        session.push(Command::Deliver);
+        let applied = session.run().applied().last().expect("a delivery");
+        assert_eq!(applied.answer.cause, 100 + u32::from(clock));
+        assert_eq!(applied.clock, clock);
+    }
+}
+
 #[test]
 fn an_empty_session() {
     let session = Session::default();

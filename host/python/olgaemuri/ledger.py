@@ -44,6 +44,7 @@ class Event:
             "time": self.time,
             "ticks": self.ticks,
             "state": self.state,
+            "priority": self.priority,
         }
 
 

@@ -38,6 +38,20 @@ class Rows(unittest.TestCase):
         censored = [om.run(row_9()[:2] + [om.Reschedule(0, 0.0, censor)], [2.0]).answers[2].censored for censor in (4.0, 3.5)]
         self.assertEqual(censored, [False, True])
 
+    def test_urgent_first(self):
+        commands = []
+        for clock, priority in enumerate([1, 2**31 - 1, -1, -(2**31), 0]):
+            commands.append(om.Create(clock, om.Policy.RESTART, om.Tie.LOWEST_CAUSE, 1.0))
+            commands.append(om.Set(clock, 100 + clock, om.Constant(0.5), 0.0))
+            commands.append(om.Reschedule(clock, 0.0, None, priority))
+        order = [1, 0, 4, 2, 3]
+        scheduled = om.run(commands, [2.0] * 5).breakdown_rows()
+        self.assertEqual([row["clock"] for row in scheduled], order)
+        self.assertEqual([row["priority"] for row in scheduled], [2**31 - 1, 1, 0, -1, -(2**31)])
+        delivered = om.run(commands + [om.Deliver()] * 5, [2.0] * 5)
+        self.assertEqual([answer.cause for answer in delivered.answers[-5:]], [100 + clock for clock in order])
+        self.assertEqual([row["clock"] for row in delivered.breakdown_rows()], order)
+
     def test_rows_for_a_table(self):
         commands = row_9() + [om.Deliver(), om.Deliver(), om.Reschedule(0, 5.0, 6.0)]
         outcome = om.run(commands, [2.0])

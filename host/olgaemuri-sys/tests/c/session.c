@@ -1,4 +1,5 @@
-/* The worked session through the C header: scheduled, paused and resumed, taken back, delivered; then refusals and short buffers. */
+/* The worked session through the C header: scheduled, paused and resumed, taken back, delivered; two events at one tick; then refusals and
+   short buffers. */
 #include "olgaemuri.h"
 
 #include <inttypes.h>
@@ -64,6 +65,18 @@ static void undone_and_delivered(struct session *s)
     run_and_print(s, "censored");
 }
 
+/* A second press, whose event is due at the same tick and has the higher priority. */
+static void urgent_first(struct session *s)
+{
+    begin(s);
+    s->length += olgaemuri_put_create(s->list + s->length, 1, 8, OLGAEMURI_RETAIN_RESIDUAL, OLGAEMURI_LOWEST_CAUSE, 10.0, NULL);
+    s->length += olgaemuri_put_set(s->list + s->length, 1, 2, 0, olgaemuri_constant(0.25), 0.0);
+    s->length += olgaemuri_put_reschedule(s->list + s->length, 1, 0.0, NULL, 1);
+    s->length += olgaemuri_put_deliver(s->list + s->length);
+    s->length += olgaemuri_put_deliver(s->list + s->length);
+    run_and_print(s, "urgent first");
+}
+
 static void refusals(struct session *s)
 {
     begin(s);
@@ -95,6 +108,7 @@ int main(void)
 {
     static struct session s;
     undone_and_delivered(&s);
+    urgent_first(&s);
     refusals(&s);
     short_buffers(&s);
     return 0;

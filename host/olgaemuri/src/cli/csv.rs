@@ -43,7 +43,7 @@ const ANSWERS_HEAD: &str = "no,line,command,machine,machine_name,now,number,refu
     cause,cause_name,delta,ticks,applied,undone_by,text";
 
 const EVENTS_HEAD: &str =
-    "no,machine,machine_name,cause,cause_name,censored,scheduled_at,time,ticks,state";
+    "no,machine,machine_name,cause,cause_name,censored,scheduled_at,time,ticks,state,priority";
 
 fn write_answers(report: &Report, out: &mut dyn Write) -> io::Result<()> {
     writeln!(out, "{ANSWERS_HEAD}")?;
@@ -53,8 +53,12 @@ fn write_answers(report: &Report, out: &mut dyn Write) -> io::Result<()> {
 
 fn write_events(events: &[Event], names: &Names, out: &mut dyn Write) -> io::Result<()> {
     writeln!(out, "{EVENTS_HEAD}")?;
-    let mut events = events.iter().zip(1..);
-    events.try_for_each(|(event, number)| write_cells(&event_cells(number, event, names), out))
+    for (event, number) in events.iter().zip(1..) {
+        let mut cells = event_cells(number, event, names).to_vec();
+        cells.push(event.priority.to_string());
+        write_cells(&cells, out)?;
+    }
+    Ok(())
 }
 
 fn write_cells(cells: &[String], out: &mut dyn Write) -> io::Result<()> {

@@ -31,10 +31,19 @@ pub struct Event {
     pub time: f64,
     pub ticks: u128,
     pub fate: Fate,
-    /// What decides among pending events: the least is delivered first.
-    pub order: (u128, Reverse<i32>, u64),
+    /// Of the command that scheduled it.
+    pub priority: i32,
+    /// How many were scheduled before it.
+    pub index: u64,
     /// Its place among the deliveries.
     pub delivery: Option<usize>,
+}
+
+impl Event {
+    /// What decides among pending events: the least is delivered first.
+    fn order(&self) -> (u128, Reverse<i32>, u64) {
+        (self.ticks, Reverse(self.priority), self.index)
+    }
 }
 
 /// The events in the order in which they were scheduled. Undone commands have left no trace in it.
@@ -57,7 +66,7 @@ pub fn breakdowns(events: &[Event]) -> Vec<Event> {
     let mut delivered: Vec<Event> = of(Fate::Delivered).collect();
     delivered.sort_by_key(|event| event.delivery);
     let mut pending: Vec<Event> = of(Fate::Pending).collect();
-    pending.sort_by_key(|event| event.order);
+    pending.sort_by_key(Event::order);
     delivered.extend(pending);
     delivered
 }
@@ -113,7 +122,8 @@ impl Walk {
             time: now + answer.delta,
             ticks: answer.ticks,
             fate: Fate::Pending,
-            order: (answer.ticks, Reverse(priority), index as u64),
+            priority,
+            index: index as u64,
             delivery: None,
         });
     }
@@ -129,7 +139,8 @@ impl From<Pending> for Event {
             time: pending.scheduled_at + pending.delta,
             ticks: pending.ticks,
             fate: Fate::Pending,
-            order: pending.delivery_order(),
+            priority: pending.priority,
+            index: pending.index,
             delivery: None,
         }
     }

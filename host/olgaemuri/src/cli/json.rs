@@ -131,5 +131,6 @@ fn event_object(event: &Event, names: &Names) -> String {
         ("time", number(event.time)),
         ("ticks", string(&event.ticks.to_string())),
         ("state", string(event.fate.word())),
+        ("priority", event.priority.to_string()),
     ])
 }

@@ -145,8 +145,9 @@ fn summary(report: &Report) -> Vec<String> {
     lines
 }
 
+/// Priorities have a column where one of them is not 0.
 pub fn breakdown_table(events: &[Event], names: &Names, most: Option<usize>) -> String {
-    let columns = [
+    let mut columns = vec![
         Column::Right("no"),
         Column::Name("machine"),
         Column::Name("cause"),
@@ -154,9 +155,16 @@ pub fn breakdown_table(events: &[Event], names: &Names, most: Option<usize>) -> 
         Column::Right("tick"),
         Column::Left("state"),
     ];
+    let has_priorities = events.iter().any(|event| event.priority != 0);
+    if has_priorities {
+        columns.push(Column::Right("priority"));
+    }
     let cells = |(event, number): (&Event, usize)| {
         let mut cells = vec![number.to_string()];
         cells.extend(event_cells(event, names));
+        if has_priorities {
+            cells.push(event.priority.to_string());
+        }
         cells
     };
     let rows: Vec<Vec<String>> = events.iter().zip(1..).map(cells).collect();

@@ -11,9 +11,62 @@ fn run(words: &[&str]) -> String {
     ran.text().to_string()
 }
 
+/// Three machines with an event at tick 4 each, and one whose event is earlier.
+const ONE_TICK: &str = "thresholds 2 2 2 1\n\
+    create machine=0 policy=restart\nset machine=0 cause=1 now=0 hazard=constant rate=0.5\nreschedule machine=0 now=0 priority=-1\n\
+    create machine=1 policy=restart\nset machine=1 cause=1 now=0 hazard=constant rate=0.5\nreschedule machine=1 now=0\n\
+    create machine=2 policy=restart\nset machine=2 cause=1 now=0 hazard=constant rate=0.5\nreschedule machine=2 now=0 priority=7\n\
+    create machine=3 policy=restart\nset machine=3 cause=1 now=0 hazard=constant rate=0.5\nreschedule machine=3 now=0 priority=-9\n";
+
+#[test]
+fn urgent_events_stand_first() {
+    let expected = [(3, "-9"), (2, "7"), (1, "0"), (0, "-1")];
+    for delivered in 0..=4 {
+        let session = ONE_TICK.to_string() + &"deliver\n".repeat(delivered);
+        let ran = olgaemuri(&["run", "-", "--csv=breakdowns"], session.as_bytes());
+        let rows: Vec<Vec<&str>> = ran
+            .text()
+            .lines()
+            .skip(1)
+            .map(|l| l.split(',').collect())
+            .collect();
+        for (at, (row, (machine, priority))) in rows.iter().zip(expected).enumerate() {
+            let state = if at < delivered {
+                "delivered"
+            } else {
+                "scheduled"
+            };
+            assert_eq!(
+                (row[1], row[9], row[10]),
+                (machine.to_string().as_str(), state, priority)
+            );
+        }
+        assert_eq!(rows.len(), 4);
+    }
+    let ran = olgaemuri(&["run", "-"], ONE_TICK.as_bytes());
+    let (_, table) = ran
+        .text()
+        .split_once("scheduled:\n\n")
+        .expect("the breakdowns");
+    assert_eq!(
+        table,
+        "no  machine    cause    at  tick  state      priority\n\
+         --  ---------  -------  --  ----  ---------  --------\n \
+          1  machine 3  cause 1   2     2  scheduled        -9\n \
+          2  machine 2  cause 1   4     4  scheduled         7\n \
+          3  machine 1  cause 1   4     4  scheduled         0\n \
+          4  machine 0  cause 1   4     4  scheduled        -1\n"
+    );
+    let json = olgaemuri(&["run", "-", "--json"], ONE_TICK.as_bytes());
+    assert!(
+        json.text()
+            .contains("\"state\": \"scheduled\", \"priority\": 7}")
+    );
+}
+
 #[test]
 fn csv_of_breakdowns_and_events() {
-    let head = "no,machine,machine_name,cause,cause_name,censored,scheduled_at,time,ticks,state\n";
+    let head = "no,machine,machine_name,cause,cause_name,censored,scheduled_at,time,ticks,state,priority\n";
     let breakdowns = run(&["--csv=breakdowns"]);
     assert!(breakdowns.starts_with(head), "{breakdowns}");
     assert_eq!(breakdowns.lines().count(), 1 + 12);
@@ -24,7 +77,7 @@ fn csv_of_breakdowns_and_events() {
     let events = run(&["--csv=events"]);
     assert!(events.starts_with(head), "{events}");
     assert_eq!(events.lines().count(), 1 + 14);
-    assert_eq!(events.matches(",withdrawn\n").count(), 2);
+    assert_eq!(events.matches(",withdrawn,0\n").count(), 2);
     assert_eq!(run(&["--csv=answers"]), run(&["--csv"]));
     assert_eq!(run(&["--csv"]).into_bytes(), example("press-shop.csv"));
     let ran = olgaemuri(&["run", SESSION, "--csv=evens"], b"");

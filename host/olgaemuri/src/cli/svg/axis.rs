@@ -96,7 +96,8 @@ mod tests {
             time,
             ticks: 0,
             fate,
-            order: (0, 0, 0),
+            priority: 0,
+            index: 0,
             delivery: None,
         }
     }

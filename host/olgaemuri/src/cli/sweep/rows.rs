@@ -124,7 +124,8 @@ mod tests {
             time: 0.1 + 0.2,
             ticks: 12,
             fate: Fate::Delivered,
-            order: (0, 0, 0),
+            priority: 0,
+            index: 0,
             delivery: None,
         }
     }
