@@ -56,11 +56,22 @@ fn command_operands(command: &Command, names: &Names) -> String {
             format!("{}: {}", names.cause(*cause), hazard_words(hazard))
         }
         Command::Remove { cause, .. } => names.cause(*cause),
-        Command::Reschedule { censor, .. } | Command::Resume { censor, .. } => {
-            censor.map_or(String::new(), |time| format!("censor {}", rounded(time)))
+        Command::Reschedule {
+            censor, priority, ..
         }
+        | Command::Resume {
+            censor, priority, ..
+        } => schedule_words(*censor, *priority),
         _ => String::new(),
     }
+}
+
+/// A priority of 0 is left out.
+fn schedule_words(censor: Option<f64>, priority: i32) -> String {
+    let censor = censor.map(|time| format!("censor {}", rounded(time)));
+    let priority = (priority != 0).then(|| format!("priority {priority}"));
+    let words: Vec<String> = censor.into_iter().chain(priority).collect();
+    words.join(", ")
 }
 
 fn hazard_words(hazard: &Hazard) -> String {

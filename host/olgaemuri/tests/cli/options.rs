@@ -16,7 +16,7 @@ const ONE_TICK: &str = "thresholds 2 2 2 1\n\
     create machine=0 policy=restart\nset machine=0 cause=1 now=0 hazard=constant rate=0.5\nreschedule machine=0 now=0 priority=-1\n\
     create machine=1 policy=restart\nset machine=1 cause=1 now=0 hazard=constant rate=0.5\nreschedule machine=1 now=0\n\
     create machine=2 policy=restart\nset machine=2 cause=1 now=0 hazard=constant rate=0.5\nreschedule machine=2 now=0 priority=7\n\
-    create machine=3 policy=restart\nset machine=3 cause=1 now=0 hazard=constant rate=0.5\nreschedule machine=3 now=0 priority=-9\n";
+    create machine=3 policy=restart\nset machine=3 cause=1 now=0 hazard=constant rate=0.5\nreschedule machine=3 now=0 censor=9 priority=-9\n";
 
 #[test]
 fn urgent_events_stand_first() {
@@ -44,10 +44,15 @@ fn urgent_events_stand_first() {
         assert_eq!(rows.len(), 4);
     }
     let ran = olgaemuri(&["run", "-"], ONE_TICK.as_bytes());
-    let (_, table) = ran
+    let (answers, table) = ran
         .text()
         .split_once("scheduled:\n\n")
         .expect("the breakdowns");
+    assert!(answers.contains("reschedule  priority 7 "), "{answers}");
+    assert!(
+        answers.contains("reschedule  censor 9, priority -9 "),
+        "{answers}"
+    );
     assert_eq!(
         table,
         "no  machine    cause    at  tick  state      priority\n\
