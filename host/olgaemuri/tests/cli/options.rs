@@ -62,6 +62,10 @@ fn urgent_events_stand_first() {
           3  machine 1  cause 1   4     4  scheduled         0\n \
           4  machine 0  cause 1   4     4  scheduled        -1\n"
     );
+    let picture = olgaemuri(&["run", "-", "--svg", "-"], ONE_TICK.as_bytes());
+    let title =
+        "data-priority=\"7\"><title>machine 2: cause 1 at 4, tick 4, priority 7; scheduled,";
+    assert!(picture.text().contains(title), "{}", picture.text());
     let json = olgaemuri(&["run", "-", "--json"], ONE_TICK.as_bytes());
     assert!(
         json.text()

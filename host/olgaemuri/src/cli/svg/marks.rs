@@ -142,8 +142,12 @@ fn title(event: &Event, names: &Names) -> String {
     };
     let (time, scheduled) = (rounded(event.time), rounded(event.scheduled_at));
     let (machine, state) = (names.machine(event.machine), event.fate.word());
+    let priority = match event.priority {
+        0 => String::new(),
+        priority => format!(", priority {priority}"),
+    };
     format!(
-        "{machine}: {what} at {time}, tick {}; {state}, as scheduled at {scheduled}",
+        "{machine}: {what} at {time}, tick {}{priority}; {state}, as scheduled at {scheduled}",
         event.ticks
     )
 }
@@ -152,13 +156,14 @@ fn title(event: &Event, names: &Names) -> String {
 pub fn event_mark(event: &Event, names: &Names, mark: &str) -> String {
     format!(
         "<g class=\"event\" data-machine=\"{}\" data-cause=\"{}\" data-censored=\"{}\" data-time=\"{}\" data-ticks=\"{}\" \
-         data-state=\"{}\"><title>{}</title>{mark}</g>\n",
+         data-state=\"{}\" data-priority=\"{}\"><title>{}</title>{mark}</g>\n",
         event.machine,
         event.cause,
         event.censored,
         float_text(event.time),
         event.ticks,
         event.fate.word(),
+        event.priority,
         escaped(&title(event, names)),
     )
 }
