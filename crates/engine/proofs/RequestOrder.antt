@@ -1,4 +1,5 @@
 -- The order of two requests: it is asymmetric, "does not come first" is transitive, and two of which neither comes first have one index.
+-- It goes by ticks, then by priority, then by index.
 use mathlib.Core.Path.{_≡_, refl, sym, _∙_}
 use mathlib.Core.Bool.{Bool, true, false, cond, true≢false}
 use Prim.Native.Nat.{ℕ, _≤_}
@@ -147,14 +148,14 @@ pub not-after-trans : (a b c : Request) → NotAfter a b → NotAfter b c → No
 not-after-trans a b c e f = ordered .trans a b c e f
 
 -- what that says of ticks, of priorities where the ticks are the same, and of indices where both are
-pub record NotBehind (a b : Request) : Type 0 where
+pub record Lexicographic (a b : Request) : Type 0 where
   pub ticks : requestTicks a ≤ requestTicks b
   pub priority : requestTicks b ≡ requestTicks a → ltZ (a .priority) (b .priority) ≡ false
   pub index : requestTicks b ≡ requestTicks a → b .priority ≡ a .priority → a .index ≤ b .index
 
-pub not-behind : (a b : Request) → NotAfter a b → NotBehind a b
+pub lexicographic : (a b : Request) → NotAfter a b → Lexicographic a b
 unfolding comesFirst
-not-behind a b e =
+lexicographic a b e =
     record {
       ticks = ltb-false (requestTicks b) (requestTicks a) (l .first);
       priority = λ t. m t .first;

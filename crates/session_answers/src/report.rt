@@ -49,7 +49,7 @@ pub fn print_tampered(case: u64, number: u64) {
 }
 
 pub fn print_untampered(number: u64) {
-    print(b"UNDO of the state that is not tampered with is refused by ");
+    print(b"UNDO of a state that is not tampered with is refused by ");
     print_number(number);
     print(b"\n");
 }
