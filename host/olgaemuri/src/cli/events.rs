@@ -1,7 +1,6 @@
 //! The events that the applied commands schedule, and what became of each.
 
 use olgaemuri::{Answer, Applied, CLOCKS, Command, Outcome, Pending};
-use std::cmp::Reverse;
 
 /// What became of an event.
 #[derive(Clone, Copy, Debug, PartialEq)]
@@ -33,17 +32,8 @@ pub struct Event {
     pub fate: Fate,
     /// Of the command that scheduled it.
     pub priority: i32,
-    /// How many were scheduled before it.
-    pub index: u64,
-    /// Its place among the deliveries.
-    pub delivery: Option<usize>,
-}
-
-impl Event {
-    /// What decides among pending events: the least is delivered first.
-    fn order(&self) -> (u128, Reverse<i32>, u64) {
-        (self.ticks, Reverse(self.priority), self.index)
-    }
+    /// Its place among the deliveries, or among the pending events in the order of delivery.
+    pub place: Option<usize>,
 }
 
 /// The events in the order in which they were scheduled. Undone commands have left no trace in it.
@@ -52,23 +42,21 @@ pub fn events(outcome: &Outcome) -> Vec<Event> {
     for applied in outcome.applied() {
         walk.enter(&applied);
     }
+    for (place, pending) in outcome.pending().iter().enumerate() {
+        walk.events[pending.index as usize].place = Some(place);
+    }
     walk.events
 }
 
 /// The breakdowns that a planner plans with: the delivered ones as they came, then the scheduled ones as they are due.
 pub fn breakdowns(events: &[Event]) -> Vec<Event> {
     let of = |fate| {
+        let events = events.iter().filter(move |event| event.fate == fate);
+        let mut events: Vec<Event> = events.copied().collect();
+        events.sort_by_key(|event| event.place);
         events
-            .iter()
-            .filter(move |event| event.fate == fate)
-            .copied()
     };
-    let mut delivered: Vec<Event> = of(Fate::Delivered).collect();
-    delivered.sort_by_key(|event| event.delivery);
-    let mut pending: Vec<Event> = of(Fate::Pending).collect();
-    pending.sort_by_key(Event::order);
-    delivered.extend(pending);
-    delivered
+    [of(Fate::Delivered), of(Fate::Pending)].concat()
 }
 
 #[derive(Default)]
@@ -106,7 +94,7 @@ impl Walk {
     fn deliver(&mut self, machine: usize) {
         let delivery = self.deliveries;
         if let Some(event) = self.end(machine, Fate::Delivered) {
-            event.delivery = Some(delivery);
+            event.place = Some(delivery);
         }
         self.deliveries += 1;
     }
@@ -123,8 +111,7 @@ impl Walk {
             ticks: answer.ticks,
             fate: Fate::Pending,
             priority,
-            index: index as u64,
-            delivery: None,
+            place: None,
         });
     }
 }
@@ -140,8 +127,7 @@ impl From<Pending> for Event {
             ticks: pending.ticks,
             fate: Fate::Pending,
             priority: pending.priority,
-            index: pending.index,
-            delivery: None,
+            place: None,
         }
     }
 }

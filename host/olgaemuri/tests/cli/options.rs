@@ -11,66 +11,70 @@ fn run(words: &[&str]) -> String {
     ran.text().to_string()
 }
 
-/// Three machines with an event at tick 4 each, and one whose event is earlier.
-const ONE_TICK: &str = "thresholds 2 2 2 1\n\
-    create machine=0 policy=restart\nset machine=0 cause=1 now=0 hazard=constant rate=0.5\nreschedule machine=0 now=0 priority=-1\n\
-    create machine=1 policy=restart\nset machine=1 cause=1 now=0 hazard=constant rate=0.5\nreschedule machine=1 now=0\n\
-    create machine=2 policy=restart\nset machine=2 cause=1 now=0 hazard=constant rate=0.5\nreschedule machine=2 now=0 priority=7\n\
-    create machine=3 policy=restart\nset machine=3 cause=1 now=0 hazard=constant rate=0.5\nreschedule machine=3 now=0 censor=9 priority=-9\n";
+/// The operands of `reschedule` for six machines: the first five have events at tick 4, that of the last is earlier.
+const RESCHEDULES: [&str; 6] = [
+    "priority=1",
+    "priority=2147483647",
+    "priority=-1",
+    "priority=-2147483648",
+    "",
+    "censor=2 priority=-9",
+];
 
+fn one_tick() -> String {
+    let machine = |(machine, operands): (usize, &str)| {
+        format!(
+            "create machine={machine} policy=restart\n\
+             set machine={machine} cause=1 now=0 hazard=constant rate=0.5\n\
+             reschedule machine={machine} now=0 {operands}\n"
+        )
+    };
+    let lines: String = RESCHEDULES.into_iter().enumerate().map(machine).collect();
+    "thresholds 2 2 2 2 2 2\n".to_string() + &lines
+}
+
+/// Delivered and still scheduled, from the highest priority to the lowest.
 #[test]
 fn urgent_events_stand_first() {
-    let expected = [(3, "-9"), (2, "7"), (1, "0"), (0, "-1")];
-    for delivered in 0..=4 {
-        let session = ONE_TICK.to_string() + &"deliver\n".repeat(delivered);
+    let priorities = ["-9", "2147483647", "1", "0", "-1", "-2147483648"];
+    for delivered in 0..=6 {
+        let session = one_tick() + &"deliver\n".repeat(delivered);
         let ran = olgaemuri(&["run", "-", "--csv=breakdowns"], session.as_bytes());
-        let rows: Vec<Vec<&str>> = ran
-            .text()
-            .lines()
-            .skip(1)
-            .map(|l| l.split(',').collect())
-            .collect();
-        for (at, (row, (machine, priority))) in rows.iter().zip(expected).enumerate() {
-            let state = if at < delivered {
-                "delivered"
-            } else {
-                "scheduled"
-            };
-            assert_eq!(
-                (row[1], row[9], row[10]),
-                (machine.to_string().as_str(), state, priority)
-            );
-        }
-        assert_eq!(rows.len(), 4);
+        let rows = ran.text().lines().skip(1).map(|row| row.split(','));
+        let rows: Vec<Vec<&str>> = rows.map(Iterator::collect).collect();
+        let column = |at: usize| rows.iter().map(|row| row[at]).collect::<Vec<&str>>();
+        assert_eq!(column(1), ["5", "1", "0", "4", "2", "3"]);
+        assert_eq!(column(10), priorities);
+        let came = column(9)
+            .iter()
+            .filter(|state| **state == "delivered")
+            .count();
+        assert_eq!((came, rows.len()), (delivered, 6));
     }
-    let ran = olgaemuri(&["run", "-"], ONE_TICK.as_bytes());
-    let (answers, table) = ran
-        .text()
-        .split_once("scheduled:\n\n")
-        .expect("the breakdowns");
-    assert!(answers.contains("reschedule  priority 7 "), "{answers}");
-    assert!(
-        answers.contains("reschedule  censor 9, priority -9 "),
-        "{answers}"
-    );
-    assert_eq!(
-        table,
-        "no  machine    cause    at  tick  state      priority\n\
-         --  ---------  -------  --  ----  ---------  --------\n \
-          1  machine 3  cause 1   2     2  scheduled        -9\n \
-          2  machine 2  cause 1   4     4  scheduled         7\n \
-          3  machine 1  cause 1   4     4  scheduled         0\n \
-          4  machine 0  cause 1   4     4  scheduled        -1\n"
-    );
-    let picture = olgaemuri(&["run", "-", "--svg", "-"], ONE_TICK.as_bytes());
+}
+
+#[test]
+fn priorities_are_shown() {
+    let session = one_tick();
+    let run = |words: &[&str]| {
+        let ran = olgaemuri(&[&["run", "-"], words].concat(), session.as_bytes());
+        ran.text().to_string()
+    };
+    let tables = run(&[]);
+    let shown = [
+        "  reschedule  priority 1 ",
+        "  reschedule  censor 2, priority -9 ",
+        "\nno  machine    cause     at  tick  state         priority\n",
+        "\n 2  machine 1  cause 1    4     4  scheduled   2147483647\n",
+        "\n 4  machine 4  cause 1    4     4  scheduled            0\n",
+    ];
+    for line in shown {
+        assert!(tables.contains(line), "{line}\n{tables}");
+    }
     let title =
-        "data-priority=\"7\"><title>machine 2: cause 1 at 4, tick 4, priority 7; scheduled,";
-    assert!(picture.text().contains(title), "{}", picture.text());
-    let json = olgaemuri(&["run", "-", "--json"], ONE_TICK.as_bytes());
-    assert!(
-        json.text()
-            .contains("\"state\": \"scheduled\", \"priority\": 7}")
-    );
+        "data-priority=\"1\"><title>machine 0: cause 1 at 4, tick 4, priority 1; scheduled,";
+    assert!(run(&["--svg", "-"]).contains(title));
+    assert!(run(&["--json"]).contains("\"state\": \"scheduled\", \"priority\": -2147483648}"));
 }
 
 #[test]

@@ -97,8 +97,7 @@ mod tests {
             ticks: 0,
             fate,
             priority: 0,
-            index: 0,
-            delivery: None,
+            place: None,
         }
     }
 

@@ -125,8 +125,7 @@ mod tests {
             ticks: 12,
             fate: Fate::Delivered,
             priority: 0,
-            index: 0,
-            delivery: None,
+            place: None,
         }
     }
 
