@@ -38,8 +38,8 @@ unfolding ofBits toBits isNan add sub mul div lt le notBelowZero zeroBits inRang
     rangeFault ascending intervalsFault choiceFault hazardFaults drawAt headBytes answerBytes candidateAfter preferred precedes
     earlier earliest faultsOfAll settingsFaults drawsRefusal sampleRefusal candidates censoredAt sampledEvent sampleNext settledHazard
     onUsed placeOfCause placeForNew insertAt channelCandidate wholeTicks newClock clockCandidates earliestEvent setAgain setNew setChannel
-    finalEvent scheduledFor reschedule pause resume onEventDispatched isFinite ascendingFrom validChannel validClock widthOf
-    comesFirst nextRequest without isQueued openedState validSlot validRequest distinct validQueue validShared validState sameFloat everyBelow
+    finalEvent scheduledFor reschedule pause resume onEventDispatched isFinite ascendingFrom validChannel validClock widthOf comesFirst
+    nextRequest without isQueued openedState validSlot validRequest distinct validQueue validShared validState sameFloat everyBelow
     sameHazard sameIntervals sameChannel sameSettings sameChannels sameSchedule sameClock sameSlot sameRequest sameShared sameState
     createFaults setFaults rescheduleFaults pauseFaults performCreate performSet performReschedule performPause performResume
     performDeliver performOn target perform classify replay splitFrom undo execute feed feedAll newSession recordCommand ledgerOf

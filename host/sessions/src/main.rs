@@ -1,6 +1,7 @@
 //! `sessions SEED COUNT [KIND]`: the chosen sessions and COUNT random ones, of every kind or of one, through the batch run of the proved
-//! engine and through the unchanged Rust behind document 01's rules. Compares the returned number, every byte of answers, journal and result, and what the wrapper derives
-//! from these with the oracle's state. The first session on which they part is shrunk and printed, and the program ends with 1.
+//! engine and through the unchanged Rust behind document 01's rules. Compares the returned number, every byte of answers, journal and
+//! result, and what the wrapper derives from these with the oracle's state. The first session on which they part is shrunk and printed, and
+//! the program ends with 1.
 
 #![forbid(unsafe_code)]
 

@@ -1,7 +1,7 @@
-//! `states [SEED [COUNT]]`: the fixed sessions and COUNT random ones, command by command through the proved engine and through the
-//! unchanged Rust behind document 01's rules. After each command the answer, the journal, the applied commands and every field of
-//! the state are compared; beside each, the same is done from a state or a journal that was tampered with. Ends with 1 at the first
-//! difference.
+//! `states [SEED [COUNT]]`: the fixed sessions and COUNT random ones, one of ten with events at equal ticks, command by command through the
+//! proved engine and through the unchanged Rust behind document 01's rules. After each command the answer, the journal, the applied
+//! commands and every field of the state are compared; beside each, the same is done from a state or a journal that was tampered with. Ends
+//! with 1 at the first difference.
 
 #![deny(unsafe_code)]
 
@@ -13,8 +13,8 @@ mod tampering;
 use both::{Both, Outcome};
 use cases::lists;
 use cases::random::Random;
-use cases::random_sessions::session;
 use cases::sessions::Session;
+use cases::{equal_ticks, random_sessions};
 use layout::Field;
 use reference::command::{DELIVER, UNDO, width};
 use std::env;
@@ -48,7 +48,7 @@ fn main() -> ExitCode {
     };
     let fields = layout::fields();
     let (mut source, mut random) = (Random::new(seed), Random::new(!seed));
-    let more = (0..count).map(|_| session(&mut source));
+    let more = (0..count).map(|place| random_session(&mut source, place));
     let mut tally = Tally::default();
     for (index, s) in lists::sessions().into_iter().chain(more).enumerate() {
         if let Err(words) = compare(&mut random, &fields, &s, &mut tally) {
@@ -62,6 +62,15 @@ fn main() -> ExitCode {
     }
     println!("seed {seed}: the fixed sessions and {count} random ones, {tally}, no difference");
     ExitCode::SUCCESS
+}
+
+/// The random session at a place.
+fn random_session(random: &mut Random, place: u64) -> Session {
+    if place % 10 == 9 {
+        equal_ticks::session(random)
+    } else {
+        random_sessions::session(random)
+    }
 }
 
 /// The two numbers, or 1 and 1000 where they are left out; none where a word is no number or there are more.

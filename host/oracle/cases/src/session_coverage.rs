@@ -86,7 +86,8 @@ fn of_steps(steps: &[Step]) -> Shown {
         ("tie", some(&is_tie)),
         ("by priority", delivered("delivered by priority")),
         ("by sign", some(&|s| by_priorities(s, of_two_signs))),
-        ("by the ends", some(&|s| by_priorities(s, at_an_end))),
+        ("highest first", some(&|s| by_priorities(s, highest_first))),
+        ("lowest second", some(&|s| by_priorities(s, lowest_second))),
         ("by index", delivered("delivered by index")),
         ("all clocks full", some(&|s| clocks_full(&s.before))),
         ("queue full", some(&|step| queued(step) == CLOCKS)),
@@ -141,9 +142,13 @@ fn of_two_signs(first: i32, second: i32) -> bool {
     (first < 0) != (second < 0)
 }
 
-/// The most urgent number before any, or any before the least urgent: with the sign turned, this one would overflow.
-fn at_an_end(first: i32, second: i32) -> bool {
-    first == i32::MAX || second == i32::MIN
+fn highest_first(first: i32, _: i32) -> bool {
+    first == i32::MAX
+}
+
+/// With its sign turned, it would overflow.
+fn lowest_second(_: i32, second: i32) -> bool {
+    second == i32::MIN
 }
 
 /// Whether an UNDO changes a number of the state. The step after it has the state that it leaves.

@@ -10,7 +10,7 @@ const SEED: u64 = 20_261_115;
 const SESSIONS: usize = 4000;
 
 /// Each with the least number of sessions among the random ones that show it.
-const KINDS: [(&str, usize); 25] = [
+const KINDS: [(&str, usize); 26] = [
     ("many undos", 100),
     ("undone draw", 100),
     ("undone request", 100),
@@ -21,7 +21,8 @@ const KINDS: [(&str, usize); 25] = [
     ("tie", 100),
     ("by priority", 50),
     ("by sign", 50),
-    ("by the ends", 50),
+    ("highest first", 50),
+    ("lowest second", 50),
     ("by index", 50),
     ("all clocks full", 10),
     ("queue full", 10),
