@@ -2,7 +2,9 @@
 
 mod common;
 
-use common::{Random, create, likely_session, reschedule, row_9, set};
+use common::{
+    Random, create, create_clock, likely_session, reschedule, reschedule_on, row_9, set, set_on,
+};
 use olgaemuri::{Command, Entity, Hazard, NO_CAUSE, Outcome, Policy, Refusal, Session, Step, Tie};
 
 /// Each session with what it gave.
@@ -137,22 +139,8 @@ fn draws_before_a_bad_threshold() {
 fn draws_of_sixteen_full_clocks() {
     let mut session = Session::new([2.0; 200]);
     for clock in 0..16 {
-        let (policy, tie) = (Policy::RetainResidual, Tie::LowestCause);
-        session.push(Command::Create {
-            clock,
-            process: 0,
-            policy,
-            tie,
-            scale: 1.0,
-            entity: None,
-        });
-        let set = |cause| Command::Set {
-            clock,
-            cause,
-            priority: 0,
-            hazard: Hazard::Zero,
-            now: 0.0,
-        };
+        session.push(create_clock(clock, Policy::RetainResidual));
+        let set = |cause| set_on(clock, cause, 0.0, 0.0);
         session.extend((0..8).map(set));
     }
     let run = session.run();
@@ -251,28 +239,11 @@ fn censored_events_and_other_clocks() {
 fn urgent_events_come_first() {
     let mut session = Session::new([2.0; 5]);
     for (clock, priority) in (0..).zip([1, i32::MAX, -1, i32::MIN, 0]) {
-        let (policy, tie) = (Policy::Restart, Tie::LowestCause);
-        session.push(Command::Create {
-            clock,
-            process: 0,
-            policy,
-            tie,
-            scale: 1.0,
-            entity: None,
-        });
-        session.push(Command::Set {
-            clock,
-            cause: 100 + u32::from(clock),
-            priority: 0,
-            hazard: Hazard::Constant(0.5),
-            now: 0.0,
-        });
-        session.push(Command::Reschedule {
-            clock,
-            now: 0.0,
-            censor: None,
-            priority,
-        });
+        session.extend([
+            create_clock(clock, Policy::Restart),
+            set_on(clock, 100 + u32::from(clock), 0.5, 0.0),
+            reschedule_on(clock, 0.0, priority),
+        ]);
     }
     let pending: Vec<u8> = session.run().pending().iter().map(|e| e.clock).collect();
     assert_eq!(pending, [1, 0, 4, 2, 3]);

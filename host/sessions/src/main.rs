@@ -23,7 +23,7 @@ const ENGINE: Run = olgaemuri_sys::run;
 fn main() -> ExitCode {
     let words: Vec<String> = env::args().skip(1).collect();
     let Some((seed, count, maker)) = arguments(&words) else {
-        let names = KINDS.map(|(name, _)| name).join(", ");
+        let names = KINDS.map(|(name, _, _)| name).join(", ");
         eprintln!("usage: sessions SEED COUNT [KIND]\nKIND is one of {names}");
         return ExitCode::from(2);
     };
@@ -49,8 +49,8 @@ fn arguments(words: &[String]) -> Option<(u64, u64, Maker)> {
     let (numbers, maker) = match words {
         [seed, count] => ([seed, count], session_kinds::random as Maker),
         [seed, count, kind] => {
-            let named = KINDS.iter().find(|(name, _)| name == kind)?;
-            ([seed, count], named.1)
+            let (_, _, maker) = KINDS.into_iter().find(|(name, _, _)| name == kind)?;
+            ([seed, count], maker)
         }
         _ => return None,
     };

@@ -204,7 +204,8 @@ pub fn likely_session(random: &mut Random, commands: u64) -> Session {
     session
 }
 
-fn create_clock(clock: u8, policy: Policy) -> Command {
+/// CREATE of a clock, ten ticks to one unit of time.
+pub fn create_clock(clock: u8, policy: Policy) -> Command {
     Command::Create {
         clock,
         process: 7,
@@ -220,10 +221,10 @@ pub fn create(policy: Policy) -> Command {
     create_clock(0, policy)
 }
 
-/// SET on clock 0 of a constant rate.
-pub fn set(cause: u32, rate: f64, now: f64) -> Command {
+/// SET on a clock of a constant rate.
+pub fn set_on(clock: u8, cause: u32, rate: f64, now: f64) -> Command {
     Command::Set {
-        clock: 0,
+        clock,
         cause,
         priority: 0,
         hazard: Hazard::Constant(rate),
@@ -231,14 +232,24 @@ pub fn set(cause: u32, rate: f64, now: f64) -> Command {
     }
 }
 
-/// RESCHEDULE of clock 0 without a censor time.
-pub fn reschedule(now: f64) -> Command {
+/// SET on clock 0 of a constant rate.
+pub fn set(cause: u32, rate: f64, now: f64) -> Command {
+    set_on(0, cause, rate, now)
+}
+
+/// RESCHEDULE of a clock without a censor time.
+pub fn reschedule_on(clock: u8, now: f64, priority: i32) -> Command {
     Command::Reschedule {
-        clock: 0,
+        clock,
         now,
         censor: None,
-        priority: 0,
+        priority,
     }
+}
+
+/// RESCHEDULE of clock 0 without a censor time, priority 0.
+pub fn reschedule(now: f64) -> Command {
+    reschedule_on(0, now, 0)
 }
 
 /// Document 01's row 9: one press whose breakdown is scheduled for tick 40.

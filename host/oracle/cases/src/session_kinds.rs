@@ -55,24 +55,25 @@ fn cut_at_every_length(whole: &Session) -> Vec<Session> {
 /// Makes a random session.
 pub type Maker = fn(&mut Random) -> Session;
 
-/// Those of one kind alone, by its name.
-pub const KINDS: [(&str, Maker); 5] = [
-    ("as-listed", random_sessions::session),
-    ("full-clocks", full_clocks::session),
-    ("junk", with_junk),
-    ("cuts", with_cuts),
-    ("equal-ticks", equal_ticks::session),
+/// The kinds of random sessions, each with how many of a thousand are of it.
+pub const KINDS: [(&str, u64, Maker); 5] = [
+    ("full-clocks", 5, full_clocks::session),
+    ("junk", 50, with_junk),
+    ("cuts", 45, with_cuts),
+    ("equal-ticks", 50, equal_ticks::session),
+    ("as-listed", 850, random_sessions::session),
 ];
 
-/// Of a thousand: 850 as in the fixed list, 50 with junk among their bytes, 50 with equal ticks, 45 cut, 5 with full clocks.
+/// A session of any kind, by their shares.
 pub fn random(random: &mut Random) -> Session {
-    match random.below(1000) {
-        0..5 => full_clocks::session(random),
-        5..55 => with_junk(random),
-        55..100 => with_cuts(random),
-        100..150 => equal_ticks::session(random),
-        _ => random_sessions::session(random),
+    let mut rest = random.below(1000);
+    for (_, share, maker) in KINDS {
+        if rest < share {
+            return maker(random);
+        }
+        rest -= share;
     }
+    unreachable!("the shares are a thousand")
 }
 
 /// Some bytes of the commands and of the stream are any bytes; in one of five all bytes of the commands are, most of them small.
