@@ -97,7 +97,7 @@ evaluated-inversion-signed f start w held =
 -- ---- the sampler
 
 -- a value with a bound is at least 0 and not infinite
-upto-finite : {b : ℕ} {x : Float} → Upto b x → T (isFiniteWait x)
+pub upto-finite : {b : ℕ} {x : Float} → Upto b x → T (isFiniteWait x)
 unfolding isFiniteWait
 upto-finite {b} {x} u =
     and-i (le z x) (lt x (inf false)) (zero-le-upto u)
@@ -168,7 +168,7 @@ module _ (s : SampleSettings) (age : T (isTime (s .«current_age»))) (censor : 
       (candidates-finite tie Nothing (inCauseOrder (c ∷ cs)) (s .«current_age») (thresholdAt stream) position tt)
 
 -- settings that are not refused: age and censor age are times
-ages-accepted : (causes : List CompetingCause) (n : ℕ) (s : SampleSettings) → faultNumber causes n s ≡ 0
+pub ages-accepted : (causes : List CompetingCause) (n : ℕ) (s : SampleSettings) → faultNumber causes n s ≡ 0
     → T (isTime (s .«current_age») && isTime (s .«censor_age»))
 unfolding settingsFaults
 ages-accepted causes n s h =

@@ -11,3 +11,4 @@ pub mod Draws
 pub mod Ties
 pub mod Sampler
 pub mod SamplerInternals
+pub mod ListOrder

@@ -1,0 +1,112 @@
+-- Change 8 of document 02, "The list's order must not matter": each of its five sentences as a statement about `sampleNext` (Sampler), in
+-- their order. A candidate's time is its wait from the current age on.
+use mathlib.Core.Path.{_≡_}
+use mathlib.Core.Bool.{Bool, true, false, not, _&&_}
+use mathlib.Core.List.{List, [], _∷_}
+use mathlib.Core.Option.{some}
+use Prim.Native.Nat.{ℕ, _+_, _*_}
+use lib.Dec.{T, eqb, ltb}
+use lib.ListN.{take, getElem?}
+use lib.Ieee.{Float, binary64, add, sub, lt, le, eq, fits}
+use lib.Ieee.Positive.{num, den}
+use Rattle.hazards.specs.Lists.{all}
+use Rattle.hazards.specs.Answers.{noEvent, eventOf}
+use Rattle.hazards.specs.Draws.{thresholdAt}
+use Rattle.hazards.specs.Ties.{tieBreakerOf, preferred}
+use Rattle.hazards.specs.Sampler.{inCauseOrder, candidates, sampleNext}
+use Rattle.hazards.specs.declared.ties.Candidate.{Candidate}
+use Rattle.hazards.specs.declared.sampler.CompetingCause.{CompetingCause}
+use Rattle.hazards.specs.declared.sampler.SampleSettings.{SampleSettings}
+use Rattle.hazards.specs.declared.sampler.Sampled.{Sampled}
+
+-- ---- the same records in another order, with all causes different
+
+-- the second list is the first in another order: no element moves, the first element stays and the others move, the first two change
+-- places, or one such move follows another
+pub data Reordered {A : Type 0} : List A → List A → Type 0 where
+  none : Reordered [] []
+  keep : (x : A) {xs ys : List A} → Reordered xs ys → Reordered (x ∷ xs) (x ∷ ys)
+  swap : (x y : A) (xs : List A) → Reordered (x ∷ y ∷ xs) (y ∷ x ∷ xs)
+  follow : {xs ys zs : List A} → Reordered xs ys → Reordered ys zs → Reordered xs zs
+
+-- no two of the records have the same cause
+unfoldable pub differentCauses : List CompetingCause → Bool
+differentCauses [] = true
+differentCauses (c ∷ cs) = all (λ d. not (eqb (d .«cause_id») (c .«cause_id»))) cs && differentCauses cs
+
+-- "For any two orders of the same sampler records with all causes different, all else the same and both accepted, the answer and the draw
+-- position after it are the same." The records are the n that are used. That both are accepted is not asked for: an order that is refused
+-- is refused in the other order too, by the same number.
+abbrev pub AnyOrder : Type 0
+AnyOrder = (first second : List CompetingCause) (n : ℕ) (s : SampleSettings) (stream : List ℕ) (position : ℕ)
+    → Reordered (take n first) (take n second) → differentCauses (take n first) ≡ true
+    → sampleNext first n s stream position ≡ sampleNext second n s stream position
+
+-- ---- of one sample
+
+-- age + wait is below the censor age, in exact numbers: each of the three is the fraction num / den
+abbrev pub exactlyBelow : Float → Float → Float → Bool
+exactlyBelow age wait censor = ltb ((num age * den wait + num wait * den age) * den censor) (num censor * (den age * den wait))
+
+module _ (causes : List CompetingCause) (n : ℕ) (s : SampleSettings) (stream : List ℕ) (position : ℕ) where
+  abbrev pub sampled : Sampled
+  sampled = sampleNext causes n s stream position
+
+  -- those of the used records, each with the threshold that it draws
+  abbrev pub drawnCandidates : List Candidate
+  drawnCandidates = candidates (inCauseOrder (take n causes)) (s .«current_age») (thresholdAt stream) position
+
+  abbrev pub IsCandidate : Candidate → Type 0
+  IsCandidate c = (place : ℕ) × (getElem? drawnCandidates place ≡ some c)
+
+  -- "A censored answer leaves no candidate whose age + wait is below the censor age": neither the exact sum nor the rounded one is. There is
+  -- then a censor age.
+  pub record LeavesNoCandidate : Type 0 where
+    pub censor-age : s .«has_censor» ≡ 1
+    pub exact-sum : (c : Candidate) → IsCandidate c → exactlyBelow (s .«current_age») (c .time) (s .«censor_age») ≡ false
+    pub rounded-sum : (c : Candidate) → IsCandidate c → lt (add binary64 (s .«current_age») (c .time)) (s .«censor_age») ≡ false
+
+  -- "An uncensored winner has no rival candidate that is earlier, or as early and preferred by the tie choice, and isn't after a censor age
+  -- above the current one." It is a candidate, and its cause and wait are answered. That it isn't after the censor age is said of the wait
+  -- and the rounded difference of the ages, which the Rust compares; the exact ones can part from it (docs/DIFFERENCES.md).
+  pub record Winner (w : Candidate) : Type 0 where
+    pub is-candidate : IsCandidate w
+    pub answered : sampled .answer ≡ eventOf (w .«cause_id») (w .time) false
+    pub none-earlier : (c : Candidate) → IsCandidate c → lt (c .time) (w .time) ≡ false
+    pub none-preferred : (c : Candidate) → IsCandidate c → eq (c .time) (w .time) ≡ true
+        → preferred (tieBreakerOf (s .tie)) c w ≡ false
+    pub not-after-censor : s .«has_censor» ≡ 1 → lt (s .«current_age») (s .«censor_age») ≡ true
+        → le (w .time) (sub binary64 (s .«censor_age») (s .«current_age»)) ≡ true
+
+  -- "there is no candidate and no such censor age", which is one above the current age
+  pub record NothingAhead : Type 0 where
+    pub no-candidate : drawnCandidates ≡ []
+    pub no-censor : s .«has_censor» ≡ 1 → lt (s .«current_age») (s .«censor_age») ≡ false
+
+  -- "Otherwise 'no event' is answered only when" that is so; and then it is answered
+  pub record OnlyThen : Type 0 where
+    pub only : sampled .answer .event ≡ false → NothingAhead
+    pub then : NothingAhead → sampled .answer ≡ noEvent 0
+
+-- ---- the second sentence to the fifth, of every sample
+
+-- every f64 is a value that binary64 holds
+abbrev pub CensoredAnswer : Type 0
+CensoredAnswer = (causes : List CompetingCause) (n : ℕ) (s : SampleSettings) (stream : List ℕ) (position : ℕ)
+    → T (fits binary64 (s .«censor_age»)) → sampled causes n s stream position .answer .censored ≡ true
+    → LeavesNoCandidate causes n s stream position
+
+abbrev pub UncensoredWinner : Type 0
+UncensoredWinner = (causes : List CompetingCause) (n : ℕ) (s : SampleSettings) (stream : List ℕ) (position : ℕ)
+    → sampled causes n s stream position .answer .event ≡ true → sampled causes n s stream position .answer .censored ≡ false
+    → (w : Candidate) × Winner causes n s stream position w
+
+-- "An empty list answers no event", even with a censor age
+abbrev pub EmptyList : Type 0
+EmptyList = (causes : List CompetingCause) (n : ℕ) (s : SampleSettings) (stream : List ℕ) (position : ℕ) → take n causes ≡ []
+    → sampled causes n s stream position .answer .number ≡ 0 → sampled causes n s stream position .answer ≡ noEvent 0
+
+abbrev pub NoEvent : Type 0
+NoEvent = (causes : List CompetingCause) (n : ℕ) (s : SampleSettings) (stream : List ℕ) (position : ℕ) → (take n causes ≡ [] → ⊥)
+    → sampled causes n s stream position .answer .number ≡ 0
+    → OnlyThen causes n s stream position

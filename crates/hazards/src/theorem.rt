@@ -1,0 +1,28 @@
+// Change 8 of document 02, "The list's order must not matter": its five sentences, as contracts of functions that do nothing, so that the
+// check's log names them.
+ghost use Rattle.hazards.specs.ListOrder.{AnyOrder, CensoredAnswer, UncensoredWinner, EmptyList, NoEvent};
+
+// Two orders of the same records, all causes different, give the same answer and the same position.
+pub fn any_order()
+    ensures { λ _. ⌜ AnyOrder ⌝ }
+{}
+
+// A censored answer leaves no candidate whose age + wait is below the censor age.
+pub fn censored_answer()
+    ensures { λ _. ⌜ CensoredAnswer ⌝ }
+{}
+
+// An uncensored winner has no rival that is earlier, or as early and preferred, and isn't after a censor age above the current one.
+pub fn uncensored_winner()
+    ensures { λ _. ⌜ UncensoredWinner ⌝ }
+{}
+
+// An empty list answers no event.
+pub fn empty_list()
+    ensures { λ _. ⌜ EmptyList ⌝ }
+{}
+
+// Otherwise no event is answered only when there is no candidate and no such censor age.
+pub fn no_event()
+    ensures { λ _. ⌜ NoEvent ⌝ }
+{}
