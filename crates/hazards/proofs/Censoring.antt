@@ -65,7 +65,7 @@ module _ (age censor : Float) (u : Upto (2 ^ 40) age) (v : Upto (2 ^ 40) censor)
         → lt (sub binary64 censor age) (fin false m e) ≡ false
     rounded-difference m e held h =
         let over = round-at-least m e (num censor * den age - num age * den censor) (den censor * den age) held
-            (mul-pos (den-pos censor) (den-pos age)) h in
+        (mul-pos (den-pos censor) (den-pos age)) h in
         let d = sub-upto (2 ^ 40) v u ahead time-stays in
         cross-not-lt (sub binary64 censor age) (fin false m e) difference-finite (upto-finite (own-upto m e))
         (le→cross (own-upto m e) d (rw (sub-up-is v u ahead) over))

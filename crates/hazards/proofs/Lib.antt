@@ -36,3 +36,4 @@ pub mod UptoOperations
 pub mod UptoOrder
 pub mod WaitBounds
 pub mod Winners
+pub mod WorkedLists

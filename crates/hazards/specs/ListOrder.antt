@@ -6,7 +6,7 @@ use mathlib.Core.List.{List, [], _∷_}
 use mathlib.Core.Option.{some}
 use Prim.Native.Nat.{ℕ, _+_, _*_}
 use lib.Dec.{T, eqb, ltb}
-use lib.ListN.{take, getElem?}
+use lib.ListN.{length, take, getElem?}
 use lib.Ieee.{Float, binary64, add, sub, lt, le, eq, fits}
 use lib.Ieee.Positive.{num, den}
 use Rattle.hazards.specs.Lists.{all}
@@ -41,6 +41,13 @@ abbrev pub AnyOrder : Type 0
 AnyOrder = (first second : List CompetingCause) (n : ℕ) (s : SampleSettings) (stream : List ℕ) (position : ℕ)
     → Reordered (take n first) (take n second) → differentCauses (take n first) ≡ true
     → sampleNext first n s stream position ≡ sampleNext second n s stream position
+
+-- No order is left out: with all causes different, two lists of the same length are in this relation as soon as each record of the first
+-- stands somewhere in the second.
+abbrev pub EveryOrder : Type 0
+EveryOrder = (first second : List CompetingCause) → differentCauses first ≡ true → length first ≡ length second
+    → ((place : ℕ) (c : CompetingCause) → getElem? first place ≡ some c → (other : ℕ) × (getElem? second other ≡ some c))
+    → Reordered first second
 
 -- ---- of one sample
 

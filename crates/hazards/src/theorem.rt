@@ -1,10 +1,15 @@
 // Change 8 of document 02, "The list's order must not matter": its five sentences, as contracts of functions that do nothing, so that the
 // check's log names them.
-ghost use Rattle.hazards.specs.ListOrder.{AnyOrder, CensoredAnswer, UncensoredWinner, EmptyList, NoEvent};
+ghost use Rattle.hazards.specs.ListOrder.{AnyOrder, EveryOrder, CensoredAnswer, UncensoredWinner, EmptyList, NoEvent};
 
 // Two orders of the same records, all causes different, give the same answer and the same position.
 pub fn any_order()
     ensures { λ _. ⌜ AnyOrder ⌝ }
+{}
+
+// No order of records with all causes different is left out.
+pub fn every_order()
+    ensures { λ _. ⌜ EveryOrder ⌝ }
 {}
 
 // A censored answer leaves no candidate whose age + wait is below the censor age.
