@@ -8,6 +8,7 @@ use cases::chosen;
 use cases::evaluations::EvaluationCase;
 use cases::random::Random;
 use cases::samples::SampleCase;
+use reference::answer::Answer;
 
 /// What stands in a buffer before a call, so that a byte left out is seen.
 const FILLED: u8 = 0xA5;
@@ -67,8 +68,8 @@ fn on_numbers(case: &EvaluationCase) -> Result<(), String> {
     }
 }
 
-/// `left_over`: under 8 bytes after the last whole threshold.
-fn sample(case: &SampleCase, left_over: &[u8]) -> Result<(), String> {
+/// What both sides answer, with the position after it. `left_over`: under 8 bytes after the last whole threshold.
+pub fn sample(case: &SampleCase, left_over: &[u8]) -> Result<(Answer, u64), String> {
     let (answer, after) = case.expected();
     let expected = formats::sample(&answer, after);
     let mut request = Vec::new();
@@ -79,7 +80,7 @@ fn sample(case: &SampleCase, left_over: &[u8]) -> Result<(), String> {
     let mut out = [FILLED; SAMPLE_BYTES];
     let done = probe::sample(&request, &stream, &positions, &mut out);
     if done == 1 && out == expected {
-        return Ok(());
+        return Ok((answer, after));
     }
     let sides = [expected, out].map(|bytes| describe::sample(&bytes));
     Err(difference(

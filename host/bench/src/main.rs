@@ -1,5 +1,5 @@
 //! `bench` times the Rattle libraries against the unchanged Rust: evaluations, sampler, engine. `bench --engine`: the engine alone.
-//! `bench --compare SEED COUNT` compares their answers on random cases.
+//! `bench --compare SEED COUNT` compares their answers on random cases, `bench --orders SEED COUNT` on lists of records in several orders.
 
 #![deny(unsafe_code)]
 
@@ -9,6 +9,7 @@ mod engine_report;
 mod engine_workloads;
 mod formats;
 mod numbers;
+mod orders;
 mod probe;
 mod report;
 mod rust_side;
@@ -35,6 +36,10 @@ fn main() -> ExitCode {
             (Ok(seed), Ok(count)) => compare(seed, count),
             _ => usage(),
         },
+        ["--orders", seed, count] => match (seed.parse(), count.parse()) {
+            (Ok(seed), Ok(count)) => orders(seed, count),
+            _ => usage(),
+        },
         _ => usage(),
     }
 }
@@ -52,7 +57,20 @@ fn compare(seed: u64, count: u64) -> ExitCode {
     }
 }
 
+fn orders(seed: u64, count: u64) -> ExitCode {
+    match orders::run(seed, count) {
+        Ok(counts) => {
+            println!("seed {seed}: {counts}");
+            ExitCode::SUCCESS
+        }
+        Err(difference) => {
+            println!("{difference}");
+            ExitCode::FAILURE
+        }
+    }
+}
+
 fn usage() -> ExitCode {
-    eprintln!("usage: bench [--engine | --compare SEED COUNT]");
+    eprintln!("usage: bench [--engine | --compare SEED COUNT | --orders SEED COUNT]");
     ExitCode::from(2)
 }
