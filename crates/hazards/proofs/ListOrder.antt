@@ -12,6 +12,7 @@ use lib.Ieee.{Float, binary64, sub, lt, le, fits}
 use lib.Ieee.Fits.{and-l, and-r}
 use Rattle.hazards.specs.Floats.{notBelowZero, isTime, isFiniteWait}
 use Rattle.hazards.specs.Lists.{foldl}
+use Rattle.hazards.specs.Refusals.{noCause}
 use Rattle.hazards.specs.Answers.{noEvent, eventOf}
 use Rattle.hazards.specs.Checks.{hazardOf, intervalsOf}
 use Rattle.hazards.specs.Rates.{invertCumulativeHazard}
@@ -103,63 +104,96 @@ one-holds : (a b : Bool) → (a && b) ≡ false → a ≡ true → b ≡ false
 one-holds true b h e = h
 one-holds false b h e = absurd (true≢false (sym e))
 
+-- which of two answers it is, by a flag that the other does not have so
+module _ (flag : Answer → Bool) (test : Bool) (x y : Answer) {v : Bool} where
+  first-of : flag (cond test x y) ≡ v → (flag y ≡ v → ⊥) → test ≡ true
+  first-of h other = by-test test (λ p. p) (λ p. absurd (other (rw p at h)))
+
+  second-of : flag (cond test x y) ≡ v → (flag x ≡ v → ⊥) → test ≡ false
+  second-of h other = by-test test (λ p. absurd (other (rw p at h))) (λ p. p)
+
+abbrev isEvent : Answer → Bool
+isEvent a = a .event
+
+abbrev isCensored : Answer → Bool
+isCensored a = a .censored
+
 module _ (s : SampleSettings) where
+  abbrev given : Bool
+  given = eqb (s .«has_censor») 1
+
+  -- there is a censor age above the current one
+  abbrev ahead : Bool
+  ahead = given && lt (s .«current_age») (s .«censor_age»)
+
+  abbrev difference : Float
+  difference = sub binary64 (s .«censor_age») (s .«current_age»)
+
   abbrev span : Float
-  span = notBelowZero (sub binary64 (s .«censor_age») (s .«current_age»))
+  span = notBelowZero difference
+
+  -- an event is after the censor age, as the sampler has it
+  abbrev after : Candidate → Bool
+  after w = given && lt span (w .time)
+
+  abbrev atCensor : Float → Answer
+  atCensor delta = eventOf noCause delta true
+
+  abbrev won : Candidate → Answer
+  won w = eventOf (w .«cause_id») (w .time) false
 
   -- longer than the span to the censor age
   abbrev Longer : Earliest → Type 0
   Longer Nothing = Unit {0}
   Longer (Found w) = lt span (w .time) ≡ true
 
-  censored-tells : (e : Earliest) → censoredAt e s .censored ≡ true → (s .«has_censor» ≡ 1) × Longer e
+  censored-tells : (e : Earliest) → isCensored (censoredAt e s) ≡ true → (s .«has_censor» ≡ 1) × Longer e
   unfolding censoredAt
   censored-tells Nothing h =
-      by-test (eqb (s .«has_censor») 1) (λ p. (eqb-true (s .«has_censor») 1 p, tt)) (λ p. absurd (true≢false (sym (rw p at h))))
+      let both = both-hold given _ (first-of isCensored ahead (atCensor difference) (noEvent 0) h (λ e. true≢false (sym e))) in
+      (eqb-true (s .«has_censor») 1 (both .0), tt)
   censored-tells (Found w) h =
-      by-test (eqb (s .«has_censor») 1 && lt span (w .time))
-      (λ p.
-      let both = both-hold (eqb (s .«has_censor») 1) (lt span (w .time)) p in
-      (eqb-true (s .«has_censor») 1 (both .0), both .1))
-      (λ p. absurd (true≢false (sym (rw p at h))))
+      let both = both-hold given _ (first-of isCensored (after w) (atCensor span) (won w) h (λ e. true≢false (sym e))) in
+      (eqb-true (s .«has_censor») 1 (both .0), both .1)
 
   -- an uncensored event is that of the earliest, which is not longer
   record Wins (e : Earliest) : Type 0 where
     winner : Candidate
     found : e ≡ Found winner
-    answers : censoredAt e s ≡ eventOf (winner .«cause_id») (winner .time) false
+    answers : censoredAt e s ≡ won winner
     within : s .«has_censor» ≡ 1 → lt span (winner .time) ≡ false
 
-  event-tells : (e : Earliest) → censoredAt e s .event ≡ true → censoredAt e s .censored ≡ false → Wins e
+  event-tells : (e : Earliest) → isEvent (censoredAt e s) ≡ true → isCensored (censoredAt e s) ≡ false → Wins e
   unfolding censoredAt
   event-tells Nothing h k =
-      by-test (eqb (s .«has_censor») 1 && lt (s .«current_age») (s .«censor_age»)) (λ p. absurd (true≢false (rw p at k)))
-      (λ p. absurd (true≢false (sym (rw p at h))))
+      let no = second-of isCensored ahead (atCensor difference) (noEvent 0) k true≢false in
+      absurd (true≢false (sym (first-of isEvent ahead (atCensor difference) (noEvent 0) h (λ e. true≢false (sym e))) ∙ no))
   event-tells (Found w) h k =
-      by-test (eqb (s .«has_censor») 1 && lt span (w .time)) (λ p. absurd (true≢false (rw p at k)))
-      (λ p. record {
+      let no = second-of isCensored (after w) (atCensor span) (won w) k true≢false in
+      record {
         winner = w;
         found = refl;
-        answers = rw p;
-        within = λ e. one-holds (eqb (s .«has_censor») 1) (lt span (w .time)) p (eq-eqb (s .«has_censor») 1 e);
-      })
+        answers = rw no;
+        within = λ e. one-holds given (lt span (w .time)) no (eq-eqb (s .«has_censor») 1 e);
+      }
 
   -- no event is answered for no candidate and no censor age above the current one
-  nothing-tells : (e : Earliest) → censoredAt e s .event ≡ false
+  nothing-tells : (e : Earliest) → isEvent (censoredAt e s) ≡ false
       → (e ≡ Nothing) × (s .«has_censor» ≡ 1 → lt (s .«current_age») (s .«censor_age») ≡ false)
   unfolding censoredAt
   nothing-tells Nothing h =
-      let later = lt (s .«current_age») (s .«censor_age») in
-      by-test (eqb (s .«has_censor») 1 && later) (λ p. absurd (true≢false (rw p at h)))
-      (λ p. (refl, λ e. one-holds (eqb (s .«has_censor») 1) later p (eq-eqb (s .«has_censor») 1 e)))
+      let no = second-of isEvent ahead (atCensor difference) (noEvent 0) h true≢false in
+      (refl, λ e. one-holds given (lt (s .«current_age») (s .«censor_age»)) no (eq-eqb (s .«has_censor») 1 e))
   nothing-tells (Found w) h =
-      by-test (eqb (s .«has_censor») 1 && lt span (w .time)) (λ p. absurd (true≢false (rw p at h)))
-      (λ p. absurd (true≢false (rw p at h)))
+      let no = second-of isEvent (after w) (atCensor span) (won w) h true≢false in
+      absurd (true≢false (sym (first-of isEvent (after w) (atCensor span) (won w) h true≢false) ∙ no))
+
+  not-ahead : (s .«has_censor» ≡ 1 → lt (s .«current_age») (s .«censor_age») ≡ false) → ahead ≡ false
+  not-ahead h = by-test given (λ p. rw (p, h (eqb-true (s .«has_censor») 1 p))) (λ p. rw p)
 
   told-nothing : (s .«has_censor» ≡ 1 → lt (s .«current_age») (s .«censor_age») ≡ false) → censoredAt Nothing s ≡ noEvent 0
   unfolding censoredAt
-  told-nothing h =
-      by-test (eqb (s .«has_censor») 1) (λ p. rw (p, h (eqb-true (s .«has_censor») 1 p))) (λ p. rw p)
+  told-nothing h = ap (λ (b : Bool). cond b (atCensor difference) (noEvent 0)) (not-ahead h)
 
 -- ---- of one sample
 
@@ -248,10 +282,9 @@ module _ (causes : List CompetingCause) (n : ℕ) (s : SampleSettings) (stream :
 
   leaves-none : T (fits binary64 (s .«censor_age»)) → answer .censored ≡ true → LeavesNoCandidate causes n s stream position
   leaves-none held h =
-      let flag : Answer → Bool = λ a. a .censored in
-      let accepted = flag-accepted flag (λ number. refl) h in
-      let answered = flag-answered flag (λ number. refl) h in
-      let tells = censored-tells s best (sym (ap flag answered) ∙ h) in
+      let accepted = flag-accepted isCensored (λ number. refl) h in
+      let answered = flag-answered isCensored (λ number. refl) h in
+      let tells = censored-tells s best (sym (ap isCensored answered) ∙ h) in
       let u = age-upto accepted in
       let v = censor-upto accepted in
       let longer = all-longer (span-finite (s .«current_age») (s .«censor_age») u v) best best-drawn (tells .1) in
@@ -294,10 +327,9 @@ module _ (causes : List CompetingCause) (n : ℕ) (s : SampleSettings) (stream :
 
   wins : answer .event ≡ true → answer .censored ≡ false → (w : Candidate) × Winner causes n s stream position w
   wins h k =
-      let flag : Answer → Bool = λ a. a .event in
-      let accepted = flag-accepted flag (λ number. refl) h in
-      let answered = flag-answered flag (λ number. refl) h in
-      let tells = event-tells s best (sym (ap flag answered) ∙ h) (sym (ap (λ (a : Answer). a .censored) answered) ∙ k) in
+      let accepted = flag-accepted isEvent (λ number. refl) h in
+      let answered = flag-answered isEvent (λ number. refl) h in
+      let tells = event-tells s best (sym (ap isEvent answered) ∙ h) (sym (ap isCensored answered) ∙ k) in
       (tells .winner, found-wins accepted (tells .winner) (tells .found) (answered ∙ tells .answers) (tells .within))
 
   -- ---- no event
@@ -314,7 +346,7 @@ module _ (causes : List CompetingCause) (n : ℕ) (s : SampleSettings) (stream :
       let answered = answer-some (refusal-zero h) (not-empty (take n causes) some) in
       record {
         only = λ none.
-            let tells = nothing-tells s best (sym (ap (λ (a : Answer). a .event) answered) ∙ none) in
+            let tells = nothing-tells s best (sym (ap isEvent answered) ∙ none) in
             record { no-candidate = none-found (tells .0); no-censor = tells .1 };
         then = λ nothing.
             answered
