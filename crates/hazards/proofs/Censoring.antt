@@ -1,7 +1,7 @@
 -- A wait that is longer than the rounded span from the age to the censor age, as the sampler has it: age and wait together are not below
 -- the censor age, in exact numbers and rounded. A wait that is not longer is at most the rounded difference of the ages.
-use mathlib.Core.Path.{_≡_, refl, sym, _∙_, ap}
-use mathlib.Core.Bool.{Bool, true, false, true≢false}
+use mathlib.Core.Path.{_≡_, refl, sym, _∙_}
+use mathlib.Core.Bool.{true, false, true≢false}
 use Prim.Native.Nat.{ℕ, _+_, _-_, _*_, _^_, _≤_, _<_}
 use native.Mathlib.Nat.{mul-comm, mul-sub, mul-le-mul-right, mul-pos}
 use native.Mathlib.Omega.{arith}
@@ -9,7 +9,6 @@ use borrow.Author.Tests.{leb-true, leb-false}
 use lib.IntN.{ℤ}
 use lib.Dec.{T, leb}
 use lib.Ieee.{Float, nan, inf, fin, binary64, up, down, round, add, sub, lt, le, eq, fits}
-use lib.Ieee.Bits.{is-true}
 use lib.Ieee.Positive.{num, den, den-pos}
 use Rattle.hazards.specs.Floats.{z, notBelowZero, isFiniteWait}
 use Rattle.hazards.proofs.Bounds.{Upto}
@@ -22,7 +21,7 @@ use Rattle.hazards.proofs.PublicBounds.{upto-finite}
 use Rattle.hazards.proofs.Upto.{for-fin, zero-upto, own-upto}
 use Rattle.hazards.proofs.UptoClamped.{clamped-difference-upto}
 use Rattle.hazards.proofs.UptoOperations.{round-signed, add-is, sub-up-is, sub-upto}
-use Rattle.hazards.proofs.UptoOrder.{le→cross, cross→le, lt-le}
+use Rattle.hazards.proofs.UptoOrder.{le→cross, lt-le}
 
 -- the two ages, at most 2^40 and not below 0
 module _ (age censor : Float) (u : Upto (2 ^ 40) age) (v : Upto (2 ^ 40) censor) where

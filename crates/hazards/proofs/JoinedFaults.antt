@@ -39,7 +39,7 @@ joined-comm a b =
     }
 
 -- the first two exchanged
-joined-swap : (a b c : Faults) → joined a (joined b c) ≡ joined b (joined a c)
+pub joined-swap : (a b c : Faults) → joined a (joined b c) ≡ joined b (joined a c)
 joined-swap a b c =
     sym (joined-assoc a b c) ∙ ap (λ (f : Faults). joined f c) (joined-comm a b) ∙ joined-assoc b a c
 

@@ -3,12 +3,12 @@ use mathlib.Core.Path.{_≡_, refl, sym, _∙_, ap}
 use mathlib.Core.Logic.{inl, inr}
 use mathlib.Core.Bool.{Bool, true, false, cond, _&&_, true≢false}
 use mathlib.Core.List.{List, [], _∷_}
-use Prim.Native.Nat.{ℕ, suc, _+_, _*_, _^_, _≤_, _<_}
+use Prim.Native.Nat.{ℕ, suc, _^_, _<_}
 use native.Mathlib.Omega.{arith}
 use borrow.Author.Tests.{eqb-true, eq-eqb, le-ltb}
 use lib.Dec.{T, eqb}
 use lib.ListN.{length, take}
-use lib.Ieee.{Float, binary64, sub, lt, le, fits}
+use lib.Ieee.{Float, binary64, sub, lt, fits}
 use lib.Ieee.Fits.{and-l, and-r}
 use Rattle.hazards.specs.Floats.{notBelowZero, isTime, isFiniteWait}
 use Rattle.hazards.specs.Lists.{foldl}
@@ -18,12 +18,11 @@ use Rattle.hazards.specs.Checks.{hazardOf, intervalsOf}
 use Rattle.hazards.specs.Rates.{invertCumulativeHazard}
 use Rattle.hazards.specs.Draws.{thresholdAt}
 use Rattle.hazards.specs.Ties.{candidateAfter, tieBreakerOf, precedes, earliest}
-use Rattle.hazards.specs.Sampler.{faultsOfAll, settingsFaults, sampleRefusal, inCauseOrder, candidates, censoredAt, sampledEvent}
+use Rattle.hazards.specs.Sampler.{sampleRefusal, inCauseOrder, candidates, censoredAt, sampledEvent}
 use Rattle.hazards.specs.Sampler.{sampleNext}
 use Rattle.hazards.specs.ListOrder.{Reordered, differentCauses, AnyOrder, CensoredAnswer, UncensoredWinner, EmptyList, NoEvent}
-use Rattle.hazards.specs.ListOrder.{exactlyBelow, sampled, drawnCandidates, IsCandidate, LeavesNoCandidate, Winner, NothingAhead, OnlyThen}
+use Rattle.hazards.specs.ListOrder.{sampled, drawnCandidates, IsCandidate, LeavesNoCandidate, Winner, OnlyThen}
 use Rattle.hazards.specs.declared.answers.Answer.{Answer}
-use Rattle.hazards.specs.declared.refusals.Faults.{Faults}
 use Rattle.hazards.specs.declared.rates.Wait.{Wait}
 use Rattle.hazards.specs.declared.rates.Wait.the-variants.{After, Never}
 use Rattle.hazards.specs.declared.ties.Candidate.{Candidate}

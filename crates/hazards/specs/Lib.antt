@@ -1,4 +1,4 @@
--- The definitions of the hazards crate, from floats and lists up to the sampler.
+-- The definitions of the hazards crate, from floats and lists up to the sampler, and what document 02 says of its list of records.
 pub mod Floats
 pub mod Lists
 pub mod Fields

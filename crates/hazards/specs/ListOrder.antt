@@ -1,5 +1,5 @@
--- Change 8 of document 02, "The list's order must not matter": each of its five sentences as a statement about `sampleNext` (Sampler), in
--- their order. A candidate's time is its wait from the current age on.
+-- Change 8 of document 02, "The list's order must not matter": each of its five sentences, in their order, as a statement about `sampleNext`
+-- (Sampler). The time of a candidate of the sampler is its wait.
 use mathlib.Core.Path.{_≡_}
 use mathlib.Core.Bool.{Bool, true, false, not, _&&_}
 use mathlib.Core.List.{List, [], _∷_}
@@ -21,8 +21,8 @@ use Rattle.hazards.specs.declared.sampler.Sampled.{Sampled}
 
 -- ---- the same records in another order, with all causes different
 
--- the second list is the first in another order: no element moves, the first element stays and the others move, the first two change
--- places, or one such move follows another
+-- the second list is the first in another order: both are empty; the first element stays and the others are in another order; the first two
+-- change places; or one such step follows another
 pub data Reordered {A : Type 0} : List A → List A → Type 0 where
   none : Reordered [] []
   keep : (x : A) {xs ys : List A} → Reordered xs ys → Reordered (x ∷ xs) (x ∷ ys)
@@ -35,15 +35,15 @@ differentCauses [] = true
 differentCauses (c ∷ cs) = all (λ d. not (eqb (d .«cause_id») (c .«cause_id»))) cs && differentCauses cs
 
 -- "For any two orders of the same sampler records with all causes different, all else the same and both accepted, the answer and the draw
--- position after it are the same." The records are the n that are used. That both are accepted is not asked for: an order that is refused
--- is refused in the other order too, by the same number.
+-- position after it are the same." The records are the n that are used. That both are accepted is not asked for: what is refused in one
+-- order is refused in the other by the same number.
 abbrev pub AnyOrder : Type 0
 AnyOrder = (first second : List CompetingCause) (n : ℕ) (s : SampleSettings) (stream : List ℕ) (position : ℕ)
     → Reordered (take n first) (take n second) → differentCauses (take n first) ≡ true
     → sampleNext first n s stream position ≡ sampleNext second n s stream position
 
--- No order is left out: with all causes different, two lists of the same length are in this relation as soon as each record of the first
--- stands somewhere in the second.
+-- No order is left out: with all causes different, a list of the same length in which each record stands somewhere is the list in another
+-- order.
 abbrev pub EveryOrder : Type 0
 EveryOrder = (first second : List CompetingCause) → differentCauses first ≡ true → length first ≡ length second
     → ((place : ℕ) (c : CompetingCause) → getElem? first place ≡ some c → (other : ℕ) × (getElem? second other ≡ some c))
@@ -51,7 +51,7 @@ EveryOrder = (first second : List CompetingCause) → differentCauses first ≡ 
 
 -- ---- of one sample
 
--- age + wait is below the censor age, in exact numbers: each of the three is the fraction num / den
+-- age + wait is below the censor age, in exact numbers: each of the three, finite and not below 0, is the fraction num / den
 abbrev pub exactlyBelow : Float → Float → Float → Bool
 exactlyBelow age wait censor = ltb ((num age * den wait + num wait * den age) * den censor) (num censor * (den age * den wait))
 
@@ -59,23 +59,24 @@ module _ (causes : List CompetingCause) (n : ℕ) (s : SampleSettings) (stream :
   abbrev pub sampled : Sampled
   sampled = sampleNext causes n s stream position
 
-  -- those of the used records, each with the threshold that it draws
+  -- the used records' candidates: by ascending cause each draws a threshold, and a finite wait for it is a candidate
   abbrev pub drawnCandidates : List Candidate
   drawnCandidates = candidates (inCauseOrder (take n causes)) (s .«current_age») (thresholdAt stream) position
 
   abbrev pub IsCandidate : Candidate → Type 0
   IsCandidate c = (place : ℕ) × (getElem? drawnCandidates place ≡ some c)
 
-  -- "A censored answer leaves no candidate whose age + wait is below the censor age": neither the exact sum nor the rounded one is. There is
-  -- then a censor age.
+  -- "A censored answer leaves no candidate whose age + wait is below the censor age": there is a censor age, and neither the exact sum nor
+  -- the rounded one is below it
   pub record LeavesNoCandidate : Type 0 where
     pub censor-age : s .«has_censor» ≡ 1
     pub exact-sum : (c : Candidate) → IsCandidate c → exactlyBelow (s .«current_age») (c .time) (s .«censor_age») ≡ false
     pub rounded-sum : (c : Candidate) → IsCandidate c → lt (add binary64 (s .«current_age») (c .time)) (s .«censor_age») ≡ false
 
   -- "An uncensored winner has no rival candidate that is earlier, or as early and preferred by the tie choice, and isn't after a censor age
-  -- above the current one." It is a candidate, and its cause and wait are answered. That it isn't after the censor age is said of the wait
-  -- and the rounded difference of the ages, which the Rust compares; the exact ones can part from it (docs/DIFFERENCES.md).
+  -- above the current one." It is a candidate, and its cause and wait are answered. Earlier and as early are said of the waits, "isn't after"
+  -- of the wait and the rounded difference of the ages: these the Rust compares. The sum of age and wait, exact or rounded, may be above the
+  -- censor age by that rounding (docs/DIFFERENCES.md).
   pub record Winner (w : Candidate) : Type 0 where
     pub is-candidate : IsCandidate w
     pub answered : sampled .answer ≡ eventOf (w .«cause_id») (w .time) false
