@@ -77,16 +77,6 @@ pub fn censored_at(mut case: SampleCase, censor: f64) -> SampleCase {
     case
 }
 
-pub fn event(cause: u32, delta: f64) -> Answer {
-    Answer {
-        event: true,
-        censored: cause == CENSORED_CAUSE,
-        cause,
-        delta,
-        ..Answer::default()
-    }
-}
-
 /// 1 + k u, where u is the distance from 1 to the next f64.
 pub fn one_plus(k: u64) -> f64 {
     f64::from_bits(1.0f64.to_bits() + k)
@@ -116,17 +106,17 @@ fn worked_ties() -> Vec<(SampleCase, Answer)> {
     let mut lists = Vec::new();
     for (plain, urgent) in two_orders {
         let plain = records(&plain);
-        lists.push((case(&plain, 0, 0.0, &[2.0, 1.0]), event(2, 1.0)));
-        lists.push((case(&plain, 0, 0.0, &[1.0, 2.0]), event(1, 1.0)));
-        lists.push((case(&plain, 0, 0.0, &[1.0; 2]), event(1, 1.0)));
-        lists.push((case(&plain, 1, 0.0, &[1.0; 2]), event(2, 1.0)));
-        lists.push((case(&plain, 2, 0.0, &[1.0; 2]), event(1, 1.0)));
+        lists.push((case(&plain, 0, 0.0, &[2.0, 1.0]), Answer::event(2, 1.0)));
+        lists.push((case(&plain, 0, 0.0, &[1.0, 2.0]), Answer::event(1, 1.0)));
+        lists.push((case(&plain, 0, 0.0, &[1.0; 2]), Answer::event(1, 1.0)));
+        lists.push((case(&plain, 1, 0.0, &[1.0; 2]), Answer::event(2, 1.0)));
+        lists.push((case(&plain, 2, 0.0, &[1.0; 2]), Answer::event(1, 1.0)));
         let urgent = records(&urgent);
-        lists.push((case(&urgent, 2, 0.0, &[1.0; 2]), event(2, 1.0)));
+        lists.push((case(&urgent, 2, 0.0, &[1.0; 2]), Answer::event(2, 1.0)));
     }
     for three in [[(1, 1), (2, 3), (3, 2)], [(3, 2), (1, 1), (2, 3)]] {
         let three = records(&three);
-        lists.push((case(&three, 2, 0.0, &[1.0; 3]), event(2, 1.0)));
+        lists.push((case(&three, 2, 0.0, &[1.0; 3]), Answer::event(2, 1.0)));
     }
     lists
 }
@@ -141,15 +131,15 @@ fn worked_censors() -> Vec<(SampleCase, Answer)> {
     }];
     let never = case(&never, 0, 1.0, &[1.0]);
     let none = Answer::default();
-    let censored = |delta: f64| event(CENSORED_CAUSE, delta);
+    let censored = |delta: f64| Answer::event(CENSORED_CAUSE, delta);
     vec![
         (one(1.0, 1.5), censored(0.5)),
-        (one(1.0, 2.0), event(1, 1.0)),
-        (one(1.0, 4.0), event(1, 1.0)),
+        (one(1.0, 2.0), Answer::event(1, 1.0)),
+        (one(1.0, 4.0), Answer::event(1, 1.0)),
         (one(1.0, 0.5), censored(0.0)),
-        (one(0.0, 0.5), event(1, 0.0)),
+        (one(0.0, 0.5), Answer::event(1, 0.0)),
         (one(1.0, 1.0), censored(0.0)),
-        (one(0.0, 1.0), event(1, 0.0)),
+        (one(0.0, 1.0), Answer::event(1, 0.0)),
         (censored_at(never.clone(), 2.0), censored(1.0)),
         (censored_at(never.clone(), 1.0), none),
         (censored_at(never.clone(), 0.5), none),
@@ -165,12 +155,15 @@ fn worked_rounding() -> Vec<(SampleCase, Answer)> {
     vec![
         (
             censored_at(one(1.5 * u, one_plus(2)), one_plus(3)),
-            event(1, one_plus(2)),
+            Answer::event(1, one_plus(2)),
         ),
-        (censored_at(one(0.5 * u, 1.0), one_plus(1)), event(1, 1.0)),
-        (two(HIGH, 0, [one_plus(1), 1.0]), event(2, 1.0)),
-        (two(HIGH, 1, [1.0, one_plus(1)]), event(1, 1.0)),
-        (two(URGENT, 2, [1.0, one_plus(1)]), event(1, 1.0)),
+        (
+            censored_at(one(0.5 * u, 1.0), one_plus(1)),
+            Answer::event(1, 1.0),
+        ),
+        (two(HIGH, 0, [one_plus(1), 1.0]), Answer::event(2, 1.0)),
+        (two(HIGH, 1, [1.0, one_plus(1)]), Answer::event(1, 1.0)),
+        (two(URGENT, 2, [1.0, one_plus(1)]), Answer::event(1, 1.0)),
     ]
 }
 
@@ -178,7 +171,13 @@ fn worked_rounding() -> Vec<(SampleCase, Answer)> {
 fn worked_repeated() -> Vec<(SampleCase, Answer)> {
     let (slow, fast) = (constant(1, 0, 1.0), constant(1, 0, 2.0));
     vec![
-        (case(&[slow, fast], 0, 0.0, &[1.0, 4.0]), event(1, 1.0)),
-        (case(&[fast, slow], 0, 0.0, &[1.0, 4.0]), event(1, 0.5)),
+        (
+            case(&[slow, fast], 0, 0.0, &[1.0, 4.0]),
+            Answer::event(1, 1.0),
+        ),
+        (
+            case(&[fast, slow], 0, 0.0, &[1.0, 4.0]),
+            Answer::event(1, 0.5),
+        ),
     ]
 }

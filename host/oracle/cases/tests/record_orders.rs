@@ -3,7 +3,7 @@
 
 use cases::order_claims::{broken, exact_sum};
 use cases::random::Random;
-use cases::record_orders::{self, case, causes_differ, censored_at, constant, event, one_plus};
+use cases::record_orders::{self, case, causes_differ, censored_at, constant, one_plus};
 use cases::samples::SampleCase;
 use cases::tally;
 use reference::answer::Answer;
@@ -52,8 +52,8 @@ fn repeated_causes_where_the_order_matters() {
     let list = case(&[slow, fast], 0, 0.0, &[1.0, 4.0]);
     let turned = case(&[fast, slow], 0, 0.0, &[1.0, 4.0]);
     assert!(!causes_differ(&list.request));
-    assert_eq!(list.expected(), (event(1, 1.0), 2));
-    assert_eq!(turned.expected(), (event(1, 0.5), 2));
+    assert_eq!(list.expected(), (Answer::event(1, 1.0), 2));
+    assert_eq!(turned.expected(), (Answer::event(1, 0.5), 2));
 }
 
 /// Age 1.5 u, censor age 1 + 3 u, wait 1 + 2 u: uncensored, and after the censor age.
@@ -62,7 +62,7 @@ fn rounded_difference() {
     let age = 1.5 * (one_plus(1) - 1.0);
     let (wait, censor) = (one_plus(2), one_plus(3));
     let list = censored_at(case(&[constant(1, 0, 1.0)], 0, age, &[wait]), censor);
-    assert_eq!(list.expected().0, event(1, wait));
+    assert_eq!(list.expected().0, Answer::event(1, wait));
     assert_eq!(exact_sum(age, wait, censor), Ordering::Greater);
     assert_eq!(age + wait, one_plus(4));
     assert_eq!(censor - age, wait);
@@ -83,7 +83,7 @@ fn wrong_answers() {
     let causes = [constant(1, 0, 1.0), constant(2, 7, 1.0)];
     let list = |tie: u8, waits: &[f64; 2]| case(&causes, tie, 1.0, waits);
     let none = Answer::default();
-    let censored = event(CENSORED_CAUSE, 1.0);
+    let censored = Answer::event(CENSORED_CAUSE, 1.0);
     let empty = censored_at(case(&[], 0, 1.0, &[]), 2.0);
     let never = censored_at(case(&[constant(1, 0, 0.0)], 0, 1.0, &[1.0]), 2.0);
     let wrong: [(SampleCase, Answer, &str); 10] = [
@@ -93,16 +93,16 @@ fn wrong_answers() {
         (empty, censored, "an empty list"),
         (
             censored_at(list(0, &[1.0, 2.0]), 2.5),
-            event(CENSORED_CAUSE, 1.5),
+            Answer::event(CENSORED_CAUSE, 1.5),
             "leaves a candidate",
         ),
-        (list(0, &[1.0, 2.0]), event(1, 2.0), "no candidate"),
-        (list(0, &[1.0, 2.0]), event(2, 2.0), "earlier"),
-        (list(0, &[1.0, 1.0]), event(2, 1.0), "preferred"),
-        (list(2, &[1.0, 1.0]), event(1, 1.0), "preferred"),
+        (list(0, &[1.0, 2.0]), Answer::event(1, 2.0), "no candidate"),
+        (list(0, &[1.0, 2.0]), Answer::event(2, 2.0), "earlier"),
+        (list(0, &[1.0, 1.0]), Answer::event(2, 1.0), "preferred"),
+        (list(2, &[1.0, 1.0]), Answer::event(1, 1.0), "preferred"),
         (
             censored_at(list(0, &[1.0, 2.0]), 1.5),
-            event(1, 1.0),
+            Answer::event(1, 1.0),
             "after a censor age",
         ),
     ];

@@ -1,6 +1,7 @@
 //! The answer of 32 bytes (document 01, "Answer").
 
 use crate::refusal::Refusal;
+use crate::request::CENSORED_CAUSE;
 use kairo_ecs_rng::RealizedEvent;
 
 pub const ANSWER_BYTES: usize = 32;
@@ -35,6 +36,17 @@ impl Answer {
             delta: event.delta_time,
             ..Self::default()
         })
+    }
+
+    /// An event of a cause after a wait; of the censored cause, a censored one.
+    pub fn event(cause: u32, delta: f64) -> Self {
+        Self {
+            event: true,
+            censored: cause == CENSORED_CAUSE,
+            cause,
+            delta,
+            ..Self::default()
+        }
     }
 
     /// The same answer with ticks as low and high u64.

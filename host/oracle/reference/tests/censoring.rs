@@ -22,32 +22,22 @@ fn run(rate: f64, censor: f64) -> Answer {
     sample(&request, &2.0f64.to_le_bytes(), &mut 0)
 }
 
-fn event(cause: u32, delta: f64) -> Answer {
-    Answer {
-        event: true,
-        censored: cause == CENSORED_CAUSE,
-        cause,
-        delta,
-        ..Answer::default()
-    }
-}
-
 #[test]
 fn at_or_after_the_event_is_not_censored() {
-    assert_eq!(run(0.5, 5.0), event(6, 4.0));
-    assert_eq!(run(0.5, 9.0), event(6, 4.0));
+    assert_eq!(run(0.5, 5.0), Answer::event(6, 4.0));
+    assert_eq!(run(0.5, 9.0), Answer::event(6, 4.0));
 }
 
 #[test]
 fn before_the_event_is_censored() {
-    assert_eq!(run(0.5, 3.0), event(CENSORED_CAUSE, 2.0));
-    assert_eq!(run(0.5, 1.0), event(CENSORED_CAUSE, 0.0));
-    assert_eq!(run(0.5, 0.5), event(CENSORED_CAUSE, 0.0));
+    assert_eq!(run(0.5, 3.0), Answer::event(CENSORED_CAUSE, 2.0));
+    assert_eq!(run(0.5, 1.0), Answer::event(CENSORED_CAUSE, 0.0));
+    assert_eq!(run(0.5, 0.5), Answer::event(CENSORED_CAUSE, 0.0));
 }
 
 #[test]
 fn without_a_candidate_only_a_later_censor_is_an_event() {
-    assert_eq!(run(0.0, 3.0), event(CENSORED_CAUSE, 2.0));
+    assert_eq!(run(0.0, 3.0), Answer::event(CENSORED_CAUSE, 2.0));
     assert_eq!(run(0.0, 1.0), Answer::default());
     assert_eq!(run(0.0, 0.5), Answer::default());
 }
