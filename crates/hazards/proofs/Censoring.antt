@@ -71,7 +71,7 @@ module _ (age censor : Float) (u : Upto (2 ^ 40) age) (v : Upto (2 ^ 40) censor)
 
   -- ---- past the span
 
-  -- wait is longer than the span
+  -- age and wait together are not below the censor age, in exact numbers
   abbrev Sum : Float → Type 0
   Sum wait = num censor * (den age * den wait) ≤ (num age * den wait + num wait * den age) * den censor
 
@@ -85,7 +85,8 @@ module _ (age censor : Float) (u : Upto (2 ^ 40) age) (v : Upto (2 ^ 40) censor)
   short : (a c p q m d : ℕ) → (a * d + m * p) * q < c * (p * d) → m * (q * p) ≤ (c * p - a * q) * d
   short a c p q m d h =
       let k : m * (q * p) + a * q * d ≤ c * p * d = omega arith in
-      let e : (c * p - a * q) * d ≡ c * p * d - a * q * d = mul-comm (c * p - a * q) d ∙ mul-sub d (c * p) (a * q) ∙ rw (mul-comm d (c * p), mul-comm d (a * q)) in
+      let e : (c * p - a * q) * d ≡ c * p * d - a * q * d =
+      mul-comm (c * p - a * q) d ∙ mul-sub d (c * p) (a * q) ∙ rw (mul-comm d (c * p), mul-comm d (a * q)) in
       rw e (omega arith)
 
   ahead-past : (m : ℕ) (e : ℤ) → T (fits binary64 (fin false m e)) → lt age censor ≡ true → lt span (fin false m e) ≡ true

@@ -11,7 +11,7 @@ use lib.Ieee.{Float, nan, inf, fin, up, down, below, level, lt, le, eq}
 use lib.Ieee.Fits.{and-l}
 use lib.Ieee.Positive.{num, den, den-pos, through}
 use Rattle.hazards.specs.Floats.{isFiniteWait}
-use Rattle.hazards.proofs.Cases.{both-hold}
+use Rattle.hazards.proofs.Cases.{both-true}
 
 -- ---- finite and not below 0, and a negative number only as -0.0
 
@@ -75,7 +75,7 @@ eq-cross (fin s m e) (inf t) h = absurd (true≢false (sym h))
 eq-cross (fin s m e) (fin t n d) h =
     let a = m * up e * down d in
     let b = n * up d * down e in
-    eqb-true a b (both-hold (eqb a b) (Bool·beq s t || eqb a 0) h .0)
+    eqb-true a b (both-true (eqb a b) (Bool·beq s t || eqb a 0) h .0)
 
 pub eq-not-lt : (x y : Float) → T (isFiniteWait x) → T (isFiniteWait y) → eq x y ≡ true → lt y x ≡ false
 eq-not-lt x y f g h = cross-not-lt y x g f (omega (arith, eq-cross x y h))

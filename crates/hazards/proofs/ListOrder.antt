@@ -32,7 +32,7 @@ use Rattle.hazards.specs.declared.sampler.CompetingCause.{CompetingCause
 use Rattle.hazards.specs.declared.sampler.SampleSettings.{SampleSettings}
 use Rattle.hazards.proofs.Bounds.{Upto}
 use Rattle.hazards.proofs.Signs.{Held}
-use Rattle.hazards.proofs.Cases.{by-test, both-hold}
+use Rattle.hazards.proofs.Cases.{by-test, both-true}
 use Rattle.hazards.proofs.Members.{Member, at-place, of-place, member-joined}
 use Rattle.hazards.proofs.WaitBounds.{invert-held}
 use Rattle.hazards.proofs.FiniteOrder.{not-lt-trans}
@@ -146,28 +146,41 @@ module _ (s : SampleSettings) where
   Longer Nothing = Unit {0}
   Longer (Found w) = lt span (w .time) ≡ true
 
-  censored-tells : (e : Earliest) → isCensored (censoredAt e s) ≡ true → (s .«has_censor» ≡ 1) × Longer e
+  -- ---- a censored answer: without a candidate, with one
+
+  censored-none : isCensored (censoredAt Nothing s) ≡ true → s .«has_censor» ≡ 1
   unfolding censoredAt
-  censored-tells Nothing h =
-      let both = both-hold given _ (first-of isCensored ahead (atCensor difference) (noEvent 0) h (λ e. true≢false (sym e))) in
-      (eqb-true (s .«has_censor») 1 (both .0), tt)
-  censored-tells (Found w) h =
-      let both = both-hold given _ (first-of isCensored (after w) (atCensor span) (won w) h (λ e. true≢false (sym e))) in
+  censored-none h =
+      let both = both-true given _ (first-of isCensored ahead (atCensor difference) (noEvent 0) h (λ e. true≢false (sym e))) in
+      eqb-true (s .«has_censor») 1 (both .0)
+
+  censored-found : (w : Candidate) → isCensored (censoredAt (Found w) s) ≡ true → (s .«has_censor» ≡ 1) × (lt span (w .time) ≡ true)
+  unfolding censoredAt
+  censored-found w h =
+      let both = both-true given _ (first-of isCensored (after w) (atCensor span) (won w) h (λ e. true≢false (sym e))) in
       (eqb-true (s .«has_censor») 1 (both .0), both .1)
 
-  -- an uncensored event is that of the earliest, which is not longer
+  censored-tells : (e : Earliest) → isCensored (censoredAt e s) ≡ true → (s .«has_censor» ≡ 1) × Longer e
+  censored-tells Nothing h = (censored-none h, tt)
+  censored-tells (Found w) h = censored-found w h
+
+  -- ---- an uncensored event is that of the earliest candidate, which is not longer than the span
+
   record Wins (e : Earliest) : Type 0 where
     winner : Candidate
     found : e ≡ Found winner
     answers : censoredAt e s ≡ won winner
     within : s .«has_censor» ≡ 1 → lt span (winner .time) ≡ false
 
-  event-tells : (e : Earliest) → isEvent (censoredAt e s) ≡ true → isCensored (censoredAt e s) ≡ false → Wins e
+  event-none : isEvent (censoredAt Nothing s) ≡ true → isCensored (censoredAt Nothing s) ≡ false → ⊥
   unfolding censoredAt
-  event-tells Nothing h k =
+  event-none h k =
       let no = second-of isCensored ahead (atCensor difference) (noEvent 0) k true≢false in
-      absurd (true≢false (sym (first-of isEvent ahead (atCensor difference) (noEvent 0) h (λ e. true≢false (sym e))) ∙ no))
-  event-tells (Found w) h k =
+      true≢false (sym (first-of isEvent ahead (atCensor difference) (noEvent 0) h (λ e. true≢false (sym e))) ∙ no)
+
+  event-found : (w : Candidate) → isCensored (censoredAt (Found w) s) ≡ false → Wins (Found w)
+  unfolding censoredAt
+  event-found w k =
       let no = second-of isCensored (after w) (atCensor span) (won w) k true≢false in
       record {
         winner = w;
@@ -176,16 +189,28 @@ module _ (s : SampleSettings) where
         within = λ e. one-holds given (lt span (w .time)) no (eq-eqb (s .«has_censor») 1 e);
       }
 
-  -- no event is answered for no candidate and no censor age above the current one
+  event-tells : (e : Earliest) → isEvent (censoredAt e s) ≡ true → isCensored (censoredAt e s) ≡ false → Wins e
+  event-tells Nothing h k = absurd (event-none h k)
+  event-tells (Found w) h k = event-found w k
+
+  -- ---- no event is answered for no candidate and no censor age above the current one
+
+  nothing-none : isEvent (censoredAt Nothing s) ≡ false → s .«has_censor» ≡ 1 → lt (s .«current_age») (s .«censor_age») ≡ false
+  unfolding censoredAt
+  nothing-none h e =
+      let no = second-of isEvent ahead (atCensor difference) (noEvent 0) h true≢false in
+      one-holds given (lt (s .«current_age») (s .«censor_age»)) no (eq-eqb (s .«has_censor») 1 e)
+
+  nothing-found : (w : Candidate) → isEvent (censoredAt (Found w) s) ≡ false → ⊥
+  unfolding censoredAt
+  nothing-found w h =
+      let no = second-of isEvent (after w) (atCensor span) (won w) h true≢false in
+      true≢false (sym (first-of isEvent (after w) (atCensor span) (won w) h true≢false) ∙ no)
+
   nothing-tells : (e : Earliest) → isEvent (censoredAt e s) ≡ false
       → (e ≡ Nothing) × (s .«has_censor» ≡ 1 → lt (s .«current_age») (s .«censor_age») ≡ false)
-  unfolding censoredAt
-  nothing-tells Nothing h =
-      let no = second-of isEvent ahead (atCensor difference) (noEvent 0) h true≢false in
-      (refl, λ e. one-holds given (lt (s .«current_age») (s .«censor_age»)) no (eq-eqb (s .«has_censor») 1 e))
-  nothing-tells (Found w) h =
-      let no = second-of isEvent (after w) (atCensor span) (won w) h true≢false in
-      absurd (true≢false (sym (first-of isEvent (after w) (atCensor span) (won w) h true≢false) ∙ no))
+  nothing-tells Nothing h = (refl, nothing-none h)
+  nothing-tells (Found w) h = absurd (nothing-found w h)
 
   not-ahead : (s .«has_censor» ≡ 1 → lt (s .«current_age») (s .«censor_age») ≡ false) → ahead ≡ false
   not-ahead h = by-test given (λ p. rw (p, h (eqb-true (s .«has_censor») 1 p))) (λ p. rw p)
@@ -279,8 +304,8 @@ module _ (causes : List CompetingCause) (n : ℕ) (s : SampleSettings) (stream :
       by-test (lt (span s) (c .time)) (λ q. q)
       (λ q. absurd (true≢false (sym l ∙ not-lt-trans (span s) (c .time) (w .time) f cf wf q rival)))
 
-  leaves-none : T (fits binary64 (s .«censor_age»)) → answer .censored ≡ true → LeavesNoCandidate causes n s stream position
-  leaves-none held h =
+  leaves-none : answer .censored ≡ true → LeavesNoCandidate causes n s stream position
+  leaves-none h =
       let accepted = flag-accepted isCensored (λ number. refl) h in
       let answered = flag-answered isCensored (λ number. refl) h in
       let tells = censored-tells s best (sym (ap isCensored answered) ∙ h) in
@@ -292,7 +317,7 @@ module _ (causes : List CompetingCause) (n : ℕ) (s : SampleSettings) (stream :
         exact-sum = λ c p.
             let d = all-drawn c (member c p) in
             le-ltb _ _ (past-exactly (s .«current_age») (s .«censor_age») u v (c .time) (d .finite) (d .held) (longer c (member c p)));
-        rounded-sum = λ c p.
+        rounded-sum = λ held c p.
             let d = all-drawn c (member c p) in
             past-rounded (s .«current_age») (s .«censor_age») u v (c .time) (d .finite) (d .held) held (longer c (member c p));
       }

@@ -1,12 +1,15 @@
--- The sampler on lists worked through, computed from the definitions: each list in two orders, ties of each kind, a censor age before, at
--- and after the event, no candidate, an empty list; where rounding parts the wait from the sum; and repeated causes, whose order matters.
-use mathlib.Core.Path.{_≡_, refl}
+-- The sampler on lists worked through, computed from the definitions: lists in two orders, ties of each kind, a censor age before, at and
+-- after the event, no candidate, an empty list; where rounding parts the wait from the sum; and repeated causes, whose order matters. Then
+-- each theorem of change 8, applied to one of these lists.
+use mathlib.Core.Path.{_≡_, refl, ap}
 use mathlib.Core.Bool.{Bool, true, false}
 use mathlib.Core.List.{List, [], _∷_, _++_}
-use Prim.Native.Nat.{ℕ, _+_, _*_}
+use mathlib.Core.Option.{some}
+use Prim.Native.Nat.{ℕ, zero, suc, _+_, _*_}
+use native.Mathlib.Omega.{arith}
 use lib.IntN.{pos, negsuc}
 use lib.Dec.{ltb}
-use lib.ListN.{length, replicate}
+use lib.ListN.{length, replicate, getElem?}
 use lib.Ieee.{Float, fin, binary64, ofBits, toBits, add, sub, mul, div, lt, le, eq}
 use lib.Ieee.Positive.{num, den}
 use Rattle.hazards.specs.Floats.{z, limit, notBelowZero, zeroBits, inRange, isTime, isThreshold, isFiniteWait}
@@ -20,11 +23,16 @@ use Rattle.hazards.specs.Draws.{drawAt}
 use Rattle.hazards.specs.Ties.{candidateAfter, preferred, precedes, earlier, earliest}
 use Rattle.hazards.specs.Sampler.{faultsOfAll, settingsFaults, drawsRefusal, sampleRefusal, candidates, censoredAt, sampledEvent}
 use Rattle.hazards.specs.Sampler.{sampleNext}
-use Rattle.hazards.specs.ListOrder.{differentCauses, exactlyBelow}
+use Rattle.hazards.specs.ListOrder.{Reordered, differentCauses, exactlyBelow, LeavesNoCandidate, Winner, NothingAhead}
+use Rattle.hazards.specs.ListOrder.Reordered.{swap}
 use Rattle.hazards.specs.declared.answers.Answer.{Answer}
+use Rattle.hazards.specs.declared.ties.Candidate.{Candidate}
 use Rattle.hazards.specs.declared.sampler.CompetingCause.{CompetingCause}
 use Rattle.hazards.specs.declared.sampler.SampleSettings.{SampleSettings}
 use Rattle.hazards.specs.declared.sampler.Sampled.{Sampled}
+use Rattle.hazards.proofs.Members.{of-place}
+use Rattle.hazards.proofs.Reorderings.{every-order}
+use Rattle.hazards.proofs.ListOrder.{any-order, censored-answer, uncensored-winner, empty-list, no-event}
 
 -- ---- what the lists are made of
 
@@ -136,6 +144,14 @@ pub worked-censor : (answers (low ∷ []) (censored one oneAndHalf) (one ∷ [])
 unfolding computed
 worked-censor = (refl, refl, refl)
 
+-- two causes, in both orders: the earlier is after the censor age, and before it
+pub worked-censored-orders : (answers (low ∷ high ∷ []) (censored one oneAndHalf) (two ∷ one ∷ []) ≡ eventOf noCause half true)
+    × (answers (high ∷ low ∷ []) (censored one oneAndHalf) (two ∷ one ∷ []) ≡ eventOf noCause half true)
+    × (answers (low ∷ high ∷ []) (censored one four) (two ∷ one ∷ []) ≡ eventOf 2 one false)
+    × (answers (high ∷ low ∷ []) (censored one four) (two ∷ one ∷ []) ≡ eventOf 2 one false)
+unfolding computed
+worked-censored-orders = (refl, refl, refl, refl)
+
 -- before the current age and at it: an event with no wait at all comes, any other is censored there and then
 pub worked-censor-past : (answers (low ∷ []) (censored one half) (one ∷ []) ≡ eventOf noCause z true)
     × (answers (low ∷ []) (censored one half) (z ∷ []) ≡ eventOf 1 z false)
@@ -209,3 +225,45 @@ pub worked-repeated : (differentCauses (slow ∷ fast ∷ []) ≡ false)
     × (answers (fast ∷ slow ∷ []) (uncensored 0 z) (one ∷ four ∷ []) ≡ eventOf 1 half false)
 unfolding computed
 worked-repeated = (refl, refl, refl)
+
+-- ---- the theorems apply
+
+both-orders-differ : differentCauses (low ∷ high ∷ []) ≡ true
+unfolding computed
+both-orders-differ = refl
+
+-- whatever the settings and thresholds
+pub applied-any-order : (s : SampleSettings) (thresholds : List Float) → sample (low ∷ high ∷ []) s thresholds
+    ≡ sample (high ∷ low ∷ []) s thresholds
+applied-any-order s thresholds =
+    any-order (low ∷ high ∷ []) (high ∷ low ∷ []) 2 s (streamOf thresholds) 0 (swap low high []) both-orders-differ
+
+-- the first record stands second, the second first
+elsewhere : (place : ℕ) (c : CompetingCause) → getElem? (low ∷ high ∷ []) place ≡ some c
+    → (other : ℕ) × (getElem? (high ∷ low ∷ []) other ≡ some c)
+elsewhere zero c e = (1, e)
+elsewhere (suc zero) c e = (0, e)
+elsewhere (suc (suc place)) c e = absurd (of-place c [] place e)
+
+pub applied-every-order : Reordered (low ∷ high ∷ []) (high ∷ low ∷ [])
+applied-every-order = every-order (low ∷ high ∷ []) (high ∷ low ∷ []) both-orders-differ refl elsewhere
+
+-- a censored answer, a winner before the censor age, no event
+pub applied-censored : LeavesNoCandidate (low ∷ []) 1 (censored one oneAndHalf) (streamOf (one ∷ [])) 0
+unfolding computed
+applied-censored = censored-answer (low ∷ []) 1 (censored one oneAndHalf) (streamOf (one ∷ [])) 0 refl
+
+pub applied-winner : (w : Candidate) × Winner (low ∷ high ∷ []) 2 (censored one four) (streamOf (two ∷ one ∷ [])) 0 w
+unfolding computed
+applied-winner = uncensored-winner (low ∷ high ∷ []) 2 (censored one four) (streamOf (two ∷ one ∷ [])) 0 refl refl
+
+pub applied-empty : answers [] (censored one two) (one ∷ []) ≡ noEvent 0
+unfolding computed
+applied-empty = empty-list [] 0 (censored one two) (streamOf (one ∷ [])) 0 refl refl
+
+pub applied-no-event : NothingAhead (never 1 ∷ []) 1 (censored one one) (streamOf (one ∷ [])) 0
+unfolding computed
+applied-no-event = no-event (never 1 ∷ []) 1 (censored one one) (streamOf (one ∷ [])) 0 one-record refl .only refl
+  where
+    one-record : never 1 ∷ [] ≡ [] → ⊥
+    one-record e = let k : _≡_ {A = ℕ} 1 0 = ap length e in omega arith

@@ -1,5 +1,5 @@
--- Change 8 of document 02, "The list's order must not matter": each of its five sentences, in their order, as a statement about `sampleNext`
--- (Sampler). The time of a candidate of the sampler is its wait.
+-- Change 8 of document 02, "The list's order must not matter": each of its five sentences, in their order, as a statement about
+-- `sampleNext` (Sampler). The time of a candidate of the sampler is its wait. An answer with number 0 is an accepted one.
 use mathlib.Core.Path.{_≡_}
 use mathlib.Core.Bool.{Bool, true, false, not, _&&_}
 use mathlib.Core.List.{List, [], _∷_}
@@ -67,16 +67,17 @@ module _ (causes : List CompetingCause) (n : ℕ) (s : SampleSettings) (stream :
   IsCandidate c = (place : ℕ) × (getElem? drawnCandidates place ≡ some c)
 
   -- "A censored answer leaves no candidate whose age + wait is below the censor age": there is a censor age, and neither the exact sum nor
-  -- the rounded one is below it
+  -- the rounded one is below it. The rounded one is compared with a value that binary64 holds, as every f64 is.
   pub record LeavesNoCandidate : Type 0 where
     pub censor-age : s .«has_censor» ≡ 1
     pub exact-sum : (c : Candidate) → IsCandidate c → exactlyBelow (s .«current_age») (c .time) (s .«censor_age») ≡ false
-    pub rounded-sum : (c : Candidate) → IsCandidate c → lt (add binary64 (s .«current_age») (c .time)) (s .«censor_age») ≡ false
+    pub rounded-sum : T (fits binary64 (s .«censor_age»)) → (c : Candidate) → IsCandidate c
+        → lt (add binary64 (s .«current_age») (c .time)) (s .«censor_age») ≡ false
 
   -- "An uncensored winner has no rival candidate that is earlier, or as early and preferred by the tie choice, and isn't after a censor age
-  -- above the current one." It is a candidate, and its cause and wait are answered. Earlier and as early are said of the waits, "isn't after"
-  -- of the wait and the rounded difference of the ages: these the Rust compares. The sum of age and wait, exact or rounded, may be above the
-  -- censor age by that rounding (docs/DIFFERENCES.md).
+  -- above the current one." It is a candidate, and its cause and wait are answered. Earlier and as early are said of the waits, "isn't
+  -- after" of the wait and the rounded difference of the ages: these the Rust compares. The sum of age and wait, exact or rounded, may be
+  -- above the censor age by that rounding (docs/DIFFERENCES.md).
   pub record Winner (w : Candidate) : Type 0 where
     pub is-candidate : IsCandidate w
     pub answered : sampled .answer ≡ eventOf (w .«cause_id») (w .time) false
@@ -98,11 +99,9 @@ module _ (causes : List CompetingCause) (n : ℕ) (s : SampleSettings) (stream :
 
 -- ---- the second sentence to the fifth, of every sample
 
--- every f64 is a value that binary64 holds
 abbrev pub CensoredAnswer : Type 0
 CensoredAnswer = (causes : List CompetingCause) (n : ℕ) (s : SampleSettings) (stream : List ℕ) (position : ℕ)
-    → T (fits binary64 (s .«censor_age»)) → sampled causes n s stream position .answer .censored ≡ true
-    → LeavesNoCandidate causes n s stream position
+    → sampled causes n s stream position .answer .censored ≡ true → LeavesNoCandidate causes n s stream position
 
 abbrev pub UncensoredWinner : Type 0
 UncensoredWinner = (causes : List CompetingCause) (n : ℕ) (s : SampleSettings) (stream : List ℕ) (position : ℕ)
