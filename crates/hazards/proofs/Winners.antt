@@ -168,7 +168,8 @@ module _ (tie : TieBreaker) where
   abbrev Before : (Candidate → Type 0) → List Candidate → Candidate → Type 0
   Before Seen cs d = Seen d ⊎ Member d cs
 
-  moved : (Seen : Candidate → Type 0) (c : Candidate) (cs : List Candidate) (d : Candidate) → Before (With Seen c) cs d → Before Seen (c ∷ cs) d
+  moved : (Seen : Candidate → Type 0) (c : Candidate) (cs : List Candidate) (d : Candidate) → Before (With Seen c) cs d
+      → Before Seen (c ∷ cs) d
   moved Seen c cs d (inl (inl p)) = inl p
   moved Seen c cs d (inl (inr e)) = inr (inl e)
   moved Seen c cs d (inr p) = inr (inr p)

@@ -27,6 +27,7 @@ use Rattle.hazards.specs.ListOrder.{Reordered, differentCauses, exactlyB
 use Rattle.hazards.specs.ListOrder.Reordered.{swap}
 use Rattle.hazards.specs.declared.answers.Answer.{Answer}
 use Rattle.hazards.specs.declared.ties.Candidate.{Candidate}
+use Rattle.hazards.specs.declared.ties.TieBreaker.the-variants.{ExplicitPriority}
 use Rattle.hazards.specs.declared.sampler.CompetingCause.{CompetingCause}
 use Rattle.hazards.specs.declared.sampler.SampleSettings.{SampleSettings}
 use Rattle.hazards.specs.declared.sampler.Sampled.{Sampled}
@@ -128,12 +129,18 @@ pub worked-ties : (answers (low ∷ high ∷ []) (uncensored 0 z) both ≡ event
 unfolding computed
 worked-ties = (refl, refl, refl, refl, refl, refl, refl, refl)
 
--- three at one time, by their priorities, in two of their six orders
+-- a candidate after 1.0
+abbrev afterOne : ℕ → ℕ → Candidate
+afterOne cause priority = record { «cause_id» = cause; priority = priority; time = one }
+
+-- three at one time, by their priorities, in two of their six orders; neither of the others is preferred to the winner
 pub worked-three : (answers (constant 1 1 one ∷ constant 2 3 one ∷ constant 3 2 one ∷ []) (uncensored 2 z) (one ∷ both)
     ≡ eventOf 2 one false)
     × (answers (constant 3 2 one ∷ constant 1 1 one ∷ constant 2 3 one ∷ []) (uncensored 2 z) (one ∷ both) ≡ eventOf 2 one false)
+    × (preferred ExplicitPriority (afterOne 1 1) (afterOne 2 3) ≡ false)
+    × (preferred ExplicitPriority (afterOne 3 2) (afterOne 2 3) ≡ false)
 unfolding computed
-worked-three = (refl, refl)
+worked-three = (refl, refl, refl, refl)
 
 -- ---- one cause, whose event is at 1.0 + 1.0, and a censor age
 

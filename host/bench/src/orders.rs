@@ -11,13 +11,15 @@ use cases::tally::decided_by_tie;
 use reference::answer::Answer;
 use std::fmt::{Display, Formatter, Result as Written};
 
-/// How many other orders of a list are tried.
+/// How many random orders of a list are tried beside its own.
 const ORDERS: u64 = 3;
 
 /// How many lists there were, and of which sort.
 #[derive(Default)]
 pub struct Counts {
     lists: u64,
+    /// Orders that are not the list's own.
+    other_orders: u64,
     with_two_records: u64,
     decided_by_tie: u64,
     censored: u64,
@@ -31,10 +33,10 @@ impl Display for Counts {
     fn fmt(&self, f: &mut Formatter<'_>) -> Written {
         write!(
             f,
-            "{} lists with all causes different, each in {} orders ({} with two records or more, {} decided by the tie choice, \
-             {} censored, {} refused), no difference; of {} with a cause twice another order answers {} otherwise",
+            "{} lists with all causes different and {} other orders of them ({} with two records or more, {} decided by the tie \
+             choice, {} censored, {} refused), no difference; of {} with a cause twice another order answers {} otherwise",
             self.lists,
-            ORDERS + 1,
+            self.other_orders,
             self.with_two_records,
             self.decided_by_tie,
             self.censored,
@@ -57,23 +59,30 @@ pub fn run(seed: u64, count: u64) -> Result<Counts, String> {
     for index in 0..count {
         let place = |difference| format!("list {index} of seed {seed}: {difference}");
         let case = record_orders::with_different_causes(&mut random);
-        let answer = in_orders(&mut random, &case).map_err(place)?;
+        let (answer, moved) = in_orders(&mut random, &case).map_err(place)?;
+        counts.other_orders += moved;
         counts.add(&case, &answer);
         counts.add_repeated(&mut random);
+    }
+    if counts.other_orders == 0 || counts.order_matters == 0 {
+        return Err(format!("seed {seed}: no list stood in another order"));
     }
     Ok(counts)
 }
 
-/// Both sides agree on the list in every order, and the answer is the same in each; what document 02 says of an answer holds.
-fn in_orders(random: &mut Random, case: &SampleCase) -> Result<Answer, String> {
+/// Both sides agree on the list in every order, and the answer is the same in each; what document 02 says of an answer holds. Gives the
+/// answer, and how many orders were not the list's own.
+fn in_orders(random: &mut Random, case: &SampleCase) -> Result<(Answer, u64), String> {
     let (answer, position) = compare::sample(case, &[])?;
     if answer.number == 0
         && let Some(sentence) = order_claims::broken(case, &answer)
     {
         return Err(parted(sentence, &[case]));
     }
+    let mut moved = 0;
     for _ in 0..ORDERS {
         let other = in_another_order(random, case);
+        moved += u64::from(causes(&other) != causes(case));
         if compare::sample(&other, &[])? != (answer, position) {
             return Err(parted(
                 "another order is answered otherwise",
@@ -81,7 +90,12 @@ fn in_orders(random: &mut Random, case: &SampleCase) -> Result<Answer, String> {
             ));
         }
     }
-    Ok(answer)
+    Ok((answer, moved))
+}
+
+fn causes(case: &SampleCase) -> Vec<u32> {
+    let records = case.request.used().iter();
+    records.map(|record| record.cause).collect()
 }
 
 fn parted(what: &str, cases: &[&SampleCase]) -> String {

@@ -37,7 +37,7 @@ fn separate_causes(random: &mut Random, request: &mut Request) {
     }
 }
 
-/// The used records in a random order. The others stay.
+/// The used records in a random order, which may be their own. The others stay.
 pub fn in_another_order(random: &mut Random, case: &SampleCase) -> SampleCase {
     let mut case = case.clone();
     for last in (1..case.request.used_count()).rev() {
@@ -47,7 +47,7 @@ pub fn in_another_order(random: &mut Random, case: &SampleCase) -> SampleCase {
     case
 }
 
-/// Cause and priority of a record with a constant rate.
+/// A record with a constant rate.
 pub fn constant(cause: u32, priority: u32, rate: f64) -> Record {
     Record {
         cause,
@@ -130,12 +130,19 @@ fn worked_censors() -> Vec<(SampleCase, Answer)> {
         ..Record::default()
     }];
     let never = case(&never, 0, 1.0, &[1.0]);
+    let two = |causes: [(u32, u32); 2], censor: f64| {
+        censored_at(case(&records(&causes), 0, 1.0, &[2.0, 1.0]), censor)
+    };
     let none = Answer::default();
     let censored = |delta: f64| Answer::event(CENSORED_CAUSE, delta);
     vec![
         (one(1.0, 1.5), censored(0.5)),
         (one(1.0, 2.0), Answer::event(1, 1.0)),
         (one(1.0, 4.0), Answer::event(1, 1.0)),
+        (two([LOW, HIGH], 1.5), censored(0.5)),
+        (two([HIGH, LOW], 1.5), censored(0.5)),
+        (two([LOW, HIGH], 4.0), Answer::event(2, 1.0)),
+        (two([HIGH, LOW], 4.0), Answer::event(2, 1.0)),
         (one(1.0, 0.5), censored(0.0)),
         (one(0.0, 0.5), Answer::event(1, 0.0)),
         (one(1.0, 1.0), censored(0.0)),

@@ -24,7 +24,7 @@ fn worked_lists() {
 #[test]
 fn random_lists_in_random_orders() {
     let mut random = Random::new(SEED);
-    let mut lists = Vec::new();
+    let (mut lists, mut moved) = (Vec::new(), 0);
     for _ in 0..20_000 {
         let case = record_orders::with_different_causes(&mut random);
         assert!(causes_differ(&case.request), "{case:?}");
@@ -34,8 +34,13 @@ fn random_lists_in_random_orders() {
         if expected.0.number == 0 {
             assert_eq!(broken(&case, &expected.0), None, "{case:?}");
         }
+        moved += usize::from(other.request != case.request);
         lists.push(case);
     }
+    assert!(
+        moved > 14_000,
+        "{moved} lists in another order than their own"
+    );
     let tally = tally::samples(&lists);
     for answer in ["censored", "events", "no event"] {
         assert!(tally.answers[answer] > 1000, "{tally}");
@@ -86,7 +91,16 @@ fn wrong_answers() {
     let censored = Answer::event(CENSORED_CAUSE, 1.0);
     let empty = censored_at(case(&[], 0, 1.0, &[]), 2.0);
     let never = censored_at(case(&[constant(1, 0, 0.0)], 0, 1.0, &[1.0]), 2.0);
-    let wrong: [(SampleCase, Answer, &str); 10] = [
+    // the exact sum is below the censor age, the rounded one is not
+    let u = one_plus(1) - 1.0;
+    let close = case(&causes[..1], 0, 0.75 * u, &[1.0]);
+    let close = censored_at(close, one_plus(1));
+    let wrong: [(SampleCase, Answer, &str); 11] = [
+        (
+            close,
+            Answer::event(CENSORED_CAUSE, 1.0),
+            "leaves a candidate",
+        ),
         (list(0, &[1.0, 2.0]), none, "no event with a candidate"),
         (never, none, "no event with a candidate"),
         (list(0, &[1.0, 2.0]), censored, "without a censor age"),
