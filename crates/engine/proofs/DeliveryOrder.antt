@@ -1,11 +1,9 @@
 -- The order of deliveries: what comes after none of the others has the fewest ticks, then the highest priority, then the lowest index.
-use Prim.Native.Nat.{ℕ, zero, suc}
-use native.Mathlib.Omega.{arith}
+use Prim.Native.Nat.{ℕ}
 use mathlib.Core.Path.{_≡_}
-use mathlib.Core.Logic.{inl, inr}
-use mathlib.Core.List.{List, [], _∷_}
 use mathlib.Core.Option.{Option, none, some}
 use lib.ListN.{getElem?}
+use Rattle.hazards.proofs.Members.{at-place, of-place}
 use Rattle.engine.specs.Queue.{nextRequest}
 use Rattle.engine.specs.Ledger.{nextPending}
 use Rattle.engine.specs.DeliveryOrder.{Taken, DeliveryOrder}
@@ -23,18 +21,6 @@ taken (some r) P h = record {
   highest-priority = λ q w. lexicographic r q (h .1 q w) .priority;
   lowest-index = λ q w. lexicographic r q (h .1 q w) .index;
 }
-
--- ---- a request of a list stands at a place of it
-
-at-place : (q : Request) (rs : List Request) → In q rs → (i : ℕ) × (getElem? rs i ≡ some q)
-at-place q [] p = absurd p
-at-place q (r ∷ rs) (inl e) = (0, rw e)
-at-place q (r ∷ rs) (inr p) = let h = at-place q rs p in (suc (h .0), h .1)
-
-of-place : (q : Request) (rs : List Request) (i : ℕ) → getElem? rs i ≡ some q → In q rs
-of-place q [] i e = let z : _≡_ {A = ℕ} 0 1 = cc in omega arith
-of-place q (r ∷ rs) zero e = let h : q ≡ r = cc in inl h
-of-place q (r ∷ rs) (suc i) e = inr (of-place q rs i e)
 
 pub delivery-order : DeliveryOrder
 delivery-order = record {

@@ -6,11 +6,10 @@ use mathlib.Core.List.{List, [], _∷_}
 use Prim.Native.Nat.{ℕ}
 use borrow.Author.Tests.{eq-eqb, ne-eqb, not-true}
 use lib.Dec.{eqb}
-use Rattle.hazards.proofs.Cases.{by-test}
+use Rattle.hazards.proofs.Cases.{by-test, both-true}
 use Rattle.engine.specs.Queue.{keepIf, isQueued}
 use Rattle.engine.specs.Validation.{distinct}
 use Rattle.engine.specs.declared.state.Request.{Request}
-use Rattle.engine.proofs.Conjunctions.{both-true}
 use Rattle.engine.proofs.RequestLists.{In, in-keep}
 
 -- ---- whether a request with an index is there

@@ -12,6 +12,7 @@ use Rattle.hazards.specs.Answers.{noEvent}
 use Rattle.hazards.specs.Lists.{all}
 use Rattle.hazards.specs.Draws.{streamLength}
 use Rattle.hazards.specs.declared.answers.Answer.{Answer}
+use Rattle.hazards.proofs.Cases.{both-true}
 use Rattle.engine.specs.State.{slotAt, withSlot}
 use Rattle.engine.specs.Validation.{validSlot, validQueue, validShared, validState}
 use Rattle.engine.specs.Execution.{OnSlot, performOn, target}
@@ -32,7 +33,6 @@ use Rattle.engine.specs.declared.state.ClockSlot.{ClockSlot}
 use Rattle.engine.specs.declared.state.SharedState.{SharedState}
 use Rattle.engine.specs.declared.state.EngineState.{EngineState}
 use Rattle.engine.proofs.Asking.{undo-reverts}
-use Rattle.engine.proofs.Conjunctions.{both-true}
 use Rattle.engine.proofs.JournalBytes.{restOf, zeroed-part, pasted-part}
 use Rattle.engine.proofs.PartLaws.{copied-whole, cleared-whole}
 use Rattle.engine.proofs.SlotLaws.{outcome-done, outcome-refused, done-fits, rejects, performs}

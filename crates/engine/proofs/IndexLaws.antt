@@ -11,11 +11,11 @@ use lib.Dec.{eqb}
 use lib.ListN.{length, getD, take, drop, set, length-take}
 use lib.Seq.{split-at, take-take, take-suc-set, getD-take}
 use Rattle.hazards.proofs.ListLaws.{take-next}
-use Rattle.hazards.proofs.Cases.{by-test}
+use Rattle.hazards.proofs.Cases.{by-test, both-true}
 use Rattle.engine.specs.Queue.{isQueued}
 use Rattle.engine.specs.Validation.{distinct}
 use Rattle.engine.specs.declared.state.Request.{Request}
-use Rattle.engine.proofs.Conjunctions.{both-true, and-false}
+use Rattle.engine.proofs.Conjunctions.{and-false}
 
 -- ---- indices
 

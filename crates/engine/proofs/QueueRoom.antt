@@ -15,7 +15,7 @@ use Rattle.hazards.specs.Lists.{all}
 use Rattle.clocks.specs.Scheduling as scheduling
 use Rattle.clocks.specs.declared.clocks.ScheduledEvent.{ScheduledEvent}
 use Rattle.clocks.specs.declared.scheduling.Censor.{Censor}
-use Rattle.hazards.proofs.Cases.{by-test}
+use Rattle.hazards.proofs.Cases.{by-test, both-true}
 use Rattle.clocks.proofs.RequestLaws.{reschedule-requests, resume-requests}
 use Rattle.engine.specs.Queue.{keepIf, without, isQueued, countFor}
 use Rattle.engine.specs.State.{slotAt, queuedRequests}
@@ -24,7 +24,6 @@ use Rattle.engine.specs.Execution.{isWithdrawn, withdraw}
 use Rattle.engine.specs.declared.state.Request.{Request}
 use Rattle.engine.specs.declared.state.SharedState.{SharedState}
 use Rattle.engine.specs.declared.state.EngineState.{EngineState}
-use Rattle.engine.proofs.Conjunctions.{both-true}
 use Rattle.engine.proofs.DistinctIndices.{in-there, distinct-twice, keep-distinct}
 use Rattle.engine.proofs.ExecuteLaws.{valid-within}
 use Rattle.engine.proofs.QueueLaws.{queued-length}

@@ -8,13 +8,13 @@ use native.Mathlib.Omega.{arith}
 use lib.Dec.{eqb}
 use lib.ListN.{length}
 use borrow.Author.Tests.{eqb-true, eq-eqb, ne-eqb}
+use Rattle.hazards.proofs.Members.{Member}
 use Rattle.engine.specs.Queue.{keepIf}
 use Rattle.engine.specs.declared.state.Request.{Request}
 
 -- x is one of these
 abbrev pub In : Request → List Request → Type 0
-In x [] = ⊥
-In x (y ∷ ys) = (x ≡ y) ⊎ In x ys
+In x l = Member x l
 
 -- a request for a clock, one for another, and one with another index than the given
 abbrev pub isFor : ℕ → Request → Bool

@@ -7,12 +7,12 @@ use native.Mathlib.Omega.{arith}
 use borrow.Author.Tests.{eqb-true}
 use lib.Dec.{eqb}
 use lib.ListN.{length, drop, replicate, drop-of-length-le}
+use Rattle.hazards.proofs.Cases.{both-true}
 use Rattle.engine.specs.Journal.{clearedFront}
 use Rattle.engine.specs.Refusals.{badBuffers}
 use Rattle.engine.specs.Engine.{Bytes}
 use Rattle.engine.specs.Run.{runOf, ran}
 use Rattle.engine.specs.RunInternals.{openedRun}
-use Rattle.engine.proofs.Conjunctions.{both-true}
 
 pub journal-opened : (j : Bytes) → clearedFront j (length j) ≡ replicate (length j) 0
 unfolding clearedFront

@@ -9,6 +9,7 @@ use lib.Dec.{eqb, leb}
 use lib.ListN.{length, drop, length-drop, drop-of-length-le}
 use lib.Seq.{paste, length-paste}
 use Rattle.hazards.specs.Answers.{answerWidth, noEvent, withAnswer}
+use Rattle.hazards.proofs.Cases.{both-true}
 use Rattle.engine.specs.Commands as commands
 use Rattle.engine.specs.Commands.{widthOf}
 use Rattle.engine.specs.State.{slotAt, withSlot}
@@ -23,7 +24,6 @@ use Rattle.engine.specs.RunInternals.{isReverted, bothAnswered}
 use Rattle.engine.specs.declared.execution.SlotOutcome.{SlotOutcome}
 use Rattle.engine.specs.declared.state.ClockSlot.{ClockSlot}
 use Rattle.engine.specs.declared.state.EngineState.{EngineState}
-use Rattle.engine.proofs.Conjunctions.{both-true}
 use Rattle.engine.proofs.ExecuteLaws.{onlyNumber}
 use Rattle.engine.proofs.JournalBytes.{restOf, partOf, part-all}
 use Rattle.engine.proofs.RunAnswers.{answer-length, answer-copied}

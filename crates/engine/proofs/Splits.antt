@@ -10,13 +10,13 @@ use lib.ListN.{length, take, drop, length-append, length-drop, List·getD-append
 use lib.Seq.{take-all, take-at, drop-at, length-take-le, getD-take}
 use lib.Dec.{ltb, leb}
 use borrow.Author.Tests.{ltb-true, leb-true, lt-ltb, le-leb}
+use Rattle.hazards.proofs.Cases.{both-true}
 use Rattle.engine.specs.Engine.{Bytes, Performed, rejected, performed, Engine, Asked, reject, undoLast, carryOut, code, concat, init}
 use Rattle.engine.specs.Engine.{Outcome, cut, classify, unchanged, isWhole}
 use Rattle.engine.specs.Replay.{stateOf, afterOne, replay, prepend, splitFrom, commandsIn, revertLast, undoIn, undo}
 use Rattle.engine.specs.Refusals.{nothingApplied}
 use Rattle.engine.specs.ReplayInternals.{widthAfter, commandAt, ReplayEnd, fails, ends, replayFrom, replayAll, revertTo, undoByScan}
 use Rattle.engine.proofs.CommandLists.{Whole, AllWhole}
-use Rattle.engine.proofs.Conjunctions.{both-true}
 use Rattle.engine.proofs.Replays.{Asks, asks, replay-none}
 
 module _ (E : Engine) where

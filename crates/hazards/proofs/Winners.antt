@@ -78,7 +78,7 @@ abbrev pub FiniteTime : Candidate → Type 0
 FiniteTime c = T (isFiniteWait (c .time))
 
 module _ (tie : TieBreaker) where
-  -- it is not later, and at equal times it is preferred
+  -- what precedes is not later, and at equal times the tie choice decides
   not-later : (a b : Candidate) → FiniteTime a → FiniteTime b → precedes tie a b ≡ true → lt (b .time) (a .time) ≡ false
   unfolding precedes
   not-later a b f g h =
@@ -105,7 +105,7 @@ module _ (tie : TieBreaker) where
   precedes-self : (a : Candidate) → FiniteTime a → precedes tie a a ≡ false
   precedes-self a f = let same = not-lt-self (a .time) f in tied a a same same ∙ preferred-self tie a
 
-  -- what precedes is earlier, or as early and preferred
+  -- what does not precede is not earlier, nor as early and preferred
   pub not-preceding : (a b : Candidate) → FiniteTime a → FiniteTime b → precedes tie a b ≡ false
       → (lt (a .time) (b .time) ≡ false) × (eq (a .time) (b .time) ≡ true → preferred tie a b ≡ false)
   unfolding precedes

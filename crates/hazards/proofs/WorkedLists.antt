@@ -235,15 +235,15 @@ worked-repeated = (refl, refl, refl)
 
 -- ---- the theorems apply
 
-both-orders-differ : differentCauses (low ∷ high ∷ []) ≡ true
+low-high-differ : differentCauses (low ∷ high ∷ []) ≡ true
 unfolding computed
-both-orders-differ = refl
+low-high-differ = refl
 
 -- whatever the settings and thresholds
 pub applied-any-order : (s : SampleSettings) (thresholds : List Float) → sample (low ∷ high ∷ []) s thresholds
     ≡ sample (high ∷ low ∷ []) s thresholds
 applied-any-order s thresholds =
-    any-order (low ∷ high ∷ []) (high ∷ low ∷ []) 2 s (streamOf thresholds) 0 (swap low high []) both-orders-differ
+    any-order (low ∷ high ∷ []) (high ∷ low ∷ []) 2 s (streamOf thresholds) 0 (swap low high []) low-high-differ
 
 -- the first record stands second, the second first
 elsewhere : (place : ℕ) (c : CompetingCause) → getElem? (low ∷ high ∷ []) place ≡ some c
@@ -253,7 +253,7 @@ elsewhere (suc zero) c e = (0, e)
 elsewhere (suc (suc place)) c e = absurd (of-place c [] place e)
 
 pub applied-every-order : Reordered (low ∷ high ∷ []) (high ∷ low ∷ [])
-applied-every-order = every-order (low ∷ high ∷ []) (high ∷ low ∷ []) both-orders-differ refl elsewhere
+applied-every-order = every-order (low ∷ high ∷ []) (high ∷ low ∷ []) low-high-differ refl elsewhere
 
 -- a censored answer, a winner before the censor age, no event
 pub applied-censored : LeavesNoCandidate (low ∷ []) 1 (censored one oneAndHalf) (streamOf (one ∷ [])) 0

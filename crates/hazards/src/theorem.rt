@@ -1,5 +1,5 @@
-// Change 8 of document 02, "The list's order must not matter": its five sentences, as contracts of functions that do nothing, so that the
-// check's log names them.
+// Change 8 of document 02, "The list's order must not matter": its five sentences, and that no order is left out, as contracts of functions
+// that do nothing, so that the check's log names them.
 ghost use Rattle.hazards.specs.ListOrder.{AnyOrder, EveryOrder, CensoredAnswer, UncensoredWinner, EmptyList, NoEvent};
 
 // Two orders of the same records, all causes different, give the same answer and the same position.
