@@ -64,7 +64,7 @@ module _ (x y : Float) (f : T (isFiniteWait x)) (g : T (isFiniteWait y)) where
 
 -- ---- `eq` and `le`
 
-eq-cross : (x y : Float) → eq x y ≡ true → num x * den y ≡ num y * den x
+pub eq-cross : (x y : Float) → eq x y ≡ true → num x * den y ≡ num y * den x
 unfolding eq
 eq-cross nan y h = absurd (true≢false (sym h))
 eq-cross (inf s) nan h = absurd (true≢false (sym h))
@@ -94,6 +94,9 @@ eq-is (fin s m e) nan f g h = absurd g
 eq-is (fin s m e) (inf t) f g h = absurd g
 eq-is (fin s m e) (fin t n d) f g h =
     level-is s t (m * up e * down d) (n * up d * down e) (λ p. scaled (m * up e) (down d) (f p)) (λ p. scaled (n * up d) (down e) (g p)) h
+
+pub eq-self : (x : Float) → T (isFiniteWait x) → eq x x ≡ true
+eq-self x f = eq-is x x (finite x f) (finite x f) refl
 
 or-true : (a b : Bool) → b ≡ true → (a || b) ≡ true
 or-true true b h = refl

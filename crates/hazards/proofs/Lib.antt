@@ -1,7 +1,9 @@
 -- Laws about the definitions of the hazards crate. The proof of each function stands in its own folder.
+pub mod AboveZero
 pub mod AcceptedFlags
 pub mod AcceptedHazards
 pub mod AnswerBytes
+pub mod Bisection
 pub mod Bounds
 pub mod Cases
 pub mod Censoring
@@ -21,7 +23,11 @@ pub mod Members
 pub mod OrderLaws
 pub mod Overwrite
 pub mod Pieces
+pub mod QuotientOrder
+pub mod RateForWait
 pub mod Reorderings
+pub mod PatternOrder
+pub mod PatternValues
 pub mod Patterns
 pub mod PublicBounds
 pub mod SamplerLaws

@@ -1,6 +1,7 @@
 -- The definitions of the hazards crate, from floats and lists up to the sampler, and what document 02 says of its list of records.
 pub mod Floats
 pub mod Lists
+pub mod FirstPlace
 pub mod Fields
 pub mod Refusals
 pub mod Answers
@@ -12,3 +13,5 @@ pub mod Ties
 pub mod Sampler
 pub mod SamplerInternals
 pub mod ListOrder
+pub mod RateForWait
+pub mod RateForWaitInternals

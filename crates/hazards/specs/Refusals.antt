@@ -1,5 +1,5 @@
 -- Document 01, "A command comes in" and "Run call and sampler": every refusal with its number, in the order of checking and in
--- the table's words. Every crate takes them from here.
+-- the table's words; then those of document 02. Every crate takes them from here.
 -- Document 01's tape is the recorded threshold stream here, and an entry a threshold; what stands is what is applied; the run call
 -- is the batch run.
 use mathlib.Core.Bool.{Bool, false, not, cond, _||_}
@@ -82,6 +82,16 @@ answersFull = 17
 -- batch run, first of all and writing nothing: stream bytes aren't a multiple of 8 or the result isn't 16 bytes
 abbrev pub badBuffers : ℕ
 badBuffers = 18
+
+-- ---- document 02, change 11: the rate for a wait
+
+-- a threshold not above 0 or above 1,024, or a wait not from 2^-40 to 2^40
+abbrev pub outsideLimits : ℕ
+outsideLimits = 23
+
+-- no f64 above 0 and at most 2^40 gives the wait
+abbrev pub noRate : ℕ
+noRate = 24
 
 -- ---- refusals 4 to 7: one flag for each, of a part of an input
 

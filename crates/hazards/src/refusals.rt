@@ -19,6 +19,10 @@ pub const STREAM_EXHAUSTED: u8 = 15;
 
 pub const BAD_THRESHOLD: u8 = 16;
 
+pub const OUTSIDE_LIMITS: u8 = 23;
+
+pub const NO_RATE: u8 = 24;
+
 // The cause of a censored event, which no record may name.
 pub const NO_CAUSE: u32 = 0xffff_ffff;
 

@@ -1,0 +1,74 @@
+-- The first place at which a test holds, by bisection: the test is one that goes on holding once it holds.
+use mathlib.Core.Path.{_≡_, sym, _∙_}
+use mathlib.Core.Logic.{inl, inr}
+use mathlib.Core.Bool.{Bool, true, false, true≢false}
+use Prim.Native.Nat.{ℕ, suc, _+_, _≤_, _<_}
+use native.Mathlib.Nat.{le-antisymm, lt-of-not-le, le-of-suc-le-suc}
+use native.Mathlib.Omega.{arith}
+use Rattle.hazards.specs.FirstPlace.{FirstPlace}
+use Rattle.hazards.proofs.Cases.{by-test}
+
+-- once it holds, it holds at every later place
+abbrev pub GoesOn : (ℕ → Bool) → ℕ → ℕ → Type 0
+GoesOn test from end = (a b : ℕ) → from ≤ a → a ≤ b → b < end → test a ≡ true → test b ≡ true
+
+-- the first place is from `low` to `high`
+pub record Between (test : ℕ → Bool) (from end low high : ℕ) : Type 0 where
+  pub begins : from ≤ low
+  pub ordered : low ≤ high
+  pub ends : high ≤ end
+  pub before : (i : ℕ) → from ≤ i → i < low → test i ≡ false
+  pub holds : high < end → test high ≡ true
+
+module _ {test : ℕ → Bool} {from end : ℕ} where
+  pub whole : from ≤ end → Between test from end from end
+  whole h = record {
+    begins = omega arith;
+    ordered = h;
+    ends = omega arith;
+    before = λ i l k. absurd (omega arith);
+    holds = λ k. absurd (omega arith);
+  }
+
+  -- it holds in the middle
+  pub lower-half : {low high middle : ℕ} → Between test from end low high → low ≤ middle → middle < high → test middle ≡ true
+      → Between test from end low middle
+  lower-half v l k t = record {
+    begins = v .begins;
+    ordered = l;
+    ends = omega (arith, v .ends);
+    before = v .before;
+    holds = λ h. t;
+  }
+
+  -- it does not
+  pub upper-half : {low high middle : ℕ} → GoesOn test from end → Between test from end low high → low ≤ middle → middle < high
+      → test middle ≡ false → Between test from end (middle + 1) high
+  upper-half {low} {high} {middle} m v l k t = record {
+    begins = omega (arith, v .begins);
+    ordered = omega arith;
+    ends = v .ends;
+    before = λ i b h. by-test (test i)
+        (λ e. absurd (true≢false (sym (m i middle b (omega arith) (omega (arith, v .ends)) e) ∙ t)))
+        (λ e. e);
+    holds = v .holds;
+  }
+
+  -- the halves have met
+  pub found : {low high : ℕ} → Between test from end low high → high ≤ low → FirstPlace test from end low
+  found v h = record {
+    begins = v .begins;
+    ends = omega (arith, v .ordered, v .ends);
+    before = v .before;
+    holds = λ k. rw (le-antisymm h (v .ordered)) at (v .holds (omega (arith, v .ordered)));
+  }
+
+  -- no place but one is the first
+  pub one-first : {a b : ℕ} → FirstPlace test from end a → FirstPlace test from end b → a ≡ b
+  one-first {a} {b} p q = le-antisymm (go p q) (go q p)
+    where
+      go : {a b : ℕ} → FirstPlace test from end a → FirstPlace test from end b → a ≤ b
+      go {a} {b} p q =
+          le-of-suc-le-suc
+          (lt-of-not-le
+          (λ (l : suc b ≤ a). true≢false (sym (q .holds (omega (arith, p .ends))) ∙ p .before b (q .begins) l)))

@@ -1,0 +1,11 @@
+-- The first place at which a test holds.
+use mathlib.Core.Path.{_≡_}
+use mathlib.Core.Bool.{Bool, true, false}
+use Prim.Native.Nat.{ℕ, _≤_, _<_}
+
+-- of the places from `from` on and before `end` the first at which the test holds, and `end` where it holds at none of them
+pub record FirstPlace (test : ℕ → Bool) (from end first : ℕ) : Type 0 where
+  pub begins : from ≤ first
+  pub ends : first ≤ end
+  pub before : (i : ℕ) → from ≤ i → i < first → test i ≡ false
+  pub holds : first < end → test first ≡ true
