@@ -1,9 +1,10 @@
-// Replays the fixed lists of the unchanged Rust's answers to evaluations and samples, and says how many there are and how many differ.
-// The lists' layouts, and how they were made, are in host/README.md.
+// Replays the fixed lists of the unchanged Rust's answers to evaluations and samples, and of a model's rates for a wait, and says how many
+// there are and how many differ. The lists' layouts, and how they were made, are in host/README.md.
 ghost use Prim.Native.Nat.{_≤_};
 use hazards::answers::ANSWER_WIDTH;
 use hazards::draws::StreamPosition;
 use hazards::fields::f64_at;
+use hazards::fields::put_f64;
 use hazards::fields::put_u64;
 use hazards::fields::u8_at;
 use hazards::fields::u64_at;
@@ -61,6 +62,17 @@ fn sample_agrees(case: &[u8]) -> bool {
     check::same(&out, &case[EXPECTED..SAMPLE_CASE])
 }
 
+// threshold f64, wait f64; expected: number u8, rate f64.
+fn rate_agrees(case: &[u8]) -> bool {
+    let found = hazards::rate_for_wait::rate_for_wait(f64_at(case, 0), f64_at(case, 8));
+    let mut out = [0u8; 8];
+    put_f64(&mut out, 0, found.rate);
+    if found.number != u8_at(case, 16) {
+        return false;
+    }
+    u64_at(&out, 0) == u64_at(case, 17)
+}
+
 fn one_unless(agrees: bool) -> u64
     ensures { λ r. ⌜ r ≤ 1 ⌝ }
 {
@@ -113,9 +125,27 @@ fn replay_samples(fd: i32) -> Count {
     Count { cases, differing }
 }
 
+fn replay_rates(fd: i32) -> Count {
+    let mut case = [0u8; 25];
+    let mut cases: u64 = 0;
+    let mut differing: u64 = 0;
+    let mut left: u64 = 1000000;
+    while left > 0 {
+        if io::read_full(fd, &mut case) < 25 {
+            break;
+        }
+        cases += 1;
+        differing += one_unless(rate_agrees(&case));
+        left -= 1;
+    }
+    Count { cases, differing }
+}
+
 fn main() {
     let evaluations = os::open_read(b"evaluations.bin");
     print_count(b"evaluations: ", replay_evaluations(evaluations));
     let samples = os::open_read(b"samples.bin");
     print_count(b"samples: ", replay_samples(samples));
+    let rates = os::open_read(b"rates.bin");
+    print_count(b"rates: ", replay_rates(rates));
 }

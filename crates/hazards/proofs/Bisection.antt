@@ -1,6 +1,5 @@
 -- The first place at which a test holds, by bisection: the test is one that goes on holding once it holds.
 use mathlib.Core.Path.{_≡_, sym, _∙_}
-use mathlib.Core.Logic.{inl, inr}
 use mathlib.Core.Bool.{Bool, true, false, true≢false}
 use Prim.Native.Nat.{ℕ, suc, _+_, _≤_, _<_}
 use native.Mathlib.Nat.{le-antisymm, lt-of-not-le, le-of-suc-le-suc}
@@ -62,6 +61,20 @@ module _ {test : ℕ → Bool} {from end : ℕ} where
     before = v .before;
     holds = λ k. rw (le-antisymm h (v .ordered)) at (v .holds (omega (arith, v .ordered)));
   }
+
+  -- two neighbours: the test fails at the one and holds at the other
+  pub at-step : {place : ℕ} → GoesOn test from end → from ≤ place → place + 1 < end → test place ≡ false → test (place + 1) ≡ true
+      → FirstPlace test from end (place + 1)
+  at-step m l h f t =
+      found (lower-half (upper-half m (whole (omega arith)) l (omega arith) f) (omega arith) h t) (omega arith)
+
+  -- it holds at the first of all places
+  pub at-start : from < end → test from ≡ true → FirstPlace test from end from
+  at-start h t = found (lower-half (whole (omega arith)) (omega arith) h t) (omega arith)
+
+  -- it fails at the last
+  pub at-none : {place : ℕ} → GoesOn test from end → from ≤ place → place + 1 ≡ end → test place ≡ false → FirstPlace test from end (place + 1)
+  at-none m l h f = found (upper-half m (whole (omega arith)) l (omega arith) f) (omega arith)
 
   -- no place but one is the first
   pub one-first : {a b : ℕ} → FirstPlace test from end a → FirstPlace test from end b → a ≡ b

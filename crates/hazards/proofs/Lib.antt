@@ -9,6 +9,7 @@ pub mod Cases
 pub mod Censoring
 pub mod Bytes
 pub mod CheckLaws
+pub mod ConstantWaits
 pub mod DrawLaws
 pub mod EvaluationLaws
 pub mod Exact
@@ -43,3 +44,4 @@ pub mod UptoOrder
 pub mod WaitBounds
 pub mod Winners
 pub mod WorkedLists
+pub mod WorkedRates

@@ -1,15 +1,16 @@
 -- From the first bit pattern whose quotient is at most the wait to the answer of change 11 of document 02; and that only one is right.
 use mathlib.Core.Path.{_≡_, refl, sym, ap, _∙_, subst}
-use mathlib.Core.Bool.{Bool, true, false, _&&_, true≢false}
-use Prim.Native.Nat.{ℕ, suc, _*_, _^_, _≤_, _<_}
+use mathlib.Core.Bool.{true, false, _&&_, true≢false}
+use Prim.Native.Nat.{ℕ, suc, _^_, _≤_, _<_}
 use native.Mathlib.Nat.{le-of-eq, lt-of-not-le, le-of-suc-le-suc}
 use native.Mathlib.Omega.{arith}
 use lib.Dec.{T, lit<}
-use lib.Ieee.{Float, fin, binary64, fits, ofBits, toBits, div, lt, le, eq}
+use lib.Ieee.{Float, binary64, fits, ofBits, toBits, div, lt, le, eq}
 use lib.Ieee.Fits.{div-fits}
 use lib.Ieee.Bits.{is-true, ofBits-toBits, ofBits-fits}
-use lib.Ieee.Positive.{num, den, positive, between, cross→le}
+use lib.Ieee.Positive.{positive, between, cross→le}
 use Rattle.hazards.specs.Floats.{z, limit, mostThreshold}
+use Rattle.hazards.specs.Refusals.{noRate}
 use Rattle.hazards.specs.FirstPlace.{FirstPlace}
 use Rattle.hazards.specs.RateForWait.{shortestWait, withinLimits, Gives, answered, Answers, OneAnswer}
 use Rattle.hazards.specs.RateForWait.Answers.{smallest, none, outside}
@@ -44,7 +45,7 @@ limit-fits = tt
 rate-positive : (b : ℕ) → 1 ≤ b → b < pastLimit → T (positive (ofBits binary64 b))
 rate-positive b l h = pattern-positive b l (omega arith)
 
-gives-positive : (w wait rate : Float) → Gives w wait rate → T (positive rate)
+pub gives-positive : (w wait rate : Float) → Gives w wait rate → T (positive rate)
 gives-positive w wait rate g = above-positive rate limit (g .isPositive) (g .atMost) tt
 
 module _ (w wait : Float) (within : withinLimits w wait ≡ true) where
@@ -131,14 +132,14 @@ module _ (w wait : Float) (within : withinLimits w wait ≡ true) where
           le-of-suc-le-suc
           (lt-of-not-le (λ (l : suc pattern ≤ first). true≢false (sym holds-there ∙ m .before pattern begins l)))
 
-      pub first-there : first < pastLimit
+      first-there : first < pastLimit
       first-there = omega (arith, from-first, ends)
 
       -- the first quotient is not below the wait either
       reached : T (le wait (quotient first))
       reached = subst (λ (x : Float). T (le x (quotient first))) gives (falls first pattern (m .begins) from-first ends)
 
-      pub not-above : T (le (ofBits binary64 first) rate)
+      not-above : T (le (ofBits binary64 first) rate)
       not-above = subst (λ (x : Float). T (le (ofBits binary64 first) x)) same (pattern-le first pattern from-first (omega (arith, ends)))
 
     -- ---- the first rate gives the wait, or none does
@@ -149,13 +150,13 @@ module _ (w wait : Float) (within : withinLimits w wait ≡ true) where
       at-most = rw (m .holds there) tt
 
       -- where the two compare equal they are the same
-      pub given : T (fits binary64 wait) → eq (div binary64 w (ofBits binary64 first)) wait ≡ true → Gives w wait (ofBits binary64 first)
+      given : T (fits binary64 wait) → eq (div binary64 w (ofBits binary64 first)) wait ≡ true → Gives w wait (ofBits binary64 first)
       unfolding quotient
       given f e =
           let v = quotient-upto first (m .begins) there at-most in
           let crossed = le-of-eq (sym (eq-cross (quotient first) wait e)) in
           let above : T (le wait (quotient first)) =
-              rw (cross-le wait (quotient first) (upto-finite wait-upto) (upto-finite v) crossed) tt in
+          rw (cross-le wait (quotient first) (upto-finite wait-upto) (upto-finite v) crossed) tt in
           let q = between wait (quotient first) wait wait-positive wait-positive above at-most in
           record {
             isF64 = ofBits-fits binary64 first;
@@ -167,16 +168,37 @@ module _ (w wait : Float) (within : withinLimits w wait ≡ true) where
                 le-both-ways (quotient first) wait (div-fits binary64 w (ofBits binary64 first)) q f wait-positive at-most above;
           }
 
-      pub none-given : T (fits binary64 wait) → eq (div binary64 w (ofBits binary64 first)) wait ≡ false
-          → (rate : Float) → Gives w wait rate → ⊥
+      pub first-answers : T (fits binary64 wait) → eq (div binary64 w (ofBits binary64 first)) wait ≡ true
+          → Answers w wait (answered 0 (ofBits binary64 first))
+      first-answers f e = smallest (ofBits binary64 first) within (given f e) not-above
+
+      pub none-answers : T (fits binary64 wait) → eq (div binary64 w (ofBits binary64 first)) wait ≡ false
+          → Answers w wait (answered noRate z)
       unfolding quotient
-      none-given f e rate g =
+      none-answers f e =
+          none within
+          (λ (rate : Float) (g : Gives w wait rate).
           let above = reached rate g in
           let q = between wait (quotient first) wait wait-positive wait-positive above at-most in
           let same-wait =
-              le-both-ways (quotient first) wait (div-fits binary64 w (ofBits binary64 first)) q f wait-positive at-most above in
-          true≢false
-          (sym (eq-self wait (upto-finite wait-upto)) ∙ ap (λ (x : Float). eq x wait) (sym same-wait) ∙ e)
+          le-both-ways (quotient first) wait (div-fits binary64 w (ofBits binary64 first)) q f wait-positive at-most above in
+          true≢false (sym (eq-self wait (upto-finite wait-upto)) ∙ ap (λ (x : Float). eq x wait) (sym same-wait) ∙ e))
+
+    pub past-answers : first ≡ pastLimit → Answers w wait (answered noRate z)
+    past-answers e =
+        none within (λ (rate : Float) (g : Gives w wait rate). let h = first-there rate g in absurd (omega arith))
+
+-- ---- what an answer's number says
+
+pub answer-gives : (w wait : Float) (a : RateForWait) → Answers w wait a → a .number ≡ 0 → Gives w wait (a .rate)
+answer-gives w wait a (smallest r l g s) e = g
+answer-gives w wait a (none l n) e = absurd (omega (arith, e))
+answer-gives w wait a (outside l) e = absurd (omega (arith, e))
+
+pub answer-none : (w wait : Float) (a : RateForWait) → Answers w wait a → a .number ≡ noRate → (rate : Float) → Gives w wait rate → ⊥
+answer-none w wait a (smallest r l g s) e = absurd (omega (arith, e))
+answer-none w wait a (none l n) e = n
+answer-none w wait a (outside l) e = absurd (omega (arith, e))
 
 -- ---- one answer alone is right
 

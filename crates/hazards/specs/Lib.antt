@@ -1,4 +1,5 @@
--- The definitions of the hazards crate, from floats and lists up to the sampler, and what document 02 says of its list of records.
+-- The definitions of the hazards crate, from floats and lists up to the sampler; what document 02 says of its list of records; the rate
+-- for a wait.
 pub mod Floats
 pub mod Lists
 pub mod FirstPlace

@@ -1,6 +1,8 @@
 -- Document 02, change 11, "What rate would fail on that day?": from a threshold w above 0 and at most 1,024 and a wait from 2^-40 to
--- 2^40, the smallest positive f64 rate, at most 2^40, for which w / rate rounds to exactly the wait.
+-- 2^40, the smallest positive f64 rate, at most 2^40, for which w / rate rounds to exactly the wait. Document 02 calls the wait T; here
+-- T b says that a test b holds.
 use mathlib.Core.Path.{_≡_}
+use mathlib.Core.Logic.{_↔_}
 use mathlib.Core.Bool.{Bool, true, false, _&&_}
 use Prim.Native.Nat.{ℕ}
 use lib.IntN.{negsuc}
@@ -56,9 +58,5 @@ pub record WaitsExactly (w wait rate : Float) : Type 0 where
   pub inLimits : T (inRange rate)
   pub waits : (pairs : Intervals) (start : Float) → invertCumulativeHazard (Constant rate) pairs start w ≡ After wait
 
-pub record Alike (A B : Type 0) : Type 0 where
-  pub forth : A → B
-  pub back : B → A
-
 abbrev pub ConstantHazard : Type 0
-ConstantHazard = (w wait rate : Float) → withinLimits w wait ≡ true → Alike (Gives w wait rate) (WaitsExactly w wait rate)
+ConstantHazard = (w wait rate : Float) → withinLimits w wait ≡ true → Gives w wait rate ↔ WaitsExactly w wait rate

@@ -1,6 +1,8 @@
-// Change 8 of document 02, "The list's order must not matter": its five sentences, and that no order is left out, as contracts of functions
-// that do nothing, so that the check's log names them.
+// What document 02 asks to be true, as contracts of functions that do nothing, so that the check's log names them. Change 8, "The list's
+// order must not matter": its five sentences, and that no order is left out. Change 11, "What rate would fail on that day?": that one answer
+// alone is right, and that it is the rate with which a cause waits so long.
 ghost use Rattle.hazards.specs.ListOrder.{AnyOrder, EveryOrder, CensoredAnswer, UncensoredWinner, EmptyList, NoEvent};
+ghost use Rattle.hazards.specs.RateForWait.{OneAnswer, ConstantHazard};
 
 // Two orders of the same records, all causes different, give the same answer and the same position.
 pub fn any_order()
@@ -30,4 +32,14 @@ pub fn empty_list()
 // Otherwise no event is answered only when there is no candidate and no such censor age.
 pub fn no_event()
     ensures { λ _. ⌜ NoEvent ⌝ }
+{}
+
+// To a threshold and a wait one answer alone is right.
+pub fn one_rate()
+    ensures { λ _. ⌜ OneAnswer ⌝ }
+{}
+
+// The rates that give a wait are the constant rates with which the cumulative hazard's inversion answers that wait.
+pub fn constant_hazard()
+    ensures { λ _. ⌜ ConstantHazard ⌝ }
 {}

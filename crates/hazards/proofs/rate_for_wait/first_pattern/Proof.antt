@@ -1,6 +1,5 @@
 -- `rate_for_wait::first_pattern` meets its contract: the loop halves what the first place lies in.
-use mathlib.Core.Path.{sym}
-use Prim.Native.Nat.{_+_, _-_, _/_}
+use Prim.Native.Nat.{_-_}
 use native.Mathlib.Omega.{arith}
 use Rattle.hazards.specs.RateForWaitInternals.{pastLimit, usedUpWithin}
 use Rattle.hazards.proofs.Patterns.{number-pattern}

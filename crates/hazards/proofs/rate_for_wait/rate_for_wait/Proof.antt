@@ -1,12 +1,12 @@
 -- `rate_for_wait::rate_for_wait` meets its contract: outside the limits, no pattern left, the first rate gives the wait, or none does.
-use mathlib.Core.Path.{_≡_, sym, _∙_}
+use mathlib.Core.Path.{sym, _∙_}
 use native.Mathlib.Omega.{arith}
 use borrow.Author.Needs.{needs}
 use borrow.Author.Tests.{not-true, not-false}
 use denote.Floats.{passes}
-use Rattle.hazards.specs.RateForWait.Answers.{smallest, none, outside}
+use Rattle.hazards.specs.RateForWait.Answers.{outside}
 use Rattle.hazards.proofs.Patterns.{number-pattern}
-use Rattle.hazards.proofs.RateForWait.{first-there, not-above, given, none-given}
+use Rattle.hazards.proofs.RateForWait.{past-answers, first-answers, none-answers}
 use Rattle.hazards.proofs.rate_for_wait.rate_for_wait.Statement.{statement}
 use Rattle.hazards.proofs.rate_for_wait.rate_for_wait.Tie as tie
 
@@ -32,12 +32,7 @@ returns-2 c =
     let f = c .before .before in
     let l = sym (f .before .before .within-limits .ensures) ∙ not-false _ (f .before .if1 .left) in
     let a = f .before .before .before .args in
-    rw (c .without-rate2 .ensures)
-    (none l
-    (λ rate g.
-    let h = first-there (a .threshold) (a .wait) l (f .first-pattern .ensures) rate g in
-    let e = c .before .if2 .taken in
-    absurd (omega arith)))
+    rw (c .without-rate2 .ensures) (past-answers (a .threshold) (a .wait) l (f .first-pattern .ensures) (c .before .if2 .taken))
 
 float-from-bits-rate : tie.Need-float-from-bits-rate
 float-from-bits-rate c = number-pattern _ (omega (arith, c .before .first-pattern .ensures .ends))
@@ -48,10 +43,8 @@ returns-3 c =
     let l = sym (f .before .before .within-limits .ensures) ∙ not-false _ (f .before .if1 .left) in
     let s = f .before .before .before in
     let m = f .first-pattern .ensures in
-    smallest _ l
-    (given (s .args .threshold) (s .args .wait) l m (omega (arith, m .ends, c .before .if2 .left)) (passes _ (s .good .1 .0 .1))
-    (c .if3 .taken))
-    (λ other g. not-above (s .args .threshold) (s .args .wait) l m other g)
+    first-answers (s .args .threshold) (s .args .wait) l m (omega (arith, m .ends, c .before .if2 .left)) (passes _ (s .good .1 .0 .1))
+    (c .if3 .taken)
 
 without-rate-requires-3 : tie.Need-without-rate-requires-3
 without-rate-requires-3 c κs = search needs
@@ -64,9 +57,8 @@ returns-4 c =
     let s = f .before .before .before in
     let m = f .first-pattern .ensures in
     rw (c .without-rate3 .ensures)
-    (none l
-    (none-given (s .args .threshold) (s .args .wait) l m (omega (arith, m .ends, b .before .if2 .left)) (passes _ (s .good .1 .0 .1))
-    (b .if3 .left)))
+    (none-answers (s .args .threshold) (s .args .wait) l m (omega (arith, m .ends, b .before .if2 .left)) (passes _ (s .good .1 .0 .1))
+    (b .if3 .left))
 
 pub rate-for-wait-spec : {M : Type 1} → statement M
 rate-for-wait-spec =
