@@ -17,9 +17,11 @@
  *     the third answer: the threshold 2.0 is used up at 0.5 an hour, after 4 hours, at ten ticks an hour
  *     olgaemuri_get_answer(answers + 2 * OLGAEMURI_ANSWER_BYTES).ticks_low == 40
  *
- * Link libolgaemuri.a, which `rt staticlib olgaemuri` writes to target/staticlib. It is for x86-64, has one symbol that others
- * see, `olgaemuri_run`, calls nothing but memcpy and memset, and has no state of its own, so that runs may go on at the same time
- * in several threads, each with its own buffers.
+ * `olgaemuri_rate_for_wait` needs no session: it gives the constant rate with which a threshold is used up on a given day.
+ *
+ * Link libolgaemuri.a, which `rt staticlib olgaemuri` writes to target/staticlib. It is for x86-64, has two symbols that others
+ * see, `olgaemuri_run` and `olgaemuri_rate_for_wait`, calls nothing but memcpy and memset, and has no state of its own, so that
+ * calls may go on at the same time in several threads, each with its own buffers.
  *
  * All fields of commands, answers and results are little-endian; f64 is the 8 bytes of a double.
  */
@@ -82,7 +84,8 @@ enum olgaemuri_tie {
     OLGAEMURI_EXPLICIT_PRIORITY = 2 /* the higher priority, then the lower cause */
 };
 
-/* The number of an answer, and the number that a run returns. A refused command changes nothing. */
+/* The number of an answer and the number that a run returns, up to 18; then the numbers, beside 0, that olgaemuri_rate_for_wait
+   returns. A refused command changes nothing. */
 enum olgaemuri_refusal {
     OLGAEMURI_ACCEPTED = 0,
     OLGAEMURI_INVALID_STATE = 1,     /* never in a run, which begins with an opened engine */
@@ -103,11 +106,13 @@ enum olgaemuri_refusal {
     OLGAEMURI_STREAM_EXHAUSTED = 15, /* a draw is due and the recorded thresholds are used up */
     OLGAEMURI_INVALID_THRESHOLD = 16,/* the threshold due is not finite, below 0 or above 1024 */
     OLGAEMURI_ANSWERS_FULL = 17,     /* only returned: under 32 answer bytes are left for a command, which is not done */
-    OLGAEMURI_INVALID_BUFFERS = 18   /* only returned: the stream is no multiple of 8 bytes or the result not 16 */
+    OLGAEMURI_INVALID_BUFFERS = 18,  /* only returned: the stream is no multiple of 8 bytes or the result not 16 */
+    OLGAEMURI_OUTSIDE_LIMITS = 23,   /* the threshold is not above 0 and at most 1024, or the wait is not from 2^-40 to 2^40 */
+    OLGAEMURI_NO_RATE = 24           /* no rate above 0 and at most 2^40 gives exactly the wait */
 };
 
 /*
- * The batch run: the one function of libolgaemuri.a.
+ * The batch run.
  *
  * commands  the list, read only
  * stream    the recorded thresholds, read only: whole f64s, drawn from the front, each from 0 to 1024
@@ -126,6 +131,21 @@ enum olgaemuri_refusal {
  */
 uint8_t olgaemuri_run(const uint8_t *commands, size_t commands_len, const uint8_t *stream, size_t stream_len, uint8_t *journal,
                       size_t journal_len, uint8_t *answers, size_t answers_len, uint8_t *result, size_t result_len);
+
+/*
+ * The rate for a wait: which constant rate uses up a threshold on the day on which the tool broke?
+ *
+ * threshold  above 0 and at most 1024
+ * wait       from 2^-40 to 2^40
+ * rate       one double. It is written whatever is returned and not read
+ *
+ * Returns 0 and writes the smallest positive double, at most 2^40, for which threshold / rate rounds to exactly wait: 0.5 for 2.0 and
+ * 4.0. A cause that is set at time 0 with this constant rate and draws this threshold has its event after exactly this wait.
+ *
+ * Returns 24, and writes 0.0, where no double in that range does it, as for 1.0 and 49.0. Returns 23, and writes 0.0, where the
+ * threshold or the wait is outside its limits, NaN among them. The pointer may not be NULL.
+ */
+uint8_t olgaemuri_rate_for_wait(double threshold, double wait, double *rate);
 
 /* What a run says of itself. */
 struct olgaemuri_result {

@@ -1,4 +1,5 @@
-//! The batch run of libolgaemuri.a (`rt staticlib olgaemuri`), declared once, and a safe call over it. The only file with `unsafe`.
+//! The two functions of libolgaemuri.a (`rt staticlib olgaemuri`), declared once, and a safe call over each. The only file with
+//! `unsafe`.
 //!
 //! Most callers want the crate `olgaemuri`, which has typed commands and answers. `include/olgaemuri.h` is for C and C++.
 
@@ -13,7 +14,7 @@ pub const RESULT_BYTES: usize = 16;
 /// Bytes of one recorded threshold, a little-endian f64.
 pub const THRESHOLD_BYTES: usize = 8;
 
-/// The function as the library exports it.
+/// The functions as the library exports them.
 pub mod raw {
     unsafe extern "C" {
         /// The batch run. Each slice is a pointer and a length in bytes.
@@ -35,6 +36,14 @@ pub mod raw {
             result: *mut u8,
             result_len: usize,
         ) -> u8;
+
+        /// The rate for a wait, written to `rate` whatever is returned.
+        ///
+        /// # Safety
+        ///
+        /// `rate` is not null, is aligned and stands at the front of the 8 bytes of an f64, which nobody else reads or writes
+        /// during the call.
+        pub fn olgaemuri_rate_for_wait(threshold: f64, wait: f64, rate: *mut f64) -> u8;
     }
 }
 
@@ -64,4 +73,16 @@ pub fn run(
             result.len(),
         )
     }
+}
+
+/// The number, and the smallest rate above 0 and at most 2^40 for which `threshold / rate` is `wait` to the last bit.
+///
+/// The number is 0 where there is such a rate; 24, none; 23, a `threshold` that is not above 0 and at most 1,024, or a `wait` that
+/// is not from 2^-40 to 2^40, NaN among them. With 23 and 24 the rate is 0.0.
+#[must_use]
+pub fn rate_for_wait(threshold: f64, wait: f64) -> (u8, f64) {
+    let mut rate = 0.0;
+    // SAFETY: the pointer is that of a float of our own.
+    let number = unsafe { raw::olgaemuri_rate_for_wait(threshold, wait, &mut rate) };
+    (number, rate)
 }

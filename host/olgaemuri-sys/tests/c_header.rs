@@ -1,25 +1,35 @@
-//! The C header: a C program is compiled against it, linked with the engine and run; so is the same program as C++.
+//! The C header: C programs are compiled against it, linked with the engine and run; so are the same programs as C++.
 
 mod compiled;
 
 use compiled::{below, output};
 use std::process::Command;
 
-const EXPECTED: &str = include_str!("c/session.stdout");
+/// The programs below tests/c, and what each prints.
+const PROGRAMS: [(&str, &str); 2] = [
+    ("session", include_str!("c/session.stdout")),
+    ("rate", include_str!("c/rate.stdout")),
+];
 
-#[test]
-fn c_program_runs_a_session() {
-    let source = below("tests/c/session.c");
-    assert_eq!(output("gcc", &["-std=c99"], &source, "session-c"), EXPECTED);
+/// Compiles and runs each program.
+fn all_print_what_is_expected(compiler: &str, options: &[&str], ending: &str) {
+    for (name, expected) in PROGRAMS {
+        let source = below(&format!("tests/c/{name}.c"));
+        let printed = output(compiler, options, &source, &format!("{name}-{ending}"));
+        assert_eq!(printed, expected, "{name}");
+    }
 }
 
 #[test]
-fn the_same_program_runs_as_cpp() {
+fn c_programs_run() {
+    all_print_what_is_expected("gcc", &["-std=c99"], "c");
+}
+
+#[test]
+fn the_same_programs_run_as_cpp() {
     if Command::new("g++").arg("--version").output().is_err() {
         println!("not run: there is no g++");
         return;
     }
-    let source = below("tests/c/session.c");
-    let options = ["-std=c++11", "-x", "c++"];
-    assert_eq!(output("g++", &options, &source, "session-cpp"), EXPECTED);
+    all_print_what_is_expected("g++", &["-std=c++11", "-x", "c++"], "cpp");
 }

@@ -1,4 +1,5 @@
-//! The names that the library brings into a program: `olgaemuri_run` and no other, so that a program may have a `run` of its own.
+//! The names that the library brings into a program: those of its two functions and no other, so that a program may have a `run` of its
+//! own.
 
 mod compiled;
 
@@ -24,11 +25,10 @@ fn names(option: &str) -> BTreeSet<String> {
 }
 
 #[test]
-fn the_library_has_one_name() {
-    assert_eq!(
-        names("--defined-only"),
-        BTreeSet::from(["olgaemuri_run".into()])
-    );
+fn the_library_has_two_names() {
+    let names = names("--defined-only");
+    let expected = ["olgaemuri_rate_for_wait", "olgaemuri_run"];
+    assert!(names.iter().eq(&expected), "{names:?}");
 }
 
 #[test]
@@ -41,7 +41,7 @@ fn it_asks_for_memcpy_and_memset_alone() {
 #[test]
 fn a_program_with_a_run_of_its_own_calls_the_engine() {
     let printed = output("gcc", &["-std=c99"], &below("tests/c/names.c"), "names");
-    let expected = "the engine: returned 0, answered 11 and 12; calls of the program's own: 0\n\
-                    the program's own: 10\n";
+    let expected = "the engine: returned 0, answered 11 and 12; returned 0, rate 0.5; calls of the program's own: 0\n\
+                    the program's own: 15\n";
     assert_eq!(printed, expected);
 }

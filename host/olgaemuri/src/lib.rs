@@ -3,7 +3,7 @@
 //! A [`Session`] holds recorded thresholds and a list of [`Command`]s; [`Session::run`] gives them to the engine and returns an
 //! [`Outcome`]: every [`Answer`], the applied commands, the clocks with their pending events. [`Session::undo`] and
 //! [`Session::redo`] take steps back and do them again. What the engine refuses it refuses by a [`Refusal`], and nothing changes.
-//! [`Exponential`] draws thresholds from a seed.
+//! [`Exponential`] draws thresholds from a seed; [`rate_for_wait`] gives the constant rate for a breakdown on a known day.
 //!
 //! Sessions are read and written as text ([`SessionText`], or [`str::parse`] and [`ToString`] of a [`Session`]) and as bytes
 //! ([`Session::to_bytes`], [`Session::from_bytes`]); docs/SESSION-FORMAT.md has both formats. Commands and answers are laid out as
@@ -31,6 +31,7 @@ mod ledger;
 mod logarithm;
 mod outcome;
 mod philox;
+mod rate_for_wait;
 mod refusal;
 mod session;
 pub mod text;
@@ -47,6 +48,7 @@ pub use hazard::{Hazard, MAX_PAIRS, Pair};
 pub use input::Input;
 pub use ledger::{Account, Pending};
 pub use outcome::{Applied, Outcome, Step};
+pub use rate_for_wait::rate_for_wait;
 pub use refusal::Refusal;
 pub use session::Session;
 pub use text::{LoadError, SessionText, TextError};

@@ -1,9 +1,10 @@
-//! Refusals and their numbers (document 01, the table under "A command comes in"; 17 and 18 from "Run call and sampler").
+//! Refusals and their numbers (document 01, the table under "A command comes in"; 17 and 18 from "Run call and sampler"; 23 and 24 from
+//! document 02, change 11).
 
 use std::error::Error;
 use std::fmt;
 
-/// Why a command, or a run, was refused. The discriminant is document 01's number.
+/// Why a command, a run or a rate was refused. The discriminant is document 01's number; 23 and 24 are document 02's.
 #[derive(Clone, Copy, Debug, PartialEq, Eq, PartialOrd, Ord, Hash)]
 #[repr(u8)]
 #[non_exhaustive]
@@ -44,11 +45,16 @@ pub enum Refusal {
     AnswersFull = 17,
     /// 18: the stream is no multiple of 8 bytes or the result not 16. A [`Session`](crate::Session) never gives such buffers.
     InvalidBuffers = 18,
+    /// 23: the threshold is not above 0 and at most 1,024, or the wait is not from 2^-40 to 2^40. Only
+    /// [`rate_for_wait`](crate::rate_for_wait) refuses by it.
+    OutsideLimits = 23,
+    /// 24: no rate above 0 and at most 2^40 gives exactly the wait. Only [`rate_for_wait`](crate::rate_for_wait) refuses by it.
+    NoRate = 24,
 }
 
 impl Refusal {
     /// All refusals, by ascending number.
-    pub const ALL: [Self; 18] = [
+    pub const ALL: [Self; 20] = [
         Self::InvalidState,
         Self::UnknownCode,
         Self::CutShort,
@@ -67,9 +73,11 @@ impl Refusal {
         Self::InvalidThreshold,
         Self::AnswersFull,
         Self::InvalidBuffers,
+        Self::OutsideLimits,
+        Self::NoRate,
     ];
 
-    /// The refusal with this number, 1 to 18. 0 means that nothing was refused.
+    /// The refusal with this number: 1 to 18, 23 or 24. 0 means that nothing was refused.
     #[must_use]
     pub fn from_number(number: u8) -> Option<Self> {
         Self::ALL
@@ -77,13 +85,13 @@ impl Refusal {
             .find(|refusal| refusal.number() == number)
     }
 
-    /// Document 01's number.
+    /// Its number.
     #[must_use]
     pub fn number(self) -> u8 {
         self as u8
     }
 
-    /// What was wrong, in words for the person who gave the command.
+    /// What was wrong, in words for the person who asked.
     #[must_use]
     pub fn meaning(self) -> &'static str {
         match self {
@@ -113,6 +121,10 @@ impl Refusal {
             }
             Self::AnswersFull => "there is no room for another answer",
             Self::InvalidBuffers => "the buffers do not have the lengths asked for",
+            Self::OutsideLimits => {
+                "the threshold is not above 0 and at most 1024, or the wait is not from 2^-40 to 2^40"
+            }
+            Self::NoRate => "no rate above 0 and at most 2^40 gives exactly the wait",
         }
     }
 }

@@ -50,7 +50,15 @@ fn ticks_are_low_then_high() {
 
 #[test]
 fn bytes_that_are_no_answer() {
-    for (at, byte) in [(0, 19), (0, 255), (1, 2), (2, 2), (3, 255)] {
+    for (at, byte) in [
+        (0, 19),
+        (0, 22),
+        (0, 25),
+        (0, 255),
+        (1, 2),
+        (2, 2),
+        (3, 255),
+    ] {
         let mut bytes = [0; 32];
         bytes[at] = byte;
         assert_eq!(Answer::from_bytes(&bytes), None);

@@ -1,4 +1,5 @@
-//! Every refusal through a session. 17 and 18 need buffers that no session gives: host/olgaemuri-sys/tests/buffers.rs.
+//! Every refusal through a session. 17 and 18 need buffers that no session gives (host/olgaemuri-sys/tests/buffers.rs), 23 and 24 are
+//! those of a rate (rates.rs).
 
 mod common;
 
@@ -206,17 +207,19 @@ fn never_1_13_14_17_or_18_by_accident() {
 
 #[test]
 fn numbers_meanings_and_words() {
-    for (refusal, number) in Refusal::ALL.into_iter().zip(1..) {
-        assert_eq!(refusal.number(), number);
+    let numbers: Vec<u8> = (1..=18).chain([23, 24]).collect();
+    assert_eq!(Refusal::ALL.map(Refusal::number).to_vec(), numbers);
+    for (refusal, number) in Refusal::ALL.into_iter().zip(numbers) {
         assert_eq!(Refusal::from_number(number), Some(refusal));
         let words = format!("refused by {number}: {}", refusal.meaning());
         let error: Box<dyn Error> = Box::new(refusal);
         assert_eq!(error.to_string(), words);
     }
-    assert_eq!(Refusal::from_number(0), None);
-    assert_eq!(Refusal::from_number(19), None);
+    for number in [0, 255].into_iter().chain(19..=22).chain(25..=27) {
+        assert_eq!(Refusal::from_number(number), None);
+    }
     let mut meanings = Refusal::ALL.map(Refusal::meaning).to_vec();
     meanings.sort_unstable();
     meanings.dedup();
-    assert_eq!(meanings.len(), 18);
+    assert_eq!(meanings.len(), Refusal::ALL.len());
 }

@@ -19,7 +19,7 @@ class Tie(IntEnum):
 
 
 class Refusal(IntEnum):
-    """Why the engine refused a command, or ended a run. Nothing has changed then."""
+    """Why the engine refused a command or a rate, or ended a run. Nothing has changed then."""
 
     INVALID_STATE = 1
     UNKNOWN_CODE = 2
@@ -39,6 +39,8 @@ class Refusal(IntEnum):
     INVALID_THRESHOLD = 16
     ANSWERS_FULL = 17
     INVALID_BUFFERS = 18
+    OUTSIDE_LIMITS = 23
+    NO_RATE = 24
 
     @property
     def meaning(self) -> str:
@@ -65,4 +67,6 @@ _MEANINGS = {
     Refusal.INVALID_THRESHOLD: "the recorded threshold due is not finite, below 0 or above 1024",
     Refusal.ANSWERS_FULL: "there is no room for another answer",
     Refusal.INVALID_BUFFERS: "the buffers do not have the lengths asked for",
+    Refusal.OUTSIDE_LIMITS: "the threshold is not above 0 and at most 1024, or the wait is not from 2^-40 to 2^40",
+    Refusal.NO_RATE: "no rate above 0 and at most 2^40 gives exactly the wait",
 }

@@ -1,4 +1,4 @@
-"""The engine's shared library: made from the static one by gcc, and its one function.
+"""The engine's shared library: made from the static one by gcc, and its two functions.
 
 OLGAEMURI_SHARED names a finished shared library instead; OLGAEMURI_LIB_DIR the folder with the static one.
 """
@@ -13,10 +13,14 @@ import tempfile
 from functools import lru_cache
 from pathlib import Path
 
-# The crate that the static library is made of, which names the archive, and the function that it exports.
+# The crate that the static library is made of, which names the archive, and the functions that it exports: five buffers, each a pointer
+# and a length; a threshold, a wait and where the rate goes. Both return a number.
 CRATE = "olgaemuri"
 ARCHIVE = f"lib{CRATE}.a"
-SYMBOL = "olgaemuri_run"
+SYMBOLS = {
+    "olgaemuri_run": [ctypes.c_char_p, ctypes.c_size_t] * 5,
+    "olgaemuri_rate_for_wait": [ctypes.c_double, ctypes.c_double, ctypes.POINTER(ctypes.c_double)],
+}
 
 SHARED = "libolgaemuri.so"
 ROOT = Path(__file__).resolve().parents[3]
@@ -59,10 +63,10 @@ def path() -> Path:
 
 
 @lru_cache(maxsize=None)
-def function():
-    """The batch run: five buffers, each a pointer and a length, and the number that ended it."""
-    found = getattr(ctypes.CDLL(str(path())), SYMBOL)
-    found.argtypes = [ctypes.c_char_p, ctypes.c_size_t] * 5
+def function(symbol: str):
+    """The function with this name, to be called from Python."""
+    found = getattr(ctypes.CDLL(str(path())), symbol)
+    found.argtypes = SYMBOLS[symbol]
     found.restype = ctypes.c_uint8
     return found
 
@@ -73,5 +77,12 @@ def call(commands: bytes, stream: bytes, journal_length: int, answers_length: in
     # no buffer is at NULL, not even an empty one
     buffers = [ctypes.create_string_buffer(max(length, 1)) for length in lengths]
     written = [part for pair in zip(buffers, lengths) for part in pair]
-    number = function()(commands, len(commands), stream, len(stream), *written)
+    number = function("olgaemuri_run")(commands, len(commands), stream, len(stream), *written)
     return (number, *(buffer.raw[:length] for buffer, length in zip(buffers, lengths)))
+
+
+def rate_for_wait(threshold: float, wait: float) -> tuple:
+    """The number, then the rate, which is 0.0 where the number is not 0."""
+    rate = ctypes.c_double()
+    number = function("olgaemuri_rate_for_wait")(threshold, wait, ctypes.byref(rate))
+    return number, rate.value

@@ -10,20 +10,7 @@ from .answer import Answer
 from .batch import Outcome, run, thresholds_bytes
 from .choices import Refusal
 from .commands import Command, Raw, Undo, check
-
-
-class Refused(Exception):
-    """The engine refused a command; the session is as it was before."""
-
-    def __init__(self, refusal: Refusal, command: Command):
-        super().__init__(f"refused by {int(refusal)}: {refusal.meaning}")
-        self.refusal = refusal
-        self.command = command
-
-    @property
-    def number(self) -> int:
-        """The refusal's number."""
-        return int(self.refusal)
+from .refused import Refused
 
 
 class NothingToRedo(Exception):

@@ -1,11 +1,11 @@
-"""The module's numbers are the C header's, and its layout the specification's."""
+"""The module's numbers and functions are the C header's, and its layout the specification's."""
 
 import re
 import unittest
 from pathlib import Path
 
 import olgaemuri as om
-from olgaemuri import layout
+from olgaemuri import layout, library
 
 HEADER = (Path(__file__).parents[2] / "olgaemuri-sys/include/olgaemuri.h").read_text(encoding="utf-8")
 NUMBERS = {name: int(number) for name, number in re.findall(r"^    OLGAEMURI_(\w+) = (\d+)", HEADER, re.MULTILINE)}
@@ -30,7 +30,11 @@ class Header(unittest.TestCase):
             self.assertEqual(int(choice), NUMBERS[choice.name], choice)
         meanings = {refusal.meaning for refusal in om.Refusal}
         self.assertEqual(len(meanings), len(om.Refusal))
-        self.assertEqual([int(refusal) for refusal in om.Refusal], list(range(1, 19)))
+        self.assertEqual([int(refusal) for refusal in om.Refusal], [*range(1, 19), 23, 24])
+
+    def test_functions(self):
+        declared = re.findall(r"^uint8_t (olgaemuri_\w+)\(", HEADER, re.MULTILINE)
+        self.assertEqual(declared, list(library.SYMBOLS))
 
 
 if __name__ == "__main__":

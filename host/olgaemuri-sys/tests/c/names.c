@@ -25,14 +25,21 @@ unsigned clear(void)
     return ++calls;
 }
 
+unsigned rate_for_wait(void)
+{
+    return ++calls;
+}
+
 int main(void)
 {
+    double rate;
     const uint8_t list[] = {OLGAEMURI_DELIVER, OLGAEMURI_UNDO};
     uint8_t stream[OLGAEMURI_THRESHOLD_BYTES] = {0}, journal[8], answers[2 * OLGAEMURI_ANSWER_BYTES], result[OLGAEMURI_RESULT_BYTES];
     uint8_t number = olgaemuri_run(list, sizeof list, stream, sizeof stream, journal, sizeof journal, answers, sizeof answers, result,
                                    sizeof result);
-    printf("the engine: returned %u, answered %u and %u; calls of the program's own: %u\n", number, answers[0],
-           answers[OLGAEMURI_ANSWER_BYTES], calls);
-    printf("the program's own: %u\n", run() + execute() + undo() + clear());
+    uint8_t found = olgaemuri_rate_for_wait(2.0, 4.0, &rate);
+    printf("the engine: returned %u, answered %u and %u; returned %u, rate %g; calls of the program's own: %u\n", number, answers[0],
+           answers[OLGAEMURI_ANSWER_BYTES], found, rate, calls);
+    printf("the program's own: %u\n", run() + execute() + undo() + clear() + rate_for_wait());
     return 0;
 }

@@ -1,5 +1,5 @@
-/* How many bytes of stack one run needs: it runs on a thread whose stack was filled with one value, and the deepest byte that
- * changed tells. */
+/* How many bytes of stack one run needs, and a thread that asks for one rate: each goes on a thread whose stack was filled with one
+ * value, and the deepest byte that changed tells. */
 #define _POSIX_C_SOURCE 200112L
 #include "olgaemuri.h"
 
@@ -43,6 +43,13 @@ static void *whole_run(void *number)
     return NULL;
 }
 
+static void *one_rate(void *number)
+{
+    double rate;
+    *(uint8_t *)number = olgaemuri_rate_for_wait(1.0, 5.0, &rate);
+    return NULL;
+}
+
 /* How many bytes of a fresh stack a thread writes, to the deepest one. */
 static size_t touched(void *(*body)(void *), void *argument)
 {
@@ -63,16 +70,17 @@ static size_t touched(void *(*body)(void *), void *argument)
     return STACK_BYTES - untouched;
 }
 
-/* Prints what the run needs beyond a thread that does nothing. Fails where the run ended early or a command was refused. */
+/* Prints what the run needs beyond a thread that does nothing, then what a thread with one rate needs in all. Fails where the run
+ * ended early, a command was refused or there was no rate. */
 int main(void)
 {
-    uint8_t number = 255;
+    uint8_t number = 255, found = 255;
     write_list();
     size_t idle = touched(nothing, NULL);
     size_t used = touched(whole_run, &number);
-    printf("%zu\n", used - idle);
+    printf("%zu\n%zu\n", used - idle, touched(one_rate, &found));
     for (size_t i = 0; i < olgaemuri_get_number(result, 8); i++)
         if (answers[OLGAEMURI_ANSWER_BYTES * i] != OLGAEMURI_ACCEPTED)
             return 2;
-    return number != 0;
+    return number != 0 || found != 0;
 }

@@ -45,14 +45,14 @@ pub struct Arguments {
 }
 
 impl Arguments {
-    /// Reads the words, or says what is wrong with them. `-` is a file, `--` ends the options.
+    /// Reads the words, or says what is wrong with them. `-` is a file, a negative number is no option, `--` ends the options.
     pub fn parse(words: &[String], known: &[Known]) -> Result<Self, String> {
         let mut arguments = Self::default();
         let mut words = words.iter();
         while let Some(word) = words.next() {
             if word == "--" {
                 arguments.files.extend(words.by_ref().cloned());
-            } else if word.len() > 1 && word.starts_with('-') {
+            } else if is_option(word) {
                 arguments.option(word, known, &mut words)?;
             } else {
                 arguments.files.push(word.clone());
@@ -101,6 +101,13 @@ impl Arguments {
     }
 }
 
+/// Whether the word begins like an option and not like a negative number.
+fn is_option(word: &str) -> bool {
+    let numeric = |rest: &str| rest.starts_with(|c: char| c.is_ascii_digit() || c == '.');
+    let rest = word.strip_prefix('-').filter(|rest| !rest.is_empty());
+    rest.is_some_and(|rest| rest != "inf" && !numeric(rest))
+}
+
 #[cfg(test)]
 mod tests {
     use super::*;
@@ -125,6 +132,18 @@ mod tests {
         assert_eq!(arguments.value("--csv"), Some(""));
         assert_eq!(parse("--svg=x").unwrap().value("--svg"), Some("x"));
         assert_eq!(parse("--csv=x").unwrap().value("--csv"), Some("x"));
+    }
+
+    #[test]
+    fn negative_numbers_are_no_options() {
+        let numbers = ["-1", "-.5", "-0", "-1e-3", "-inf", "-1x"];
+        let arguments = parse(&format!("--json {}", numbers.join(" "))).unwrap();
+        assert_eq!(arguments.files, numbers);
+        assert!(arguments.has("--json"));
+        for word in ["-x", "-e1", "-info", "--1", "-=1"] {
+            let told = parse(word).unwrap_err();
+            assert!(told.starts_with("unknown option `-"), "{word}: {told}");
+        }
     }
 
     #[test]

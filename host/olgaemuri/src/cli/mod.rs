@@ -1,5 +1,6 @@
 //! The command line: which subcommand is meant, and the exit status. 0 is success, refused commands among it; 1 a comparison that
-//! found a difference, or refused commands where that is asked for; 2 a bad file or a bad command line.
+//! found a difference, refused commands where that is asked for, or a wait that no rate gives; 2 a bad file or a bad command line,
+//! numbers outside a rate's limits among it.
 
 mod arguments;
 mod compare;
@@ -10,9 +11,11 @@ mod files;
 mod help;
 mod interactive;
 mod json;
+mod nearest_rates;
 mod numbers;
 mod out_of_range;
 mod progress;
+mod rate;
 mod report;
 mod report_table;
 mod run;
@@ -36,7 +39,7 @@ pub struct Failure(String);
 impl Failure {
     /// A wrong command line: what is wrong, and where to read on.
     fn usage(message: &str, help: &str) -> Self {
-        let usage = help.lines().next().unwrap_or_default();
+        let usage = help.split("\n\n").next().unwrap_or_default();
         Self(format!("{message}\n{usage}\n`olgaemuri --help` tells more"))
     }
 }
@@ -47,7 +50,7 @@ impl From<String> for Failure {
     }
 }
 
-const SUBCOMMANDS: [&str; 8] = [
+const SUBCOMMANDS: [&str; 9] = [
     "run",
     "compare",
     "convert",
@@ -55,6 +58,7 @@ const SUBCOMMANDS: [&str; 8] = [
     "thresholds",
     "sweep",
     "summary",
+    "rate",
     "help",
 ];
 
@@ -68,11 +72,15 @@ pub fn main(words: impl Iterator<Item = OsString>) -> ExitCode {
     match status {
         Ok(status) => ExitCode::from(status),
         Err(Failure(message)) => {
-            // where it cannot be told, the status is all that is left
-            let _ = writeln!(stderr(), "{}", visible(&message));
+            tell(&message);
             ExitCode::from(2)
         }
     }
+}
+
+/// Tells it on standard error. Where that cannot be written, the status is all that is left.
+fn tell(message: &str) {
+    let _ = writeln!(stderr(), "{}", visible(message));
 }
 
 fn dispatch(words: &[String]) -> Result<u8, Failure> {
@@ -97,6 +105,7 @@ fn dispatch(words: &[String]) -> Result<u8, Failure> {
         ),
         "sweep" => with(rest, &sweep::OPTIONS, help::SWEEP, sweep::sweep),
         "summary" => with(rest, &sweep::SUMMARY_OPTIONS, help::SUMMARY, sweep::summary),
+        "rate" => with(rest, &rate::OPTIONS, help::RATE, rate::rate),
         "help" | "--help" | "-h" => help::show(rest.first().map(String::as_str)),
         "--version" | "-V" => {
             files::write(

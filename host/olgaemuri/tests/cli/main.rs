@@ -10,6 +10,7 @@ mod limits;
 mod options;
 mod pictures;
 mod program;
+mod rate;
 mod shown;
 mod streams;
 mod undo_and_redo;

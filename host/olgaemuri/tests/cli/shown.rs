@@ -153,6 +153,7 @@ fn help_fits_80_columns() {
         "thresholds",
         "sweep",
         "summary",
+        "rate",
         "format",
         "answers",
         "refusals",

@@ -16,7 +16,7 @@ fn standard_error_that_cannot_be_written() {
 
 #[test]
 fn standard_output_that_cannot_be_written() {
-    let words: [&[&str]; 7] = [
+    let words: [&[&str]; 9] = [
         &["interactive"],
         &["run", SESSION],
         &["run", SESSION, "--csv"],
@@ -24,6 +24,8 @@ fn standard_output_that_cannot_be_written() {
         &["run", SESSION, "--svg", "-"],
         &["compare", SESSION, SESSION],
         &["convert", "--to", "text", SESSION],
+        &["rate", "2", "4"],
+        &["rate", "1", "49", "--json"],
     ];
     for words in words {
         let ran = by_shell("exec \"$@\" >/dev/full", words, b"");

@@ -7,7 +7,7 @@ use std::fs;
 fn help_is_there_for_everything() {
     let general = olgaemuri(&["--help"], b"");
     assert_eq!(general.status, 0);
-    for topic in ["run", "compare", "convert", "interactive"] {
+    for topic in ["run", "compare", "convert", "interactive", "rate"] {
         assert!(general.text().contains(&format!("olgaemuri {topic}")));
         let by_option = olgaemuri(&[topic, "--help"], b"");
         let by_word = olgaemuri(&["help", topic], b"");
@@ -29,11 +29,14 @@ fn help_is_there_for_everything() {
             .text()
             .contains("took back")
     );
-    assert!(
-        olgaemuri(&["help", "refusals"], b"")
-            .text()
-            .contains("  15  a threshold is to be drawn")
-    );
+    let refusals = olgaemuri(&["help", "refusals"], b"");
+    for line in [
+        "\n  15  a threshold is to be drawn",
+        "\n  23  the threshold is not above 0",
+        "\n  24  no rate above 0",
+    ] {
+        assert!(refusals.text().contains(line), "{}", refusals.text());
+    }
 }
 
 #[test]
@@ -142,10 +145,12 @@ fn wrong_words_get_a_suggestion() {
 fn without_words_and_without_a_terminal_it_says_how_it_is_used() {
     let ran = olgaemuri(&[], b"");
     assert_eq!(ran.status, 2);
-    assert!(
-        ran.err
-            .contains("usage: olgaemuri run|compare|convert|interactive|thresholds|sweep|")
-    );
+    assert!(ran.err.contains(
+        "usage: olgaemuri run|compare|convert|interactive|thresholds|sweep|summary|rate|"
+    ));
+    // the whole of it, which takes two lines
+    let words: Vec<&str> = ran.err.lines().skip(1).take(2).map(str::trim).collect();
+    assert!(words.concat().ends_with("|rate|help"), "{}", ran.err);
 }
 
 #[test]

@@ -8,6 +8,7 @@ mod document;
 mod headings;
 mod limits;
 mod order;
+mod rates;
 mod records;
 mod refusals;
 mod rows;

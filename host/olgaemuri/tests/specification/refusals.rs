@@ -48,6 +48,6 @@ fn names_are_the_crate_s() {
 #[test]
 fn only_3_has_two_rows() {
     let numbers: Vec<usize> = rows().iter().map(|row| number(row[1])).collect();
-    let expected = [1, 3, 2].into_iter().chain(3..=18);
+    let expected = [1, 3, 2].into_iter().chain(3..=18).chain([23, 24]);
     assert_eq!(numbers, expected.collect::<Vec<_>>());
 }

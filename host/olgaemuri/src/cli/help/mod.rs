@@ -1,4 +1,4 @@
-//! Help that teaches. The first line of each text is its usage.
+//! Help that teaches. A subcommand's text begins with its usage, down to the first empty line.
 
 use crate::cli::Failure;
 use crate::cli::files::write;
@@ -22,12 +22,14 @@ pub const SWEEP: &str = include_str!("sweep.txt");
 
 pub const SUMMARY: &str = include_str!("summary.txt");
 
+pub const RATE: &str = include_str!("rate.txt");
+
 pub const FORMAT: &str = include_str!("format.txt");
 
 pub const ANSWERS: &str = include_str!("answers.txt");
 
 /// The topics of `olgaemuri help`.
-const TOPICS: [(&str, &str); 9] = [
+const TOPICS: [(&str, &str); 10] = [
     ("run", RUN),
     ("compare", COMPARE),
     ("convert", CONVERT),
@@ -35,6 +37,7 @@ const TOPICS: [(&str, &str); 9] = [
     ("thresholds", THRESHOLDS),
     ("sweep", SWEEP),
     ("summary", SUMMARY),
+    ("rate", RATE),
     ("format", FORMAT),
     ("answers", ANSWERS),
 ];
@@ -75,7 +78,9 @@ fn on_word(word: &str) -> Result<String, Failure> {
 
 /// Every refusal with its number.
 fn refusals() -> String {
-    let head = "A refused command changes nothing. The numbers are document 01's.\n\n".to_string();
+    let head = "A refused command changes nothing. The numbers are document 01's; 23 and 24,\n\
+        document 02's, are those of `olgaemuri rate`.\n\n"
+        .to_string();
     let lines = olgaemuri::Refusal::ALL.iter().map(|refusal| {
         let lines = wrapped(&meaning(*refusal), 74).join("\n      ");
         format!("  {:2}  {lines}\n", refusal.number())

@@ -1,0 +1,106 @@
+//! `olgaemuri rate`: the constant rate for a breakdown on a known day.
+
+use super::arguments::{Arguments, Known};
+use super::files::write;
+use super::json::{maybe, number, object};
+use super::nearest_rates::{MOST, nearest_rates};
+use super::{Failure, help, tell};
+use olgaemuri::text::{float_text, parse_float};
+use olgaemuri::{Refusal, rate_for_wait};
+
+pub const OPTIONS: [Known; 2] = [Known::flag("--json"), Known::flag("--help")];
+
+/// What is asked: which rate uses up the threshold after the wait.
+struct Asked {
+    threshold: f64,
+    wait: f64,
+}
+
+/// Exits with 1 where no rate gives the wait.
+pub fn rate(arguments: &Arguments) -> Result<u8, Failure> {
+    let asked =
+        Asked::read(&arguments.files).map_err(|message| Failure::usage(&message, help::RATE))?;
+    let found = match rate_for_wait(asked.threshold, asked.wait) {
+        Ok(rate) => Some(rate),
+        Err(Refusal::NoRate) => None,
+        Err(refusal) => return Err(Failure(asked.outside(refusal))),
+    };
+    if arguments.has("--json") {
+        write("-", (asked.json(found) + "\n").as_bytes())?;
+    } else if let Some(rate) = found {
+        write("-", (float_text(rate) + "\n").as_bytes())?;
+    } else {
+        tell(&asked.none());
+    }
+    Ok(u8::from(found.is_none()))
+}
+
+impl Asked {
+    /// What the words ask, or what is wrong with them.
+    fn read(words: &[String]) -> Result<Self, String> {
+        let [threshold, wait] = words else {
+            return Err("`olgaemuri rate` takes THRESHOLD and WAIT".to_string());
+        };
+        let read = |name, word| parse_float(word).map_err(|message| format!("{name}: {message}"));
+        Ok(Self {
+            threshold: read("THRESHOLD", threshold)?,
+            wait: read("WAIT", wait)?,
+        })
+    }
+
+    /// Which of the two is outside its limits, and what these are.
+    fn outside(&self, refusal: Refusal) -> String {
+        let mut told = Vec::new();
+        if !(self.threshold > 0.0 && self.threshold <= 1024.0) {
+            let threshold = float_text(self.threshold);
+            told.push(format!(
+                "THRESHOLD must be above 0 and at most 1024, not {threshold}"
+            ));
+        }
+        if !(1.0 / MOST..=MOST).contains(&self.wait) {
+            let wait = float_text(self.wait);
+            told.push(format!("WAIT must be from 2^-40 to 2^40, not {wait}"));
+        }
+        format!("refused by {}: {}", refusal.number(), told.join("; "))
+    }
+
+    /// That there is no rate, and which are the nearest.
+    fn none(&self) -> String {
+        let (longer, shorter) = nearest_rates(self.threshold, self.wait);
+        let nearest = |which: &str, rate: f64| {
+            let (rate, wait) = (float_text(rate), float_text(self.threshold / rate));
+            format!("the {which}: {rate} waits {wait}")
+        };
+        let longer = longer.map(|rate| nearest("largest that waits longer", rate));
+        let shorter = shorter.map(|rate| nearest("smallest that waits shorter", rate));
+        format!(
+            "no rate up to 2^40 gives exactly the wait {} for the threshold {} (refusal {})\n{}\n{}",
+            float_text(self.wait),
+            float_text(self.threshold),
+            Refusal::NoRate.number(),
+            longer.as_deref().unwrap_or("no rate waits longer"),
+            shorter
+                .as_deref()
+                .unwrap_or("no rate up to 2^40 waits shorter"),
+        )
+    }
+
+    /// The answer as one object.
+    fn json(&self, found: Option<f64>) -> String {
+        let refused = found.is_none().then_some(Refusal::NoRate);
+        let nearest = refused.map(|_| nearest_rates(self.threshold, self.wait));
+        let (longer, shorter) = nearest.unwrap_or_default();
+        let with_wait = |rate: f64| {
+            let wait = number(self.threshold / rate);
+            object(&[("rate", number(rate)), ("wait", wait)])
+        };
+        object(&[
+            ("number", refused.map_or(0, Refusal::number).to_string()),
+            ("threshold", number(self.threshold)),
+            ("wait", number(self.wait)),
+            ("rate", maybe(found, number)),
+            ("longer", maybe(longer, with_wait)),
+            ("shorter", maybe(shorter, with_wait)),
+        ])
+    }
+}
