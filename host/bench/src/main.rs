@@ -1,5 +1,6 @@
-//! `bench` times the Rattle libraries against the unchanged Rust: evaluations, sampler, engine. `bench --engine`: the engine alone.
-//! `bench --compare SEED COUNT` compares their answers on random cases, `bench --orders SEED COUNT` on lists of records in several orders.
+//! `bench` times the Rattle libraries against the unchanged Rust: evaluations, sampler, engine; and the rate for a wait beside a model.
+//! `bench --engine`: the engine alone. `bench --compare SEED COUNT` compares their answers on random cases, `bench --orders SEED COUNT` on
+//! lists of records in several orders, `bench --rates SEED COUNT` the rates for random thresholds and waits with the model's.
 
 #![deny(unsafe_code)]
 
@@ -11,6 +12,8 @@ mod formats;
 mod numbers;
 mod orders;
 mod probe;
+mod rate_report;
+mod rates;
 mod report;
 mod rust_side;
 mod timing;
@@ -25,6 +28,7 @@ fn main() -> ExitCode {
     match words.as_slice() {
         [] => {
             report::print();
+            rate_report::print();
             engine_report::print();
             ExitCode::SUCCESS
         }
@@ -32,33 +36,47 @@ fn main() -> ExitCode {
             engine_report::print();
             ExitCode::SUCCESS
         }
-        ["--compare", seed, count] => match (seed.parse(), count.parse()) {
-            (Ok(seed), Ok(count)) => compare(seed, count),
-            _ => usage(),
-        },
-        ["--orders", seed, count] => match (seed.parse(), count.parse()) {
-            (Ok(seed), Ok(count)) => orders(seed, count),
+        [option, seed, count] => match (comparison(option), seed.parse(), count.parse()) {
+            (Some(comparison), Ok(seed), Ok(count)) => said(seed, comparison(seed, count)),
             _ => usage(),
         },
         _ => usage(),
     }
 }
 
-fn compare(seed: u64, count: u64) -> ExitCode {
-    match compare::run(seed, count) {
-        Ok(()) => {
-            println!("seed {seed}: {count} evaluations and {count} samples, no difference");
-            ExitCode::SUCCESS
-        }
-        Err(difference) => {
-            println!("{difference}");
-            ExitCode::FAILURE
-        }
+/// Seed and count; what was compared, or the first difference.
+type Comparison = fn(u64, u64) -> Result<String, String>;
+
+fn comparison(option: &str) -> Option<Comparison> {
+    match option {
+        "--compare" => Some(compare),
+        "--orders" => Some(orders),
+        "--rates" => Some(rates),
+        _ => None,
     }
 }
 
-fn orders(seed: u64, count: u64) -> ExitCode {
-    match orders::run(seed, count) {
+fn compare(seed: u64, count: u64) -> Result<String, String> {
+    compare::run(seed, count)?;
+    Ok(format!(
+        "{count} evaluations and {count} samples, no difference"
+    ))
+}
+
+fn orders(seed: u64, count: u64) -> Result<String, String> {
+    let counts = orders::run(seed, count)?;
+    Ok(counts.to_string())
+}
+
+fn rates(seed: u64, count: u64) -> Result<String, String> {
+    let (chosen, tally) = rates::run(seed, count)?;
+    Ok(format!(
+        "{chosen} chosen pairs and {count} random ones, no difference; of the random ones {tally}"
+    ))
+}
+
+fn said(seed: u64, outcome: Result<String, String>) -> ExitCode {
+    match outcome {
         Ok(counts) => {
             println!("seed {seed}: {counts}");
             ExitCode::SUCCESS
@@ -71,6 +89,8 @@ fn orders(seed: u64, count: u64) -> ExitCode {
 }
 
 fn usage() -> ExitCode {
-    eprintln!("usage: bench [--engine | --compare SEED COUNT | --orders SEED COUNT]");
+    eprintln!(
+        "usage: bench [--engine | --compare SEED COUNT | --orders SEED COUNT | --rates SEED COUNT]"
+    );
     ExitCode::from(2)
 }

@@ -1,5 +1,5 @@
-//! The Rattle side: the functions of libprobe.a and safe calls over them. The only file with
-//! `unsafe`.
+//! The Rattle side: the functions of libprobe.a and safe calls over them, and one over `rate_for_wait` of libolgaemuri.a. The only file
+//! with `unsafe`.
 
 #![allow(unsafe_code)]
 
@@ -159,4 +159,12 @@ pub fn sample(request: &[u8], stream: &[u8], positions: &[u8], out: &mut [u8]) -
             out.len(),
         )
     }
+}
+
+/// The rate for a wait: the number, and what stands where `held` stood before the call.
+pub fn rate_for_wait(threshold: f64, wait: f64, held: f64) -> (u8, f64) {
+    let mut rate = held;
+    // SAFETY: the pointer is that of a float of our own.
+    let number = unsafe { olgaemuri_sys::raw::olgaemuri_rate_for_wait(threshold, wait, &mut rate) };
+    (number, rate)
 }

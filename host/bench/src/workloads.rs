@@ -1,4 +1,4 @@
-//! What is timed: points and hazards for the evaluations, causes and thresholds for the sampler.
+//! What is timed: points and hazards for the evaluations, causes and thresholds for the sampler, pairs for the rate.
 
 use cases::floats::{Style, positive};
 use cases::random::Random;
@@ -40,6 +40,12 @@ pub fn points() -> Vec<(f64, f64)> {
     let mut random = Random::new(SEED);
     let mut number = || positive(&mut random, Style::Moderate);
     (0..POINTS).map(|_| (number(), number())).collect()
+}
+
+/// Thresholds of moderate size, and waits that rates of moderate size give.
+pub fn rate_pairs() -> Vec<(f64, f64)> {
+    let given = |(threshold, rate): (f64, f64)| (threshold, threshold / rate);
+    points().into_iter().map(given).collect()
 }
 
 pub struct SampleWorkload {

@@ -66,7 +66,7 @@ fn unit(random: &mut Random) -> f64 {
 }
 
 /// Between two floats above 0, every exponent as likely.
-fn spread(random: &mut Random, low: f64, high: f64) -> f64 {
+pub fn spread(random: &mut Random, low: f64, high: f64) -> f64 {
     let steps = high.to_bits() - low.to_bits() + 1;
     f64::from_bits(low.to_bits() + random.below(steps))
 }

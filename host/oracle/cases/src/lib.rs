@@ -1,4 +1,4 @@
-//! Inputs of evaluations, samples, clocks and engines: random ones from a seed, chosen ones, and the fixed lists.
+//! Inputs of evaluations, samples, rates, clocks and engines: random ones from a seed, chosen ones, and the fixed lists.
 //! Expected answers come from the crate `reference`.
 
 #![forbid(unsafe_code)]
@@ -22,6 +22,8 @@ pub mod lists;
 pub mod order_claims;
 pub mod random;
 pub mod random_sessions;
+pub mod rate_pairs;
+pub mod rate_tally;
 pub mod record_orders;
 pub mod refused_sessions;
 pub mod sample_damage;

@@ -3,15 +3,18 @@
 use crate::clock_steps::ClockStep;
 use crate::evaluations::EvaluationCase;
 use crate::random::Random;
+use crate::rate_pairs::RatePair;
 use crate::samples::SampleCase;
 use crate::sessions::Session;
 use crate::{chosen, chosen_histories, chosen_sessions, refused_sessions};
-use crate::{clock_histories, random_sessions};
+use crate::{clock_histories, random_sessions, rate_pairs};
 
 pub const EVALUATION_SEED: u64 = 0x4F6C_6761_656D_7572;
 pub const EVALUATION_COUNT: usize = 3000;
 pub const SAMPLE_SEED: u64 = 0x7375_7276_6976_616C;
 pub const SAMPLE_COUNT: usize = 720;
+pub const RATE_SEED: u64 = 0x7261_7465_666F_7277;
+pub const RATE_COUNT: usize = 1000;
 pub const CLOCK_SEED: u64 = 0x636C_6F63_6B73_7465;
 /// At least this many steps; the last history is whole.
 pub const CLOCK_STEP_COUNT: usize = 2400;
@@ -32,6 +35,13 @@ pub fn samples() -> Vec<SampleCase> {
     cases
 }
 
+pub fn rates() -> Vec<RatePair> {
+    let mut random = Random::new(RATE_SEED);
+    let mut pairs = rate_pairs::chosen();
+    pairs.resize_with(RATE_COUNT, || RatePair::random(&mut random));
+    pairs
+}
+
 pub fn evaluation_bytes(cases: &[EvaluationCase]) -> Vec<u8> {
     let mut out = Vec::new();
     cases.iter().for_each(|case| case.encode(&mut out));
@@ -41,6 +51,12 @@ pub fn evaluation_bytes(cases: &[EvaluationCase]) -> Vec<u8> {
 pub fn sample_bytes(cases: &[SampleCase]) -> Vec<u8> {
     let mut out = Vec::new();
     cases.iter().for_each(|case| case.encode(&mut out));
+    out
+}
+
+pub fn rate_bytes(pairs: &[RatePair]) -> Vec<u8> {
+    let mut out = Vec::new();
+    pairs.iter().for_each(|pair| pair.encode(&mut out));
     out
 }
 

@@ -1,9 +1,10 @@
-//! The lists of evaluations and samples: their layout, that they are the same in every run, and
-//! what they cover.
+//! The lists of evaluations, samples and rates: their layout, that they are the same in every run,
+//! and what they cover.
 
 mod common;
 
 use cases::evaluations::{self, EvaluationCase};
+use cases::rate_pairs;
 use cases::samples::{self, SampleCase};
 use cases::{lists, tally};
 use common::{checksum, numbers};
@@ -28,6 +29,14 @@ fn samples_are_the_same_each_time() {
     assert_eq!(bytes, lists::sample_bytes(&lists::samples()));
     assert_eq!(bytes.len(), lists::SAMPLE_COUNT * samples::CASE_BYTES);
     assert_eq!(checksum(&bytes), 0x4CDD_A67A_AC5B_ACC0);
+}
+
+#[test]
+fn rates_are_the_same_each_time() {
+    let bytes = lists::rate_bytes(&lists::rates());
+    assert_eq!(bytes, lists::rate_bytes(&lists::rates()));
+    assert_eq!(bytes.len(), lists::RATE_COUNT * rate_pairs::CASE_BYTES);
+    assert_eq!(checksum(&bytes), 0xA923_27AA_A9AA_18DB);
 }
 
 /// Row 1 comes second: cumulative of Constant 0.5 at 4.0 is 2.0.
@@ -60,6 +69,19 @@ fn layout_of_a_sample() {
     assert_eq!(case[1300..1308], 4.0f64.to_le_bytes());
     assert_eq!(case[1308..1324], [0; 16]);
     assert_eq!(case[1324..], [2, 0, 0, 0, 0, 0, 0, 0]);
+}
+
+/// Document 02's example comes first, a pair without a rate third.
+#[test]
+fn layout_of_a_rate() {
+    let bytes = lists::rate_bytes(&lists::rates());
+    let cases: Vec<&[u8]> = bytes.chunks(rate_pairs::CASE_BYTES).collect();
+    assert_eq!(cases[0][..8], 2.0f64.to_le_bytes());
+    assert_eq!(cases[0][8..16], 4.0f64.to_le_bytes());
+    assert_eq!(cases[0][16], 0);
+    assert_eq!(cases[0][17..], 0.5f64.to_le_bytes());
+    assert_eq!(cases[2][8..16], 49.0f64.to_le_bytes());
+    assert_eq!(cases[2][16..], [24, 0, 0, 0, 0, 0, 0, 0, 0]);
 }
 
 #[test]

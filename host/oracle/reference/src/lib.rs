@@ -1,5 +1,6 @@
 //! The calls of document 01 over the unchanged Rust: refusals, journal, undo and batch run are
-//! written from the paper, values come from the Rust.
+//! written from the paper, values come from the Rust. The rate for a wait is written from document
+//! 02 alone.
 
 #![forbid(unsafe_code)]
 
@@ -15,6 +16,7 @@ pub mod execute;
 pub mod fields;
 pub mod hazard;
 pub mod ledger;
+pub mod rate_for_wait;
 pub mod record;
 pub mod refusal;
 pub mod request;

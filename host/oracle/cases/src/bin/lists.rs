@@ -1,5 +1,6 @@
 //! Writes the fixed lists to a folder and prints their counts.
 
+use cases::rate_tally::RateTally;
 use cases::{command_tally, lists, tally};
 use std::path::Path;
 use std::process::ExitCode;
@@ -23,6 +24,7 @@ fn write(folder: &Path) -> io::Result<()> {
     fs::create_dir_all(folder)?;
     write_evaluations(folder)?;
     write_samples(folder)?;
+    write_rates(folder)?;
     write_clock_steps(folder)?;
     write_sessions(folder)
 }
@@ -43,6 +45,15 @@ fn write_samples(folder: &Path) -> io::Result<()> {
     let (count, seed) = (samples.len(), lists::SAMPLE_SEED);
     let tally = tally::samples(&samples);
     println!("samples.bin: {count} cases, seed {seed:#x}; {tally}");
+    Ok(())
+}
+
+fn write_rates(folder: &Path) -> io::Result<()> {
+    let pairs = lists::rates();
+    fs::write(folder.join("rates.bin"), lists::rate_bytes(&pairs))?;
+    let (count, seed) = (pairs.len(), lists::RATE_SEED);
+    let tally = RateTally::of(&pairs);
+    println!("rates.bin: {count} cases, seed {seed:#x}; {tally}");
     Ok(())
 }
 
