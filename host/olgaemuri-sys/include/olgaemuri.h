@@ -21,7 +21,8 @@
  *
  * Link libolgaemuri.a, which `rt staticlib olgaemuri` writes to target/staticlib. It is for x86-64, has two symbols that others
  * see, `olgaemuri_run` and `olgaemuri_rate_for_wait`, calls nothing but memcpy and memset, and has no state of its own, so that
- * calls may go on at the same time in several threads, each with its own buffers.
+ * calls may go on at the same time in several threads, each with its own buffers. It counts on the floating-point settings with
+ * which a C program starts: round to nearest, subnormal numbers kept. Linking with -ffast-math changes them.
  *
  * All fields of commands, answers and results are little-endian; f64 is the 8 bytes of a double.
  */
