@@ -4,20 +4,12 @@ use mathlib.Core.Bool.{Bool, true, false, true≢false}
 use Prim.Native.Nat.{ℕ, suc, _+_, _≤_, _<_}
 use native.Mathlib.Nat.{le-antisymm, lt-of-not-le, le-of-suc-le-suc}
 use native.Mathlib.Omega.{arith}
-use Rattle.hazards.specs.FirstPlace.{FirstPlace}
+use Rattle.hazards.specs.FirstPlace.{FirstPlace, Between}
 use Rattle.hazards.proofs.Cases.{by-test}
 
 -- once it holds, it holds at every later place
 abbrev pub GoesOn : (ℕ → Bool) → ℕ → ℕ → Type 0
 GoesOn test from end = (a b : ℕ) → from ≤ a → a ≤ b → b < end → test a ≡ true → test b ≡ true
-
--- the first place is from `low` to `high`
-pub record Between (test : ℕ → Bool) (from end low high : ℕ) : Type 0 where
-  pub begins : from ≤ low
-  pub ordered : low ≤ high
-  pub ends : high ≤ end
-  pub before : (i : ℕ) → from ≤ i → i < low → test i ≡ false
-  pub holds : high < end → test high ≡ true
 
 module _ {test : ℕ → Bool} {from end : ℕ} where
   pub whole : from ≤ end → Between test from end from end

@@ -1,11 +1,11 @@
 -- From the first bit pattern whose quotient is at most the wait to the answer of change 11 of document 02; and that only one is right.
 use mathlib.Core.Path.{_≡_, refl, sym, ap, _∙_, subst}
-use mathlib.Core.Bool.{true, false, _&&_, true≢false}
+use mathlib.Core.Bool.{true, false, not, _&&_, true≢false}
 use Prim.Native.Nat.{ℕ, suc, _^_, _≤_, _<_}
 use native.Mathlib.Nat.{le-of-eq, lt-of-not-le, le-of-suc-le-suc}
 use native.Mathlib.Omega.{arith}
 use lib.Dec.{T, lit<}
-use lib.Ieee.{Float, binary64, fits, ofBits, toBits, div, lt, le, eq}
+use lib.Ieee.{Float, nan, inf, fin, isNan, binary64, fits, ofBits, toBits, div, lt, le, eq}
 use lib.Ieee.Fits.{div-fits}
 use lib.Ieee.Bits.{is-true, ofBits-toBits, ofBits-fits}
 use lib.Ieee.Positive.{positive, between, cross→le}
@@ -14,11 +14,11 @@ use Rattle.hazards.specs.Refusals.{noRate}
 use Rattle.hazards.specs.FirstPlace.{FirstPlace}
 use Rattle.hazards.specs.RateForWait.{shortestWait, withinLimits, Gives, answered, Answers, OneAnswer}
 use Rattle.hazards.specs.RateForWait.Answers.{smallest, none, outside}
-use Rattle.hazards.specs.RateForWaitInternals.{pastLimit, usedUpWithin}
+use Rattle.hazards.specs.RateForWaitInternals.{pastLimit, usedUpWithin, exactRate}
 use Rattle.hazards.specs.declared.rate_for_wait.RateForWait.{RateForWait}
 use Rattle.hazards.proofs.Bounds.{Upto}
 use Rattle.hazards.proofs.Signs.{Signed}
-use Rattle.hazards.proofs.Cases.{both-true}
+use Rattle.hazards.proofs.Cases.{by-test, both-true}
 use Rattle.hazards.proofs.UptoOrder.{upto-le, le-trans-upto}
 use Rattle.hazards.proofs.Limits.{limit-upto}
 use Rattle.hazards.proofs.PublicBounds.{upto-finite}
@@ -48,6 +48,12 @@ rate-positive b l h = pattern-positive b l (omega arith)
 pub gives-positive : (w wait rate : Float) → Gives w wait rate → T (positive rate)
 gives-positive w wait rate g = above-positive rate limit (g .isPositive) (g .atMost) tt
 
+signed-number : (x : Float) → Signed false x → T (not (isNan x))
+unfolding isNan
+signed-number nan s = absurd s
+signed-number (inf t) s = tt
+signed-number (fin t m e) s = tt
+
 module _ (w wait : Float) (within : withinLimits w wait ≡ true) where
   -- ---- what the limits say
 
@@ -67,6 +73,9 @@ module _ (w wait : Float) (within : withinLimits w wait ≡ true) where
 
   wait-upto : Upto (2 ^ 40) wait
   wait-upto = upto-le wait (positive-signed wait wait-positive) (limits .1 .1) limit-upto
+
+  pub nearest-number : T (not (isNan (div binary64 w wait)))
+  nearest-number = signed-number (div binary64 w wait) (quotient-signed w wait threshold-positive wait-positive)
 
   -- ---- the quotients
 
@@ -183,6 +192,11 @@ module _ (w wait : Float) (within : withinLimits w wait ≡ true) where
           let same-wait =
           le-both-ways (quotient first) wait (div-fits binary64 w (ofBits binary64 first)) q f wait-positive at-most above in
           true≢false (sym (eq-self wait (upto-finite wait-upto)) ∙ ap (λ (x : Float). eq x wait) (sym same-wait) ∙ e))
+
+      pub exact-answers : T (fits binary64 wait) → Answers w wait (exactRate w wait first)
+      unfolding exactRate
+      exact-answers f =
+          by-test (eq (div binary64 w (ofBits binary64 first)) wait) (λ e. rw e (first-answers f e)) (λ e. rw e (none-answers f e))
 
     pub past-answers : first ≡ pastLimit → Answers w wait (answered noRate z)
     past-answers e =

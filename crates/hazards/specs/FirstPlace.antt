@@ -9,3 +9,11 @@ pub record FirstPlace (test : ℕ → Bool) (from end first : ℕ) : Type 0 wher
   pub ends : first ≤ end
   pub before : (i : ℕ) → from ≤ i → i < first → test i ≡ false
   pub holds : first < end → test first ≡ true
+
+-- that place is from `low` to `high`: the test holds nowhere before `low`, and at `high`, unless that is `end`
+pub record Between (test : ℕ → Bool) (from end low high : ℕ) : Type 0 where
+  pub begins : from ≤ low
+  pub ordered : low ≤ high
+  pub ends : high ≤ end
+  pub before : (i : ℕ) → from ≤ i → i < low → test i ≡ false
+  pub holds : high < end → test high ≡ true

@@ -1,12 +1,11 @@
--- `rate_for_wait::rate_for_wait` meets its contract: outside the limits, no pattern left, the first rate gives the wait, or none does.
+-- `rate_for_wait::rate_for_wait` meets its contract: outside the limits, no pattern left, or what the first rate answers.
 use mathlib.Core.Path.{sym, _∙_}
 use native.Mathlib.Omega.{arith}
 use borrow.Author.Needs.{needs}
 use borrow.Author.Tests.{not-true, not-false}
 use denote.Floats.{passes}
 use Rattle.hazards.specs.RateForWait.Answers.{outside}
-use Rattle.hazards.proofs.Patterns.{number-pattern}
-use Rattle.hazards.proofs.RateForWait.{past-answers, first-answers, none-answers}
+use Rattle.hazards.proofs.RateForWait.{past-answers, exact-answers}
 use Rattle.hazards.proofs.rate_for_wait.rate_for_wait.Statement.{statement}
 use Rattle.hazards.proofs.rate_for_wait.rate_for_wait.Tie as tie
 
@@ -34,8 +33,8 @@ returns-2 c =
     let a = f .before .before .before .args in
     rw (c .without-rate2 .ensures) (past-answers (a .threshold) (a .wait) l (f .first-pattern .ensures) (c .before .if2 .taken))
 
-float-from-bits-rate : tie.Need-float-from-bits-rate
-float-from-bits-rate c = number-pattern _ (omega (arith, c .before .first-pattern .ensures .ends))
+exact-rate-requires : tie.Need-exact-rate-requires
+exact-rate-requires c κs = c .before .first-pattern .ensures .ends
 
 returns-3 : tie.Need-returns-3
 returns-3 c =
@@ -43,22 +42,8 @@ returns-3 c =
     let l = sym (f .before .before .within-limits .ensures) ∙ not-false _ (f .before .if1 .left) in
     let s = f .before .before .before in
     let m = f .first-pattern .ensures in
-    first-answers (s .args .threshold) (s .args .wait) l m (omega (arith, m .ends, c .before .if2 .left)) (passes _ (s .good .1 .0 .1))
-    (c .if3 .taken)
-
-without-rate-requires-3 : tie.Need-without-rate-requires-3
-without-rate-requires-3 c κs = search needs
-
-returns-4 : tie.Need-returns-4
-returns-4 c =
-    let b = c .before in
-    let f = b .before .before in
-    let l = sym (f .before .before .within-limits .ensures) ∙ not-false _ (f .before .if1 .left) in
-    let s = f .before .before .before in
-    let m = f .first-pattern .ensures in
-    rw (c .without-rate3 .ensures)
-    (none-answers (s .args .threshold) (s .args .wait) l m (omega (arith, m .ends, b .before .if2 .left)) (passes _ (s .good .1 .0 .1))
-    (b .if3 .left))
+    rw (c .exact-rate .ensures)
+    (exact-answers (s .args .threshold) (s .args .wait) l m (omega (arith, m .ends, c .before .if2 .left)) (passes _ (s .good .1 .0 .1)))
 
 pub rate-for-wait-spec : {M : Type 1} → statement M
 rate-for-wait-spec =
@@ -70,7 +55,5 @@ rate-for-wait-spec =
     first-pattern-requires
     without-rate-requires-2
     returns-2
-    float-from-bits-rate
-    returns-3
-    without-rate-requires-3
-    returns-4)
+    exact-rate-requires
+    returns-3)
