@@ -65,7 +65,8 @@ module _ {test : ℕ → Bool} {from end : ℕ} where
   at-start h t = found (lower-half (whole (omega arith)) (omega arith) h t) (omega arith)
 
   -- it fails at the last
-  pub at-none : {place : ℕ} → GoesOn test from end → from ≤ place → place + 1 ≡ end → test place ≡ false → FirstPlace test from end (place + 1)
+  pub at-none : {place : ℕ} → GoesOn test from end → from ≤ place → place + 1 ≡ end → test place ≡ false
+      → FirstPlace test from end (place + 1)
   at-none m l h f = found (upper-half m (whole (omega arith)) l (omega arith) f) (omega arith)
 
   -- no place but one is the first

@@ -7,9 +7,8 @@ use native.Mathlib.Omega.{arith}
 use borrow.Author.Tests.{ne-eqb}
 use lib.Dec.{T, eqb, ltb→lt}
 use lib.Ieee.{Float, nan, inf, fin, binary64, round, div, le}
-use lib.Ieee.Fits.{up-pos}
 use lib.Ieee.Order.{round-mono}
-use lib.Ieee.Positive.{num, den, den-pos, positive, le→cross}
+use lib.Ieee.Positive.{num, den, den-pos, positive, own-value, value-pos, le→cross}
 use Rattle.hazards.proofs.Signs.{Signed}
 use Rattle.hazards.proofs.UptoOperations.{round-signed}
 
@@ -32,10 +31,7 @@ quotient-signed x y p q =
     subst (Signed false) (sym (quotient-is x y p q)) (round-signed binary64 false (num x * den y) (num y * den x))
 
 num-pos : (x : Float) → T (positive x) → 0 < num x
-num-pos nan p = absurd p
-num-pos (inf s) p = absurd p
-num-pos (fin true m e) p = absurd p
-num-pos (fin false m e) p = mul-pos (ltb→lt 0 m p) (up-pos e)
+num-pos x p = value-pos x (num x) (den x) p (den-pos x) (own-value x p)
 
 cross : (a b n d m e : ℕ) → n * e ≤ m * d → a * e * (n * b) ≤ a * d * (m * b)
 cross a b n d m e h =

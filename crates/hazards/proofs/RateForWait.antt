@@ -8,7 +8,7 @@ use lib.Dec.{T, lit<}
 use lib.Ieee.{Float, nan, inf, fin, isNan, binary64, fits, ofBits, toBits, div, lt, le, eq}
 use lib.Ieee.Fits.{div-fits}
 use lib.Ieee.Bits.{is-true, ofBits-toBits, ofBits-fits}
-use lib.Ieee.Positive.{positive, between, cross→le}
+use lib.Ieee.Positive.{positive, between}
 use Rattle.hazards.specs.Floats.{z, limit, mostThreshold}
 use Rattle.hazards.specs.Refusals.{noRate}
 use Rattle.hazards.specs.FirstPlace.{FirstPlace}
@@ -19,7 +19,7 @@ use Rattle.hazards.specs.declared.rate_for_wait.RateForWait.{RateForWait
 use Rattle.hazards.proofs.Bounds.{Upto}
 use Rattle.hazards.proofs.Signs.{Signed}
 use Rattle.hazards.proofs.Cases.{by-test, both-true}
-use Rattle.hazards.proofs.UptoOrder.{upto-le, le-trans-upto}
+use Rattle.hazards.proofs.UptoOrder.{upto-le, le-refl-upto, le-trans-upto}
 use Rattle.hazards.proofs.Limits.{limit-upto}
 use Rattle.hazards.proofs.PublicBounds.{upto-finite}
 use Rattle.hazards.proofs.FiniteOrder.{eq-cross, cross-le, eq-self}
@@ -129,12 +129,9 @@ module _ (w wait : Float) (within : withinLimits w wait ≡ true) where
       unfolding quotient
       gives = ap (div binary64 w) same ∙ g .exactly
 
-      wait-le : T (le wait wait)
-      wait-le = cross→le wait wait wait-positive wait-positive (le-of-eq refl)
-
       holds-there : usedUpWithin w wait pattern ≡ true
       unfolding usedUpWithin quotient
-      holds-there = is-true _ (subst (λ (x : Float). T (le x wait)) (sym gives) wait-le)
+      holds-there = is-true _ (subst (λ (x : Float). T (le x wait)) (sym gives) (le-refl-upto wait-upto))
 
       from-first : first ≤ pattern
       from-first =

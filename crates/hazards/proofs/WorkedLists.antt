@@ -47,16 +47,16 @@ computed = tt
 abbrev half : Float
 half = fin false 1 (negsuc 0)
 
-abbrev one : Float
+abbrev pub one : Float
 one = fin false 1 (pos 0)
 
 abbrev oneAndHalf : Float
 oneAndHalf = fin false 3 (negsuc 0)
 
-abbrev two : Float
+abbrev pub two : Float
 two = fin false 1 (pos 1)
 
-abbrev four : Float
+abbrev pub four : Float
 four = fin false 1 (pos 2)
 
 -- 1 + k u, where u = 2^-52 is the distance from 1 to the next f64

@@ -21,21 +21,13 @@ use Rattle.hazards.proofs.Bisection.{at-step, at-start, at-none}
 use Rattle.hazards.proofs.RateForWait.{goes-on, first-answers, none-answers, past-answers}
 use Rattle.hazards.proofs.RateForWait.{answer-gives, answer-none, one-answer}
 use Rattle.hazards.proofs.ConstantWaits.{constant-hazard}
+use Rattle.hazards.proofs.WorkedLists.{one, two, four}
 
 unfoldable computed : Unit {0}
 unfolding fits ofBits div lt le eq withinLimits usedUpWithin
 computed = tt
 
 -- ---- the floats
-
-abbrev one : Float
-one = fin false 1 (pos 0)
-
-abbrev two : Float
-two = fin false 1 (pos 1)
-
-abbrev four : Float
-four = fin false 1 (pos 2)
 
 abbrev five : Float
 five = fin false 5 (pos 0)
@@ -123,33 +115,30 @@ worked-too-large =
     past-answers most shortestWait l
     (at-none {place = 0x4270_0000_0000_0000} (goes-on most shortestWait l) (lit≤ tt) refl refl) refl
 
--- ---- outside the limits
+-- ---- outside the limits: 0, -0.0 and -1; just above 1,024; just below 2^-40; just above 2^40; infinity and NaN
 
-pub worked-outside : (w wait : Float) → withinLimits w wait ≡ false → Answers w wait (answered outsideLimits z)
-worked-outside w wait e = outside e
+abbrev Refused : Float → Float → Type 0
+Refused w wait = Answers w wait (answered outsideLimits z)
 
-no-threshold : (withinLimits z two ≡ false) × (withinLimits (fin true 0 (pos 0)) two ≡ false) × (withinLimits (fin true 1 (pos 0)) two ≡ false)
+pub worked-no-threshold : Refused z two × Refused (fin true 0 (pos 0)) two × Refused (fin true 1 (pos 0)) two
 unfolding computed
-no-threshold = (refl, refl, refl)
+worked-no-threshold = (outside refl, outside refl, outside refl)
 
-large-threshold : (withinLimits most two ≡ true) × (withinLimits (ofBits binary64 0x4090_0000_0000_0001) two ≡ false)
-    × (withinLimits (inf false) two ≡ false)
+pub worked-large-threshold : (withinLimits most two ≡ true) × Refused (ofBits binary64 0x4090_0000_0000_0001) two × Refused (inf false) two
 unfolding computed
-large-threshold = (refl, refl, refl)
+worked-large-threshold = (refl, outside refl, outside refl)
 
-short-wait : (withinLimits one (ofBits binary64 0x3d70_0000_0000_0000) ≡ true)
-    × (withinLimits one (ofBits binary64 0x3d6f_ffff_ffff_ffff) ≡ false) × (withinLimits one z ≡ false)
+pub worked-short-wait : (withinLimits one shortestWait ≡ true) × Refused one (ofBits binary64 0x3d6f_ffff_ffff_ffff) × Refused one z
 unfolding computed
-short-wait = (refl, refl, refl)
+worked-short-wait = (refl, outside refl, outside refl)
 
-long-wait : (withinLimits one limit ≡ true) × (withinLimits one (ofBits binary64 0x4270_0000_0000_0001) ≡ false)
-    × (withinLimits one (inf false) ≡ false)
+pub worked-long-wait : (withinLimits one limit ≡ true) × Refused one (ofBits binary64 0x4270_0000_0000_0001) × Refused one (inf false)
 unfolding computed
-long-wait = (refl, refl, refl)
+worked-long-wait = (refl, outside refl, outside refl)
 
-no-number : (withinLimits nan two ≡ false) × (withinLimits one nan ≡ false)
+pub worked-no-number : Refused nan two × Refused one nan
 unfolding computed
-no-number = (refl, refl)
+worked-no-number = (outside refl, outside refl)
 
 -- ---- the theorems, applied
 

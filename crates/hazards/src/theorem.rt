@@ -1,6 +1,6 @@
-// What document 02 asks to be true, as contracts of functions that do nothing, so that the check's log names them. Change 8, "The list's
-// order must not matter": its five sentences, and that no order is left out. Change 11, "What rate would fail on that day?": that one answer
-// alone is right, and that it is the rate with which a cause waits so long.
+// What is proved of document 02's changes, as contracts of functions that do nothing, so that the check's log names them. Change 8, "The
+// list's order must not matter": its five sentences, and that no order is left out. Change 11, "What rate would fail on that day?": that
+// one answer alone is right, and that the rates meant are those with which a cause waits so long.
 ghost use Rattle.hazards.specs.ListOrder.{AnyOrder, EveryOrder, CensoredAnswer, UncensoredWinner, EmptyList, NoEvent};
 ghost use Rattle.hazards.specs.RateForWait.{OneAnswer, ConstantHazard};
 

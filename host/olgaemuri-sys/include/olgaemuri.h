@@ -141,7 +141,8 @@ uint8_t olgaemuri_run(const uint8_t *commands, size_t commands_len, const uint8_
  * rate       one double. It is written whatever is returned and not read
  *
  * Returns 0 and writes the smallest positive double, at most 2^40, for which threshold / rate rounds to exactly wait: 0.5 for 2.0 and
- * 4.0. A cause that is set at time 0 with this constant rate and draws this threshold has its event after exactly this wait.
+ * 4.0. Where a cause with this constant rate draws this threshold, and SET and RESCHEDULE are at time 0, its event comes after exactly
+ * this wait. The wait counts from the RESCHEDULE; at a later time the clock rounds the sum of time and wait.
  *
  * Returns 24, and writes 0.0, where no double in that range does it, as for 1.0 and 49.0. Returns 23, and writes 0.0, where the
  * threshold or the wait is outside its limits, NaN among them. The pointer may not be NULL.

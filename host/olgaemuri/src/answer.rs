@@ -54,13 +54,13 @@ impl Answer {
         out.0.try_into().expect("the fields are 32 bytes long")
     }
 
-    /// The answer with these bytes; none where the number is neither 0 nor a refusal's, or a flag is neither 0 nor 1.
+    /// The answer with these bytes; none where the number is above 18 or a flag is neither 0 nor 1.
     #[must_use]
     pub fn from_bytes(bytes: &[u8; ANSWER_BYTES]) -> Option<Self> {
         let mut fields = Reader(bytes);
         let refusal = match fields.u8() {
             0 => None,
-            number => Some(Refusal::from_number(number)?),
+            number => Some(Refusal::from_number(number).filter(|refusal| *refusal <= Refusal::InvalidBuffers)?),
         };
         Some(Self {
             refusal,

@@ -5,9 +5,9 @@ use crate::refusal::Refusal;
 /// The smallest constant rate with which a threshold is used up after exactly this wait: for one who knows when a tool broke.
 ///
 /// The threshold is above 0 and at most 1,024, the wait from 2^-40 to 2^40. The rate is the smallest `f64` above 0 and at most 2^40
-/// for which `threshold / rate` is `wait` to the last bit. A cause that is set at time 0 with a
-/// [`Hazard::Constant`](crate::Hazard::Constant) of this rate and draws this threshold breaks its clock down after exactly this wait;
-/// at a later time the clock rounds the sum of time and wait.
+/// for which `threshold / rate` is `wait` to the last bit. Where a cause with a [`Hazard::Constant`](crate::Hazard::Constant) of this
+/// rate draws this threshold, and SET and RESCHEDULE are at time 0, its clock breaks down after exactly this wait. The wait counts from
+/// the RESCHEDULE; at a later time the clock rounds the sum of time and wait.
 ///
 /// # Errors
 ///
@@ -24,5 +24,9 @@ use crate::refusal::Refusal;
 /// ```
 pub fn rate_for_wait(threshold: f64, wait: f64) -> Result<f64, Refusal> {
     let (number, rate) = olgaemuri_sys::rate_for_wait(threshold, wait);
-    Refusal::from_number(number).map_or(Ok(rate), Err)
+    match number {
+        0 => Ok(rate),
+        // the engine gives no other number than these
+        number => Err(Refusal::from_number(number).unwrap_or(Refusal::OutsideLimits)),
+    }
 }

@@ -52,8 +52,8 @@ fn ticks_are_low_then_high() {
 fn bytes_that_are_no_answer() {
     for (at, byte) in [
         (0, 19),
-        (0, 22),
-        (0, 25),
+        (0, 23),
+        (0, 24),
         (0, 255),
         (1, 2),
         (2, 2),

@@ -11,38 +11,53 @@ use olgaemuri::{Refusal, rate_for_wait};
 pub const OPTIONS: [Known; 2] = [Known::flag("--json"), Known::flag("--help")];
 
 /// What is asked: which rate uses up the threshold after the wait.
-struct Asked {
+struct Asked<'a> {
+    /// The two as they were written.
+    words: [&'a str; 2],
     threshold: f64,
     wait: f64,
 }
 
 /// Exits with 1 where no rate gives the wait.
 pub fn rate(arguments: &Arguments) -> Result<u8, Failure> {
-    let asked =
-        Asked::read(&arguments.files).map_err(|message| Failure::usage(&message, help::RATE))?;
-    let found = match rate_for_wait(asked.threshold, asked.wait) {
-        Ok(rate) => Some(rate),
-        Err(Refusal::NoRate) => None,
-        Err(refusal) => return Err(Failure(asked.outside(refusal))),
-    };
-    if arguments.has("--json") {
+    let words: Vec<&str> = arguments.files.iter().map(String::as_str).collect();
+    let asked = Asked::read(&words).map_err(|message| Failure::usage(&message, help::RATE))?;
+    let found = rate_for_wait(asked.threshold, asked.wait);
+    let json = arguments.has("--json");
+    if json {
         write("-", (asked.json(found) + "\n").as_bytes())?;
-    } else if let Some(rate) = found {
-        write("-", (float_text(rate) + "\n").as_bytes())?;
-    } else {
-        tell(&asked.none());
     }
-    Ok(u8::from(found.is_none()))
+    match found {
+        Ok(rate) if !json => write("-", (float_text(rate) + "\n").as_bytes())?,
+        Err(Refusal::NoRate) if !json => tell(&asked.none()),
+        Err(Refusal::NoRate) | Ok(_) => {}
+        Err(refusal) => return Err(Failure(asked.outside(refusal))),
+    }
+    Ok(u8::from(found.is_err()))
 }
 
-impl Asked {
+/// The rate, or why there is none, for one who types a session.
+pub fn told(words: &[&str]) -> String {
+    let asked = match Asked::read(words) {
+        Ok(asked) => asked,
+        Err(message) => return message,
+    };
+    match rate_for_wait(asked.threshold, asked.wait) {
+        Ok(rate) => float_text(rate),
+        Err(Refusal::NoRate) => asked.none(),
+        Err(refusal) => asked.outside(refusal),
+    }
+}
+
+impl<'a> Asked<'a> {
     /// What the words ask, or what is wrong with them.
-    fn read(words: &[String]) -> Result<Self, String> {
+    fn read(words: &[&'a str]) -> Result<Self, String> {
         let [threshold, wait] = words else {
-            return Err("`olgaemuri rate` takes THRESHOLD and WAIT".to_string());
+            return Err("`rate` takes THRESHOLD and WAIT".to_string());
         };
         let read = |name, word| parse_float(word).map_err(|message| format!("{name}: {message}"));
         Ok(Self {
+            words: [threshold, wait],
             threshold: read("THRESHOLD", threshold)?,
             wait: read("WAIT", wait)?,
         })
@@ -50,15 +65,14 @@ impl Asked {
 
     /// Which of the two is outside its limits, and what these are.
     fn outside(&self, refusal: Refusal) -> String {
+        let [threshold, wait] = self.words;
         let mut told = Vec::new();
         if !(self.threshold > 0.0 && self.threshold <= 1024.0) {
-            let threshold = float_text(self.threshold);
             told.push(format!(
                 "THRESHOLD must be above 0 and at most 1024, not {threshold}"
             ));
         }
         if !(1.0 / MOST..=MOST).contains(&self.wait) {
-            let wait = float_text(self.wait);
             told.push(format!("WAIT must be from 2^-40 to 2^40, not {wait}"));
         }
         format!("refused by {}: {}", refusal.number(), told.join("; "))
@@ -85,20 +99,22 @@ impl Asked {
         )
     }
 
-    /// The answer as one object.
-    fn json(&self, found: Option<f64>) -> String {
-        let refused = found.is_none().then_some(Refusal::NoRate);
-        let nearest = refused.map(|_| nearest_rates(self.threshold, self.wait));
-        let (longer, shorter) = nearest.unwrap_or_default();
+    /// The answer as one object. Where no rate gives the wait, the nearest are in it.
+    fn json(&self, found: Result<f64, Refusal>) -> String {
+        let (longer, shorter) = match found {
+            Err(Refusal::NoRate) => nearest_rates(self.threshold, self.wait),
+            _ => (None, None),
+        };
         let with_wait = |rate: f64| {
             let wait = number(self.threshold / rate);
             object(&[("rate", number(rate)), ("wait", wait)])
         };
+        let refused = found.err().map_or(0, Refusal::number);
         object(&[
-            ("number", refused.map_or(0, Refusal::number).to_string()),
+            ("number", refused.to_string()),
             ("threshold", number(self.threshold)),
             ("wait", number(self.wait)),
-            ("rate", maybe(found, number)),
+            ("rate", maybe(found.ok(), number)),
             ("longer", maybe(longer, with_wait)),
             ("shorter", maybe(shorter, with_wait)),
         ])

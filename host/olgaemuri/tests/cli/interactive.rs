@@ -192,6 +192,23 @@ fn pictures_can_be_drawn() {
 }
 
 #[test]
+fn a_rate_can_be_asked_for() {
+    let asked = "thresholds 2\nrate 2 4\nrate 1 49\nrate -1 4\nrate 2\nrate 2 x\nlist\n";
+    let told = typed(&[], asked);
+    for line in [
+        "\n0.5\n",
+        "\nno rate up to 2^40 gives exactly the wait 49 for the threshold 1 (refusal 24)\n",
+        "\nrefused by 23: THRESHOLD must be above 0 and at most 1024, not -1\n",
+        "\n`rate` takes THRESHOLD and WAIT\n",
+        "\nWAIT: expected a number",
+    ] {
+        assert!(told.contains(line), "{line}: {told}");
+    }
+    let help = typed(&[], "help rate\n");
+    assert!(help.contains("  rate W T "), "{help}");
+}
+
+#[test]
 fn wrong_words_and_help() {
     let out = typed(
         &[],

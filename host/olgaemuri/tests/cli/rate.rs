@@ -84,7 +84,8 @@ fn outside_the_limits() {
         ("0 4", format!("{THRESHOLD}0")),
         ("-0 4", format!("{THRESHOLD}-0")),
         ("-1 4", format!("{THRESHOLD}-1")),
-        ("-.5 4 --json", format!("{THRESHOLD}-0.5")),
+        ("-.5 4", format!("{THRESHOLD}-.5")),
+        ("1e-400 4", format!("{THRESHOLD}1e-400")),
         (
             "1024.0000000000002 4",
             format!("{THRESHOLD}1024.0000000000002"),
@@ -119,10 +120,10 @@ fn wrong_words_are_told() {
             "2 1e999",
             "WAIT: `1e999` is too large for a float".to_string(),
         ),
-        ("2", "`olgaemuri rate` takes THRESHOLD and WAIT".to_string()),
+        ("2", "`rate` takes THRESHOLD and WAIT".to_string()),
         (
             "2 4 8",
-            "`olgaemuri rate` takes THRESHOLD and WAIT".to_string(),
+            "`rate` takes THRESHOLD and WAIT".to_string(),
         ),
         (
             "2 4 --jsn",
@@ -170,6 +171,15 @@ fn as_json() {
         (0.020408163265306124, 48.99999999999999),
     ];
     assert_eq!(nearest, expected);
+
+    let (out, err, status) = rate("-1 4 --json");
+    assert_eq!((status, out.lines().count()), (2, 1));
+    assert!(err.starts_with("refused by 23: THRESHOLD"), "{err}");
+    let value = parse(&out).unwrap();
+    assert_eq!(value.get("number").number(), 23.0);
+    for name in ["rate", "longer", "shorter"] {
+        assert_eq!(value.get(name), &Value::Null);
+    }
 
     let value = parse(&rate("1024 1e-12 --json").0).unwrap();
     assert_eq!(value.get("shorter"), &Value::Null);

@@ -8,14 +8,14 @@ mod typed;
 use super::arguments::Arguments;
 use super::files::load;
 use super::report::Report;
-use super::{Failure, help};
+use super::{Failure, help, rate};
 use olgaemuri::SessionText;
 use olgaemuri::text::{cut, hint_or, line_words};
 use std::io::{self, BufRead, IsTerminal, Write, stderr, stdin, stdout};
 use typed::Typed;
 
 /// The words that are no lines of a session.
-const WORDS: [&str; 6] = ["redo", "help", "list", "save", "picture", "quit"];
+const WORDS: [&str; 7] = ["redo", "help", "list", "rate", "save", "picture", "quit"];
 
 /// Whether to go on.
 #[derive(PartialEq)]
@@ -124,6 +124,7 @@ impl Talk<'_> {
             ["help"] => typed.say(&help::typed())?,
             ["help", word] => help_on(typed, word)?,
             ["list"] => typed.list()?,
+            ["rate", rest @ ..] => typed.say(&rate::told(rest))?,
             ["undo"] => typed.undo("1")?,
             ["undo", times] if !times.starts_with('#') => typed.undo(times)?,
             ["redo"] => typed.redo("1")?,
