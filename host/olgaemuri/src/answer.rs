@@ -60,7 +60,10 @@ impl Answer {
         let mut fields = Reader(bytes);
         let refusal = match fields.u8() {
             0 => None,
-            number => Some(Refusal::from_number(number).filter(|refusal| *refusal <= Refusal::InvalidBuffers)?),
+            number => Some(
+                Refusal::from_number(number)
+                    .filter(|refusal| *refusal <= Refusal::InvalidBuffers)?,
+            ),
         };
         Some(Self {
             refusal,

@@ -121,10 +121,7 @@ fn wrong_words_are_told() {
             "WAIT: `1e999` is too large for a float".to_string(),
         ),
         ("2", "`rate` takes THRESHOLD and WAIT".to_string()),
-        (
-            "2 4 8",
-            "`rate` takes THRESHOLD and WAIT".to_string(),
-        ),
+        ("2 4 8", "`rate` takes THRESHOLD and WAIT".to_string()),
         (
             "2 4 --jsn",
             "unknown option `--jsn`; did you mean `--json`?".to_string(),
