@@ -7,8 +7,9 @@ use std::hint::black_box;
 
 const HEAD: &str = "
 Rate for a wait, on pairs that all have a rate, one driver for all. Rattle: the checks and a bisection over the bit
-patterns of rates. Model: the oracle's checks and one division of whole numbers of 128 bits. Division: the processor's
-threshold / wait alone, which checks nothing and is not always the rate. ratio = Model / Rattle.";
+patterns of rates, begun beside threshold / wait, or over all of them. Model: the oracle's checks and one division of
+whole numbers of 128 bits. Division: the processor's threshold / wait alone, which checks nothing and is not always the
+rate. ratio = Model / Rattle.";
 
 type Call = fn(f64, f64) -> f64;
 
@@ -32,24 +33,28 @@ fn division(threshold: f64, wait: f64) -> f64 {
 
 pub fn print() {
     println!("{HEAD}");
-    let [rattle, model, division] = times();
     println!(
-        "{:<25}{:>9}{:>9}{:>7}{:>11}",
+        "{:<43}{:>9}{:>9}{:>7}{:>11}",
         "", "Model", "Rattle", "ratio", "division"
     );
+    print_row("moderate rates", &workloads::rate_pairs());
+    print_row("rate 2^40, all searched", &workloads::largest_rate_pairs());
+}
+
+fn print_row(name: &str, pairs: &[(f64, f64)]) {
+    let [rattle, model, division] = times(pairs);
     println!(
-        "{:<25}{model:>9.2}{rattle:>9.2}{:>7.2}{division:>11.2}",
-        "rate_for_wait",
+        "rate_for_wait{:<5}{name:<25}{model:>9.2}{rattle:>9.2}{:>7.2}{division:>11.2}",
+        "",
         model / rattle
     );
 }
 
 /// In the order of the sides.
-fn times() -> [f64; 3] {
-    let pairs = workloads::rate_pairs();
-    let [mut a, mut b, mut c] = SIDES.map(|side| answers(side, &pairs));
+fn times(pairs: &[(f64, f64)]) -> [f64; 3] {
+    let [mut a, mut b, mut c] = SIDES.map(|side| answers(side, pairs));
     assert!(a == b && !a.contains(&0.0), "the sides differ");
-    let batch = |side: usize, out: &mut [f64]| each_pair(SIDES[side], black_box(&pairs), out);
+    let batch = |side: usize, out: &mut [f64]| each_pair(SIDES[side], black_box(pairs), out);
     best(
         POINTS,
         [

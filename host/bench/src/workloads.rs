@@ -2,6 +2,7 @@
 
 use cases::floats::{Style, positive};
 use cases::random::Random;
+use reference::fields::LIMIT;
 use reference::hazard::{CONSTANT, GOMPERTZ, Hazard};
 use reference::request::{Record, Request};
 
@@ -46,6 +47,16 @@ pub fn points() -> Vec<(f64, f64)> {
 pub fn rate_pairs() -> Vec<(f64, f64)> {
     let given = |(threshold, rate): (f64, f64)| (threshold, threshold / rate);
     points().into_iter().map(given).collect()
+}
+
+/// The waits that the largest rate, 2^40, gives: then all rates are searched.
+pub fn largest_rate_pairs() -> Vec<(f64, f64)> {
+    let mut random = Random::new(SEED);
+    let threshold = || 1.0 + (random.below(1 << 30) as f64) / f64::from(1 << 30);
+    let thresholds = std::iter::repeat_with(threshold).take(POINTS);
+    thresholds
+        .map(|threshold| (threshold, threshold / LIMIT))
+        .collect()
 }
 
 pub struct SampleWorkload {
