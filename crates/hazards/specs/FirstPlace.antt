@@ -10,7 +10,7 @@ pub record FirstPlace (test : ℕ → Bool) (from end first : ℕ) : Type 0 wher
   pub before : (i : ℕ) → from ≤ i → i < first → test i ≡ false
   pub holds : first < end → test first ≡ true
 
--- that place is from `low` to `high`: the test holds nowhere before `low`, and at `high`, unless that is `end`
+-- that place is from `low` to `high`: the test holds at no place before `low`; it holds at `high`, unless that is `end`
 pub record Between (test : ℕ → Bool) (from end low high : ℕ) : Type 0 where
   pub begins : from ≤ low
   pub ordered : low ≤ high

@@ -54,7 +54,7 @@ struct Bracket {
     high: u64,
 }
 
-// All rates.
+// All rates, and PAST_LIMIT for none.
 fn all_rates() -> Bracket
     ensures { λ r. ⌜ r ≡ bracketOf 1 pastLimit ⌝ }
 {
@@ -64,7 +64,8 @@ fn all_rates() -> Bracket
     }
 }
 
-// Where the first pattern is: beside that of threshold / wait, if the quotients on both sides tell so, which they nearly always do.
+// Patterns among which the first one is: that of threshold / wait and its two neighbours where the quotients on both sides tell so, else
+// all. At the ends of the range, where there is no rate on both sides, they are not asked.
 fn bracket_around(threshold: f64, wait: f64) -> Bracket
     requires { ⌜ withinLimits threshold wait ≡ true ⌝ }
     ensures { λ r. ⌜ Between (usedUpWithin threshold wait) 1 pastLimit (r .low) (r .high) ⌝ }
@@ -90,8 +91,8 @@ fn bracket_around(threshold: f64, wait: f64) -> Bracket
     all_rates()
 }
 
-// The bit pattern of the smallest rate for which threshold / rate is at most the wait, by bisection: bit patterns of positive floats ascend
-// with their values, and the quotient never grows as the rate grows.
+// The bit pattern of the smallest rate for which threshold / rate is at most the wait, or PAST_LIMIT, by bisection: bit patterns of
+// positive floats ascend with their values, and the quotient never grows as the rate grows.
 fn first_pattern(threshold: f64, wait: f64) -> u64
     requires { ⌜ withinLimits threshold wait ≡ true ⌝ }
     ensures { λ r. ⌜ FirstPlace (usedUpWithin threshold wait) 1 pastLimit r ⌝ }

@@ -49,7 +49,7 @@ pub fn rate_pairs() -> Vec<(f64, f64)> {
     points().into_iter().map(given).collect()
 }
 
-/// The waits that the largest rate, 2^40, gives: then all rates are searched.
+/// Thresholds, with the waits that the largest rate, 2^40, gives: all rates are searched then.
 pub fn largest_rate_pairs() -> Vec<(f64, f64)> {
     let mut random = Random::new(SEED);
     let threshold = || 1.0 + (random.below(1 << 30) as f64) / f64::from(1 << 30);

@@ -26,7 +26,6 @@ pub fn rate_for_wait(threshold: f64, wait: f64) -> Result<f64, Refusal> {
     let (number, rate) = olgaemuri_sys::rate_for_wait(threshold, wait);
     match number {
         0 => Ok(rate),
-        // the engine gives no other number than these
-        number => Err(Refusal::from_number(number).unwrap_or(Refusal::OutsideLimits)),
+        number => Err(Refusal::from_number(number).expect("the engine returns 0, 23 or 24")),
     }
 }

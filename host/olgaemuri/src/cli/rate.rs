@@ -5,7 +5,7 @@ use super::files::write;
 use super::json::{maybe, number, object};
 use super::nearest_rates::{MOST, nearest_rates};
 use super::{Failure, help, tell};
-use olgaemuri::text::{float_text, parse_float};
+use olgaemuri::text::{cut, float_text, parse_float};
 use olgaemuri::{Refusal, rate_for_wait};
 
 pub const OPTIONS: [Known; 2] = [Known::flag("--json"), Known::flag("--help")];
@@ -18,7 +18,7 @@ struct Asked<'a> {
     wait: f64,
 }
 
-/// Exits with 1 where no rate gives the wait.
+/// Exits with 1 where no rate gives the wait, with 2 where threshold or wait is outside its limits. As JSON each is an object.
 pub fn rate(arguments: &Arguments) -> Result<u8, Failure> {
     let words: Vec<&str> = arguments.files.iter().map(String::as_str).collect();
     let asked = Asked::read(&words).map_err(|message| Failure::usage(&message, help::RATE))?;
@@ -28,24 +28,20 @@ pub fn rate(arguments: &Arguments) -> Result<u8, Failure> {
         write("-", (asked.json(found) + "\n").as_bytes())?;
     }
     match found {
-        Ok(rate) if !json => write("-", (float_text(rate) + "\n").as_bytes())?,
-        Err(Refusal::NoRate) if !json => tell(&asked.none()),
-        Err(Refusal::NoRate) | Ok(_) => {}
-        Err(refusal) => return Err(Failure(asked.outside(refusal))),
+        Err(Refusal::OutsideLimits) => return Err(Failure(asked.told(found))),
+        _ if json => {}
+        Ok(_) => write("-", (asked.told(found) + "\n").as_bytes())?,
+        Err(_) => tell(&asked.told(found)),
     }
     Ok(u8::from(found.is_err()))
 }
 
-/// The rate, or why there is none, for one who types a session.
+/// The rate, or why there is none, for one who types a session. A comment may follow.
 pub fn told(words: &[&str]) -> String {
-    let asked = match Asked::read(words) {
-        Ok(asked) => asked,
-        Err(message) => return message,
-    };
-    match rate_for_wait(asked.threshold, asked.wait) {
-        Ok(rate) => float_text(rate),
-        Err(Refusal::NoRate) => asked.none(),
-        Err(refusal) => asked.outside(refusal),
+    let end = words.iter().position(|word| word.starts_with('#'));
+    match Asked::read(&words[..end.unwrap_or(words.len())]) {
+        Ok(asked) => asked.told(rate_for_wait(asked.threshold, asked.wait)),
+        Err(message) => message,
     }
 }
 
@@ -63,9 +59,18 @@ impl<'a> Asked<'a> {
         })
     }
 
+    /// The rate, or why there is none.
+    fn told(&self, found: Result<f64, Refusal>) -> String {
+        match found {
+            Ok(rate) => float_text(rate),
+            Err(Refusal::NoRate) => self.none(),
+            Err(refusal) => self.outside(refusal),
+        }
+    }
+
     /// Which of the two is outside its limits, and what these are.
     fn outside(&self, refusal: Refusal) -> String {
-        let [threshold, wait] = self.words;
+        let [threshold, wait] = self.words.map(|word| cut(word, 60));
         let mut told = Vec::new();
         if !(self.threshold > 0.0 && self.threshold <= 1024.0) {
             told.push(format!(

@@ -193,8 +193,8 @@ fn pictures_can_be_drawn() {
 
 #[test]
 fn a_rate_can_be_asked_for() {
-    let asked = "thresholds 2\nrate 2 4\nrate 1 49\nrate -1 4\nrate 2\nrate 2 x\nlist\n";
-    let told = typed(&[], asked);
+    let asked = "rate 2 4 # a seal\nrate 1 49\nrate -1 4\nrate 2\nrate 2 x\n";
+    let told = typed(&[], &format!("{PRESS}undo\n{asked}redo\nlist\n"));
     for line in [
         "\n0.5\n",
         "\nno rate up to 2^40 gives exactly the wait 49 for the threshold 1 (refusal 24)\n",
@@ -204,6 +204,10 @@ fn a_rate_can_be_asked_for() {
     ] {
         assert!(told.contains(line), "{line}: {told}");
     }
+    // the session is as it would be without the questions, and what was taken back can be done again
+    let without = typed(&[], &format!("{PRESS}undo\nredo\nlist\n"));
+    let (begun, rest) = without.split_once("done again").unwrap();
+    assert!(told.starts_with(begun) && told.ends_with(rest), "{told}");
     let help = typed(&[], "help rate\n");
     assert!(help.contains("  rate W T "), "{help}");
 }

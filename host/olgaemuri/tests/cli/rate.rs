@@ -178,6 +178,11 @@ fn as_json() {
         assert_eq!(value.get(name), &Value::Null);
     }
 
+    let value = parse(&rate("inf 0x7ff8000000000000 --json").0).unwrap();
+    assert_eq!(value.get("number").number(), 23.0);
+    assert_eq!(value.get("threshold"), &Value::Null);
+    assert_eq!(value.get("wait"), &Value::Null);
+
     let value = parse(&rate("1024 1e-12 --json").0).unwrap();
     assert_eq!(value.get("shorter"), &Value::Null);
     assert_eq!(

@@ -124,7 +124,7 @@ impl Talk<'_> {
             ["help"] => typed.say(&help::typed())?,
             ["help", word] => help_on(typed, word)?,
             ["list"] => typed.list()?,
-            ["rate", rest @ ..] => typed.say(&rate::told(rest))?,
+            ["rate", asked @ ..] => typed.say(&rate::told(asked))?,
             ["undo"] => typed.undo("1")?,
             ["undo", times] if !times.starts_with('#') => typed.undo(times)?,
             ["redo"] => typed.redo("1")?,
