@@ -6,7 +6,7 @@ use Prim.Native.Nat.{ℕ, _+_, _<_}
 use lib.IntN.{pos, negsuc}
 use lib.Dec.{T, ltb, lit<, lit≤}
 use lib.Ieee.{Float, nan, inf, fin, binary64, fits, ofBits, div, lt, le, eq}
-use Rattle.hazards.specs.Floats.{z, limit}
+use Rattle.hazards.specs.Floats.{z, limit, mostThreshold}
 use Rattle.hazards.specs.Refusals.{outsideLimits, noRate}
 use Rattle.hazards.specs.Rates.{invertCumulativeHazard}
 use Rattle.hazards.specs.FirstPlace.{FirstPlace}
@@ -34,9 +34,6 @@ five = fin false 5 (pos 0)
 
 abbrev fortyNine : Float
 fortyNine = fin false 49 (pos 0)
-
-abbrev most : Float
-most = fin false 1 (pos 10)
 
 -- n times 2^-1074, the smallest f64 above 0
 abbrev tiny : ℕ → Float
@@ -108,12 +105,12 @@ pub worked-largest : Answers one shortestWait (answered 0 limit)
 unfolding computed
 worked-largest = rate-behind one shortestWait 0x426f_ffff_ffff_ffff refl tt tt tt refl refl refl
 
-pub worked-too-large : Answers most shortestWait (answered noRate z)
+pub worked-too-large : Answers mostThreshold shortestWait (answered noRate z)
 unfolding computed
 worked-too-large =
-    let l : withinLimits most shortestWait ≡ true = refl in
-    past-answers most shortestWait l
-    (at-none {place = 0x4270_0000_0000_0000} (goes-on most shortestWait l) (lit≤ tt) refl refl) refl
+    let l : withinLimits mostThreshold shortestWait ≡ true = refl in
+    past-answers mostThreshold shortestWait l
+    (at-none {place = 0x4270_0000_0000_0000} (goes-on mostThreshold shortestWait l) (lit≤ tt) refl refl) refl
 
 -- ---- outside the limits: 0, -0.0 and -1; just above 1,024; just below 2^-40; just above 2^40; infinity and NaN
 
@@ -124,7 +121,8 @@ pub worked-no-threshold : Refused z two × Refused (fin true 0 (pos 0)) two × R
 unfolding computed
 worked-no-threshold = (outside refl, outside refl, outside refl)
 
-pub worked-large-threshold : (withinLimits most two ≡ true) × Refused (ofBits binary64 0x4090_0000_0000_0001) two × Refused (inf false) two
+pub worked-large-threshold : (withinLimits mostThreshold two ≡ true) × Refused (ofBits binary64 0x4090_0000_0000_0001) two
+    × Refused (inf false) two
 unfolding computed
 worked-large-threshold = (refl, outside refl, outside refl)
 
