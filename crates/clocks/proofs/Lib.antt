@@ -1,5 +1,6 @@
 -- The laws of the clocks crate, one subject to a file.
 pub mod AscendingCauses
+pub mod ChannelStores
 pub mod ChangedPlaces
 pub mod EachChannel
 pub mod EachLaws
@@ -7,6 +8,7 @@ pub mod EarliestTurns
 pub mod EventTimes
 pub mod Places
 pub mod RequestLaws
+pub mod RowLaws
 pub mod SchedulingCases
 pub mod SettingCases
 pub mod SettingOutcomes
@@ -17,6 +19,7 @@ pub mod SoundKept
 pub mod SoundPlaces
 pub mod SoundSetting
 pub mod SoundValid
+pub mod Tables
 pub mod TickRounding
 pub mod TickValues
 pub mod UsedChannels

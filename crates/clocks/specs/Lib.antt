@@ -5,3 +5,6 @@ pub mod Clocks
 pub mod Setting
 pub mod Scheduling
 pub mod Validation
+pub mod Layout
+pub mod ScheduleRows
+pub mod SettingRows

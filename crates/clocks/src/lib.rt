@@ -1,8 +1,13 @@
 // Survival clocks: channels with drawn thresholds, and the methods of hazard_clock.rs, each of which takes the clock by value and gives it
 // back.
 // Definitions: specs/, one file for each module here.
+pub mod channel_rows;
 pub mod channels;
+pub mod clock_rows;
 pub mod clocks;
+pub mod layout;
+pub mod schedule_rows;
 pub mod scheduling;
 pub mod setting;
+pub mod setting_rows;
 pub mod ticks;

@@ -41,7 +41,7 @@ pub struct Dispatched {
     pub event: RealizedEvent,
 }
 
-fn not_scheduled() -> ScheduledEvent
+pub(crate) fn not_scheduled() -> ScheduledEvent
     ensures { λ r. ⌜ r ≡ notScheduled ⌝ }
 {
     ScheduledEvent {
@@ -50,7 +50,7 @@ fn not_scheduled() -> ScheduledEvent
     }
 }
 
-fn not_realized() -> RealizedEvent
+pub(crate) fn not_realized() -> RealizedEvent
     ensures { λ r. ⌜ r ≡ notRealized ⌝ }
 {
     RealizedEvent {
@@ -61,7 +61,7 @@ fn not_realized() -> RealizedEvent
     }
 }
 
-fn realized(winning_cause: u32, delta_time: f64, is_censored: bool) -> RealizedEvent
+pub(crate) fn realized(winning_cause: u32, delta_time: f64, is_censored: bool) -> RealizedEvent
     ensures { λ r. ⌜ r ≡ realized «winning_cause» «delta_time» «is_censored» ⌝ }
 {
     RealizedEvent {
@@ -87,7 +87,7 @@ fn censored_only(now: f64, censor: Censor) -> RealizedEvent
 }
 
 // An event after the censor time is censored at it; one at the censor time is not.
-fn final_event(earliest: Earliest, now: f64, censor: Censor) -> RealizedEvent
+pub(crate) fn final_event(earliest: Earliest, now: f64, censor: Censor) -> RealizedEvent
     ensures { λ r. ⌜ r ≡ finalEvent earliest now censor ⌝ }
 {
     match earliest {

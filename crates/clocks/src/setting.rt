@@ -26,7 +26,11 @@ pub struct ChannelSet {
     pub position: usize,
 }
 
-fn channel_of(setting: CauseSetting, accumulated: f64, threshold: f64) -> HazardChannelState
+pub(crate) fn channel_of(
+    setting: CauseSetting,
+    accumulated: f64,
+    threshold: f64,
+) -> HazardChannelState
     ensures { λ r. ⌜ r ≡ channelOf setting accumulated threshold ⌝ }
 {
     let hazard = setting.hazard;
@@ -42,7 +46,11 @@ fn channel_of(setting: CauseSetting, accumulated: f64, threshold: f64) -> Hazard
     }
 }
 
-fn draws_again(policy: HazardInterruptionPolicy, accumulated: f64, threshold: f64) -> bool
+pub(crate) fn draws_again(
+    policy: HazardInterruptionPolicy,
+    accumulated: f64,
+    threshold: f64,
+) -> bool
     ensures { λ r. ⌜ r ≡ drawsAgain policy accumulated threshold ⌝ }
 {
     match policy {

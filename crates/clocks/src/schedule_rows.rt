@@ -1,0 +1,185 @@
+// reschedule, pause, resume and on_event_dispatched of hazard_clock.rs on a clock in lent memory, with what each asks of the engine's queue.
+ghost use mathlib.Core.Path.{_≡_};
+ghost use Rattle.clocks.specs.Scheduling.{scheduledFor, reschedule, pause, resume, onEventDispatched};
+ghost use Rattle.clocks.specs.Layout.{Sized, Leaves, clockFrom};
+ghost use Rattle.clocks.specs.ScheduleRows.{queueChange};
+use crate::clocks::ScheduledEvent;
+use crate::layout::ACTIVE;
+use crate::layout::EVENT;
+use crate::layout::EVENT_INDEX;
+use crate::layout::LAST_UPDATE;
+use crate::layout::SCALE;
+use crate::layout::SCHEDULE;
+use crate::layout::TIMES;
+use crate::layout::WINNER;
+use crate::layout::WINNER_CAUSE;
+use crate::layout::WINNER_TIME;
+use crate::layout::u32_from;
+use crate::scheduling::Censor;
+use crate::scheduling::RealizedEvent;
+use crate::scheduling::not_realized;
+use crate::scheduling::not_scheduled;
+use crate::scheduling::realized;
+use crate::ticks::Ticks;
+use hazards::floats::not_below_zero;
+use hazards::refusals::NO_CAUSE;
+
+// The event that is withdrawn, and the event that is asked for, with its ticks.
+pub struct QueueChange {
+    pub withdrawn: ScheduledEvent,
+    pub event: RealizedEvent,
+    pub ticks: Ticks,
+}
+
+// The old event is withdrawn in any case; without a new one winner and active flag stay.
+fn schedule_event<'a>(
+    words: &'a mut [[u64; 8]],
+    floats: &'a mut [[f64; 8]],
+    time: f64,
+    event: RealizedEvent,
+    index: u64,
+) -> QueueChange
+    requires { ⌜ Sized (now words) (now floats) ⌝ }
+    ensures { λ r. ⌜ Leaves (now (words .entry)) (now (floats .entry)) (now (words .exit)) (now (floats .exit))
+        (scheduledFor (clockFrom (now (words .entry)) (now (floats .entry))) time event index .clock)
+        × (r ≡ queueChange (scheduledFor (clockFrom (now (words .entry)) (now (floats .entry))) time event index)) ⌝ }
+{
+    let b = words[SCHEDULE];
+    let ts = floats[TIMES];
+    let withdrawn = ScheduledEvent {
+        present: b[EVENT] == 1,
+        index: b[EVENT_INDEX],
+    };
+    if !event.present {
+        words[SCHEDULE] = [
+            0,
+            0,
+            b[WINNER],
+            b[WINNER_CAUSE],
+            b[ACTIVE],
+            b[5],
+            b[6],
+            b[7],
+        ];
+        floats[TIMES] = [
+            ts[SCALE],
+            ts[WINNER_TIME],
+            time,
+            ts[3],
+            ts[4],
+            ts[5],
+            ts[6],
+            ts[7],
+        ];
+        return QueueChange {
+            withdrawn,
+            event,
+            ticks: Ticks { low: 0, high: 0 },
+        };
+    }
+    let at = time + event.delta_time;
+    words[SCHEDULE] = [1, index, 1, event.winning_cause as u64, 1, b[5], b[6], b[7]];
+    floats[TIMES] = [ts[SCALE], at, time, ts[3], ts[4], ts[5], ts[6], ts[7]];
+    let ticks = crate::ticks::ticks_at(time, event.delta_time, ts[SCALE]);
+    QueueChange {
+        withdrawn,
+        event,
+        ticks,
+    }
+}
+
+// Nothing is settled. `index` is that of the next request.
+pub fn reschedule<'a>(
+    words: &'a mut [[u64; 8]],
+    floats: &'a mut [[f64; 8]],
+    time: f64,
+    censor: Censor,
+    index: u64,
+) -> QueueChange
+    requires { ⌜ Sized (now words) (now floats) ⌝ }
+    ensures { λ r. ⌜ Leaves (now (words .entry)) (now (floats .entry)) (now (words .exit)) (now (floats .exit))
+        (reschedule (clockFrom (now (words .entry)) (now (floats .entry))) time censor index .clock)
+        × (r ≡ queueChange (reschedule (clockFrom (now (words .entry)) (now (floats .entry))) time censor index)) ⌝ }
+{
+    let earliest = crate::clock_rows::earliest_event(words, floats, time);
+    let event = crate::scheduling::final_event(earliest, time, censor);
+    schedule_event(words, floats, time, event, index)
+}
+
+// An active clock settles every channel and withdraws its event; any other is left as it is.
+pub fn pause<'a>(words: &'a mut [[u64; 8]], floats: &'a mut [[f64; 8]], time: f64) -> ScheduledEvent
+    requires { ⌜ Sized (now words) (now floats) ⌝ }
+    ensures { λ r. ⌜ Leaves (now (words .entry)) (now (floats .entry)) (now (words .exit)) (now (floats .exit))
+        (pause (clockFrom (now (words .entry)) (now (floats .entry))) time .clock)
+        × (r ≡ pause (clockFrom (now (words .entry)) (now (floats .entry))) time .withdrawn) ⌝ }
+{
+    let b = words[SCHEDULE];
+    if b[ACTIVE] != 1 {
+        return not_scheduled();
+    }
+    crate::clock_rows::settle(words, floats, time);
+    let ts = floats[TIMES];
+    words[SCHEDULE] = [0, 0, b[WINNER], b[WINNER_CAUSE], 0, b[5], b[6], b[7]];
+    floats[TIMES] = [
+        ts[SCALE],
+        ts[WINNER_TIME],
+        time,
+        ts[3],
+        ts[4],
+        ts[5],
+        ts[6],
+        ts[7],
+    ];
+    ScheduledEvent {
+        present: b[EVENT] == 1,
+        index: b[EVENT_INDEX],
+    }
+}
+
+// Every channel starts a new interval, and the clock is rescheduled.
+pub fn resume<'a>(
+    words: &'a mut [[u64; 8]],
+    floats: &'a mut [[f64; 8]],
+    time: f64,
+    censor: Censor,
+    index: u64,
+) -> QueueChange
+    requires { ⌜ Sized (now words) (now floats) ⌝ }
+    ensures { λ r. ⌜ Leaves (now (words .entry)) (now (floats .entry)) (now (words .exit)) (now (floats .exit))
+        (resume (clockFrom (now (words .entry)) (now (floats .entry))) time censor index .clock)
+        × (r ≡ queueChange (resume (clockFrom (now (words .entry)) (now (floats .entry))) time censor index)) ⌝ }
+{
+    crate::clock_rows::restart(words, floats, time);
+    reschedule(words, floats, time, censor, index)
+}
+
+// The winner is taken, and the clock is idle.
+pub fn on_event_dispatched<'a>(
+    words: &'a mut [[u64; 8]],
+    floats: &'a mut [[f64; 8]],
+) -> RealizedEvent
+    requires { ⌜ Sized (now words) (now floats) ⌝ }
+    ensures { λ r. ⌜ Leaves (now (words .entry)) (now (floats .entry)) (now (words .exit)) (now (floats .exit))
+        (onEventDispatched (clockFrom (now (words .entry)) (now (floats .entry))) .clock)
+        × (r ≡ onEventDispatched (clockFrom (now (words .entry)) (now (floats .entry))) .event) ⌝ }
+{
+    let b = words[SCHEDULE];
+    let ts = floats[TIMES];
+    let cause = u32_from(b[WINNER_CAUSE]);
+    words[SCHEDULE] = [0, 0, 0, 0, 0, b[5], b[6], b[7]];
+    floats[TIMES] = [
+        ts[SCALE],
+        0.0,
+        ts[LAST_UPDATE],
+        ts[3],
+        ts[4],
+        ts[5],
+        ts[6],
+        ts[7],
+    ];
+    if b[WINNER] != 1 {
+        return not_realized();
+    }
+    let delta = not_below_zero(ts[WINNER_TIME] - ts[LAST_UPDATE]);
+    realized(cause, delta, cause == NO_CAUSE)
+}

@@ -1,0 +1,127 @@
+// set_channel of hazard_clock.rs on a clock in lent memory: adds a cause or sets it again, with its draw; a refusal changes nothing.
+ghost use mathlib.Core.Path.{_≡_};
+ghost use Prim.Native.Nat.{_<_};
+ghost use lib.ListN.{length};
+ghost use Rattle.clocks.specs.Layout.{FloatRows, Sized, Leaves, clockFrom};
+ghost use Rattle.clocks.specs.Setting.{setAgain, setNew, setChannel};
+ghost use Rattle.clocks.specs.SettingRows.{takesCause, channelDraw};
+use crate::channels::CausePlace;
+use crate::layout::COUNT;
+use crate::layout::POLICY;
+use crate::layout::SETTINGS;
+use crate::layout::byte_from;
+use crate::setting::CauseSetting;
+use crate::setting::channel_of;
+use crate::setting::draws_again;
+use hazards::draws::StreamPosition;
+
+// The refusal or 0, and the draw position after it.
+pub struct ChannelDraw {
+    pub number: u8,
+    pub position: usize,
+}
+
+// Whether the clock has a cause, or a place for it.
+pub fn takes_cause(words: &[[u64; 8]], cause: u32) -> bool
+    requires { ⌜ length (now words) ≡ 10 ⌝ }
+    ensures { λ r. ⌜ ((floats : FloatRows) → r ≡ takesCause (clockFrom (now (words .entry)) floats) cause) ⌝ }
+{
+    match crate::clock_rows::place_of_cause(words, cause) {
+        CausePlace::At(_) => true,
+        CausePlace::Absent => words[SETTINGS][COUNT] < 8,
+    }
+}
+
+// A cause that the clock has, at its place.
+fn set_again<'a, 's>(
+    words: &'a mut [[u64; 8]],
+    floats: &'a mut [[f64; 8]],
+    setting: CauseSetting,
+    stream: &'s [u8],
+    position: usize,
+    at: usize,
+) -> ChannelDraw
+    requires { ⌜ (at < 8) × Sized (now words) (now floats) ⌝ }
+    ensures { λ r. ⌜ Leaves (now (words .entry)) (now (floats .entry)) (now (words .exit)) (now (floats .exit))
+        (setAgain (clockFrom (now (words .entry)) (now (floats .entry))) setting (now (stream .entry)) position at .clock)
+        × (r ≡ channelDraw (setAgain (clockFrom (now (words .entry)) (now (floats .entry))) setting (now (stream .entry)) position at)) ⌝ }
+{
+    let old = crate::channel_rows::channel_at(words, floats, at);
+    let accumulated = crate::channels::settled_hazard(old, setting.now);
+    let policy = crate::clocks::policy_of(byte_from(words[SETTINGS][POLICY]));
+    if !draws_again(policy, accumulated, old.target_threshold) {
+        let kept = channel_of(setting, accumulated, old.target_threshold);
+        crate::channel_rows::put_channel(words, floats, at, kept);
+        return ChannelDraw {
+            number: 0,
+            position,
+        };
+    }
+    let drawn = hazards::draws::draw_from(stream, StreamPosition { next: position });
+    if drawn.number != 0 {
+        return ChannelDraw {
+            number: drawn.number,
+            position,
+        };
+    }
+    let fresh = channel_of(setting, 0.0, drawn.threshold);
+    crate::channel_rows::put_channel(words, floats, at, fresh);
+    ChannelDraw {
+        number: 0,
+        position: drawn.position.next,
+    }
+}
+
+// A cause that is new to the clock, put in at its place by ascending cause; a ninth is refused.
+fn set_new<'a, 's>(
+    words: &'a mut [[u64; 8]],
+    floats: &'a mut [[f64; 8]],
+    setting: CauseSetting,
+    stream: &'s [u8],
+    position: usize,
+) -> ChannelDraw
+    requires { ⌜ Sized (now words) (now floats) ⌝ }
+    ensures { λ r. ⌜ Leaves (now (words .entry)) (now (floats .entry)) (now (words .exit)) (now (floats .exit))
+        (setNew (clockFrom (now (words .entry)) (now (floats .entry))) setting (now (stream .entry)) position .clock)
+        × (r ≡ channelDraw (setNew (clockFrom (now (words .entry)) (now (floats .entry))) setting (now (stream .entry)) position)) ⌝ }
+{
+    if words[SETTINGS][COUNT] >= 8 {
+        return ChannelDraw {
+            number: hazards::refusals::TOO_MANY_CAUSES,
+            position,
+        };
+    }
+    let drawn = hazards::draws::draw_from(stream, StreamPosition { next: position });
+    if drawn.number != 0 {
+        return ChannelDraw {
+            number: drawn.number,
+            position,
+        };
+    }
+    let channel = channel_of(setting, 0.0, drawn.threshold);
+    let at = crate::clock_rows::place_for_new(words, setting.cause_id);
+    crate::clock_rows::insert_channel(words, floats, at, channel);
+    ChannelDraw {
+        number: 0,
+        position: drawn.position.next,
+    }
+}
+
+// The used channel with the setting's cause, if any, is set again; a cause without one is new.
+pub fn set_channel<'a, 's>(
+    words: &'a mut [[u64; 8]],
+    floats: &'a mut [[f64; 8]],
+    setting: CauseSetting,
+    stream: &'s [u8],
+    position: usize,
+) -> ChannelDraw
+    requires { ⌜ Sized (now words) (now floats) ⌝ }
+    ensures { λ r. ⌜ Leaves (now (words .entry)) (now (floats .entry)) (now (words .exit)) (now (floats .exit))
+        (setChannel (clockFrom (now (words .entry)) (now (floats .entry))) setting (now (stream .entry)) position .clock)
+        × (r ≡ channelDraw (setChannel (clockFrom (now (words .entry)) (now (floats .entry))) setting (now (stream .entry)) position)) ⌝ }
+{
+    match crate::clock_rows::place_of_cause(words, setting.cause_id) {
+        CausePlace::At(at) => set_again(words, floats, setting, stream, position, at),
+        CausePlace::Absent => set_new(words, floats, setting, stream, position),
+    }
+}
