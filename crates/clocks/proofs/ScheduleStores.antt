@@ -88,7 +88,7 @@ schedule-parts : (b : List ℕ) → codedSchedule b ≡ true → (isFlag (at b 2
 unfolding codedSchedule
 schedule-parts b h =
     let winner = both-true (isFlag (at b 2)) (isU32 (at b 3) && rest b)
-        (both-true (isFlag (at b 0)) (isFlag (at b 2) && (isU32 (at b 3) && rest b)) h .1) in
+    (both-true (isFlag (at b 0)) (isFlag (at b 2) && (isU32 (at b 3) && rest b)) h .1) in
     let cause = both-true (isU32 (at b 3)) (rest b) (winner .1) in
     (winner .0, cause .0, both-true (isFlag (at b 4)) (spares b) (cause .1) .1)
 

@@ -27,6 +27,7 @@ pub mod Ledger
 pub mod DeliveryOrder
 pub mod Demand3
 pub mod Rows
+pub mod StateRows
 -- internals: what the answers of the code's inner functions mean; no call that document 01 names cites these
 pub mod QueueInternals
 pub mod ExecutionInternals

@@ -10,5 +10,6 @@ pub mod queue;
 pub mod replay;
 pub mod run;
 pub mod state;
+pub mod state_rows;
 pub mod theorem;
 pub mod validation;
