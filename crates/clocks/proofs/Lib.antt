@@ -9,6 +9,7 @@ pub mod EventTimes
 pub mod Places
 pub mod RequestLaws
 pub mod RowLaws
+pub mod RowLoops
 pub mod SchedulingCases
 pub mod SettingCases
 pub mod SettingOutcomes
