@@ -10,6 +10,7 @@ pub mod Places
 pub mod RequestLaws
 pub mod RowLaws
 pub mod ScheduleStores
+pub mod RowLoops
 pub mod SchedulingCases
 pub mod SettingCases
 pub mod SettingOutcomes

@@ -1,14 +1,10 @@
 -- `channel_rows::settled_at` meets its contract.
+use mathlib.Core.Path.{_∙_}
 use borrow.Author.Needs.{needs}
 use Rattle.clocks.specs.Channels.{settledHazard}
 use Rattle.clocks.specs.Layout.{channelFrom}
 use Rattle.clocks.proofs.channel_rows.settled_at.Statement.{statement}
 use Rattle.clocks.proofs.channel_rows.settled_at.Tie as tie
-use Rattle.clocks.proofs.channel_rows.settled_at.Reads as reads
-use Rattle.clocks.proofs.channel_rows.settled_at.Lts as lts
-use Rattle.clocks.proofs.channels.accumulated_at.Reads as accumulated-at-reads
-use Rattle.clocks.proofs.layout.byte_from.Reads as byte-from-reads
-use Rattle.hazards.proofs.rates.rate_of_kind.Reads as rate-of-kind-reads
 
 -- src/channel_rows.rt:104:20
 add-ws : tie.Need-add-ws
@@ -106,7 +102,8 @@ accumulated-at-requires c κs = search needs
 returns : tie.Need-returns
 unfolding settledHazard channelFrom
 returns c =
-    rw (c .before .before .before .rate-of-kind .ensures, c .before .before .before .before .byte-from .ensures) (c .accumulated-at .ensures)
+    c .accumulated-at .ensures
+    ∙ rw (c .before .before .before .rate-of-kind .ensures, c .before .before .before .before .byte-from .ensures)
 
 pub settled-at-spec : {M : Type 1} → statement M
 settled-at-spec =
