@@ -6,6 +6,8 @@ pub mod EachChannel
 pub mod EachLaws
 pub mod EarliestTurns
 pub mod EventTimes
+pub mod OwnRows
+pub mod PlaceRows
 pub mod Places
 pub mod RequestLaws
 pub mod RowLaws
