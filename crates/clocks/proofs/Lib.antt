@@ -2,6 +2,7 @@
 pub mod AscendingCauses
 pub mod ChannelStores
 pub mod ChangedPlaces
+pub mod ClearedRows
 pub mod EachChannel
 pub mod EachLaws
 pub mod EarliestTurns
@@ -13,6 +14,7 @@ pub mod RequestLaws
 pub mod RowLaws
 pub mod SchedulingCases
 pub mod SettingCases
+pub mod SettingInPlace
 pub mod SettingOutcomes
 pub mod Sound
 pub mod SoundChannels
