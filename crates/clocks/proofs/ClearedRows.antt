@@ -18,24 +18,25 @@ use Rattle.hazards.proofs.Cases.{by-test}
 use Rattle.clocks.specs.Channels.{emptyChannel}
 use Rattle.clocks.specs.Clocks.{policyNumber, policyOf, noEntity, one, newClock, withChannels}
 use Rattle.clocks.specs.Layout.{WordRows, FloatRows, table, flagFrom, byteFrom, channelFrom, channelAt, clockOf, clockFrom, presentIn}
-use Rattle.clocks.specs.Layout.{codedSettings, codedSchedule, codedTimes, codedWords, codedNumbers, codedChannel, Coded, Sized, Leaves}
+use Rattle.clocks.specs.Layout.{codedSettings, codedSchedule, codedTimes, codedWords, codedNumbers, codedChannel}
+use Rattle.clocks.specs.Layout.{Coded, Sized, Leaves}
 use Rattle.clocks.specs.declared.clocks.EntityId.{EntityId}
 use Rattle.clocks.specs.declared.clocks.HazardInterruptionPolicy.{HazardInterruptionPolicy}
 use Rattle.clocks.specs.declared.clocks.HazardInterruptionPolicy.the-variants.{Restart, RetainResidual}
 use Rattle.clocks.proofs.OwnRows.{ownWords, own-stored, own-present, own-stored-coded}
 use Rattle.clocks.proofs.Tables.{table-same}
 
-abbrev pub noWords : List ℕ
-noWords = replicate 8 0
+abbrev pub zeroWords : List ℕ
+zeroWords = replicate 8 0
 
-abbrev pub noFloats : List Float
-noFloats = replicate 8 z
+abbrev pub zeroFloats : List Float
+zeroFloats = replicate 8 z
 
-cleared-channel : channelFrom noWords noFloats noFloats noFloats ≡ emptyChannel
+cleared-channel : channelFrom zeroWords zeroFloats zeroFloats zeroFloats ≡ emptyChannel
 unfolding channelFrom
 cleared-channel = refl
 
-cleared-coded : codedChannel noWords noFloats ≡ true
+cleared-coded : codedChannel zeroWords zeroFloats ≡ true
 unfolding codedWords codedNumbers zeroBits toBits
 cleared-coded = refl
 
@@ -45,8 +46,8 @@ pub record Cleared (w₀ : WordRows) (f₀ : FloatRows) (n : ℕ) (w : WordRows)
   pub settings : getD w 0 [] ≡ getD w₀ 0 []
   pub schedule : getD w 1 [] ≡ getD w₀ 1 []
   pub times : getD f 0 [] ≡ getD f₀ 0 []
-  pub words : (r : ℕ) → 2 ≤ r → r < 2 + n → getD w r [] ≡ noWords
-  pub floats : (r : ℕ) → 1 ≤ r → r < 1 + 3 * n → getD f r [] ≡ noFloats
+  pub words : (r : ℕ) → 2 ≤ r → r < 2 + n → getD w r [] ≡ zeroWords
+  pub floats : (r : ℕ) → 1 ≤ r → r < 1 + 3 * n → getD f r [] ≡ zeroFloats
 
 pub cleared-none : (w : WordRows) (f : FloatRows) → Cleared w f 0 w f
 cleared-none w f = record {
@@ -57,7 +58,7 @@ cleared-none w f = record {
   floats = λ r a b. absurd (omega arith);
 }
 
--- what every place but i has, place i has after a store of it
+-- a place holds x after a store of x somewhere, if it held it or is where it is stored
 set-also : {A : Type 0} (xs : List A) (i r : ℕ) (x d : A) → i < length xs → ((r ≡ i → ⊥) → getD xs r d ≡ x) → getD (set xs i x) r d ≡ x
 set-also xs i r x d h other =
     by-test (eqb r i) (λ e. let same : r ≡ i = eqb-true r i e in rw same (getD-set-same xs i x d h))
@@ -65,32 +66,32 @@ set-also xs i r x d h other =
 
 module _ (w₀ w : WordRows) (f₀ f : FloatRows) (j : ℕ) (hj : j < 8) (sized : Sized w f) (e : Cleared w₀ f₀ j w f) where
   abbrev f₁ : FloatRows
-  f₁ = set f (1 + 3 * j) noFloats
+  f₁ = set f (1 + 3 * j) zeroFloats
 
   abbrev f₂ : FloatRows
-  f₂ = set f₁ (2 + 3 * j) noFloats
+  f₂ = set f₁ (2 + 3 * j) zeroFloats
 
   abbrev f₃ : FloatRows
-  f₃ = set f₂ (3 + 3 * j) noFloats
+  f₃ = set f₂ (3 + 3 * j) zeroFloats
 
-  pub cleared-more : Cleared w₀ f₀ (j + 1) (set w (2 + j) noWords) f₃
+  pub cleared-more : Cleared w₀ f₀ (j + 1) (set w (2 + j) zeroWords) f₃
   cleared-more =
       let n₀ = sized .floats in
-      let n₁ = length-set f (1 + 3 * j) noFloats in
-      let n₂ = length-set f₁ (2 + 3 * j) noFloats in
+      let n₁ = length-set f (1 + 3 * j) zeroFloats in
+      let n₂ = length-set f₁ (2 + 3 * j) zeroFloats in
       record {
-        settings = getD-set-other w (2 + j) 0 noWords [] (λ q. omega arith) ∙ e .settings;
-        schedule = getD-set-other w (2 + j) 1 noWords [] (λ q. omega arith) ∙ e .schedule;
+        settings = getD-set-other w (2 + j) 0 zeroWords [] (λ q. omega arith) ∙ e .settings;
+        schedule = getD-set-other w (2 + j) 1 zeroWords [] (λ q. omega arith) ∙ e .schedule;
         times =
-            getD-set-other f₂ (3 + 3 * j) 0 noFloats [] (λ q. omega arith)
-            ∙ (getD-set-other f₁ (2 + 3 * j) 0 noFloats [] (λ q. omega arith)
-            ∙ (getD-set-other f (1 + 3 * j) 0 noFloats [] (λ q. omega arith) ∙ e .times));
-        words = λ r a b. set-also w (2 + j) r noWords [] (omega (arith, sized .words)) (λ x. e .words r a (omega arith));
+            getD-set-other f₂ (3 + 3 * j) 0 zeroFloats [] (λ q. omega arith)
+            ∙ (getD-set-other f₁ (2 + 3 * j) 0 zeroFloats [] (λ q. omega arith)
+            ∙ (getD-set-other f (1 + 3 * j) 0 zeroFloats [] (λ q. omega arith) ∙ e .times));
+        words = λ r a b. set-also w (2 + j) r zeroWords [] (omega (arith, sized .words)) (λ x. e .words r a (omega arith));
         floats =
             λ r a b.
-            set-also f₂ (3 + 3 * j) r noFloats [] (omega arith)
-            (λ x. set-also f₁ (2 + 3 * j) r noFloats [] (omega arith)
-            (λ y. set-also f (1 + 3 * j) r noFloats [] (omega arith) (λ t. e .floats r a (omega arith))));
+            set-also f₂ (3 + 3 * j) r zeroFloats [] (omega arith)
+            (λ x. set-also f₁ (2 + 3 * j) r zeroFloats [] (omega arith)
+            (λ y. set-also f (1 + 3 * j) r zeroFloats [] (omega arith) (λ t. e .floats r a (omega arith))));
       }
 
 module _ (w₀ w : WordRows) (f₀ f : FloatRows) (e : Cleared w₀ f₀ 8 w f) where
@@ -161,7 +162,7 @@ module _ (process : ℕ) (has : Bool) (entity named : EntityId) (policy : Hazard
   abbrev newTimes : List Float
   newTimes = scale ∷ z ∷ z ∷ z ∷ z ∷ z ∷ z ∷ z ∷ []
 
-  new-clock : clockOf newSettings noWords newTimes (replicate 8 emptyChannel) ≡ newClock process has entity policy tie tick
+  new-clock : clockOf newSettings zeroWords newTimes (replicate 8 emptyChannel) ≡ newClock process has entity policy tie tick
   unfolding clockOf newClock
   new-clock = rw (flag-back has, mod-eq-of-lt h, policy-back policy, tie-back tie, e, s)
 
@@ -169,7 +170,7 @@ module _ (process : ℕ) (has : Bool) (entity named : EntityId) (policy : Hazard
   unfolding codedSettings
   settings-coded = rw (flag-coded has, lt-ltb _ _ h, policy-coded policy, tie-coded tie)
 
-  schedule-coded : codedSchedule noWords ≡ true
+  schedule-coded : codedSchedule zeroWords ≡ true
   unfolding codedSchedule
   schedule-coded = refl
 
@@ -179,10 +180,10 @@ module _ (process : ℕ) (has : Bool) (entity named : EntityId) (policy : Hazard
 
   pub new-stored : (w : WordRows) (f : FloatRows) → Sized w f → clockFrom w f .channels ≡ replicate 8 emptyChannel
       → ((j : ℕ) → j < 8 → codedChannel (getD w (2 + j) []) (getD f (1 + 3 * j) []) ≡ true)
-      → (clockFrom (ownWords w newSettings noWords) (set f 0 newTimes) ≡ newClock process has entity policy tie tick)
-      × (presentIn (ownWords w newSettings noWords) ≡ true) × Coded (ownWords w newSettings noWords) (set f 0 newTimes)
+      → (clockFrom (ownWords w newSettings zeroWords) (set f 0 newTimes) ≡ newClock process has entity policy tie tick)
+      × (presentIn (ownWords w newSettings zeroWords) ≡ true) × Coded (ownWords w newSettings zeroWords) (set f 0 newTimes)
   new-stored w f sized empty coded = (
-    own-stored w f sized newSettings noWords newTimes ∙ rw empty new-clock,
-    own-present w f sized newSettings noWords newTimes,
-    own-stored-coded w f sized newSettings noWords newTimes settings-coded schedule-coded times-coded coded,
+    own-stored w f sized newSettings zeroWords newTimes ∙ rw empty new-clock,
+    own-present w f sized newSettings zeroWords newTimes,
+    own-stored-coded w f sized newSettings zeroWords newTimes settings-coded schedule-coded times-coded coded,
   )

@@ -8,8 +8,8 @@ use lib.Ieee.{Float}
 use lib.ListN.{length, getD, set, length-set}
 use lib.Seq.{getD-set-same, getD-set-other}
 use Rattle.clocks.specs.Clocks.{policyOf, withChannels}
-use Rattle.clocks.specs.Layout.{WordRows, FloatRows, flagFrom, byteFrom, channelAt, clockOf, clockFrom, presentIn, Sized, Coded, Leaves}
-use Rattle.clocks.specs.Layout.{codedSettings, codedSchedule, codedTimes, codedChannel}
+use Rattle.clocks.specs.Layout.{WordRows, FloatRows, flagFrom, byteFrom, channelAt, clockOf, clockFrom, presentIn}
+use Rattle.clocks.specs.Layout.{codedSettings, codedSchedule, codedTimes, codedChannel, Coded, Sized, Leaves}
 use Rattle.clocks.proofs.Tables.{table-same}
 
 -- where no row of a channel is changed, no channel is

@@ -40,7 +40,8 @@ module _ (k : SurvivalClock) (cause : ℕ) where
 abbrev pub SetLeaves : WordRows → FloatRows → WordRows → FloatRows → ChannelSet → ChannelDraw → Type 0
 SetLeaves w f w′ f′ o r = Leaves w f w′ f′ (o .clock) × (r ≡ channelDraw o)
 
-pub set-leaves : {w w′ : WordRows} {f f′ : FloatRows} {o p : ChannelSet} → o ≡ p → Leaves w f w′ f′ (o .clock) → SetLeaves w f w′ f′ p (channelDraw o)
+pub set-leaves : {w w′ : WordRows} {f f′ : FloatRows} {o p : ChannelSet} → o ≡ p → Leaves w f w′ f′ (o .clock)
+    → SetLeaves w f w′ f′ p (channelDraw o)
 set-leaves e l = (leaves-as l (ap (λ (x : ChannelSet). x .clock) e), ap channelDraw e)
 
 -- a cause that the clock has, at its place
@@ -68,7 +69,8 @@ module _ (w : WordRows) (f : FloatRows) (s : CauseSetting) (stream : List ℕ) (
         (again-kept k s stream position at old (omega (arith, channels-eight w f)) settled-there drawn-there d (rw there q))
         stored
 
-    pub drawn-in-place : (d : DrawAndPosition) → draws ≡ true → d ≡ drawAt stream position → d .number ≡ 0 → c ≡ channelOf s z (d .threshold)
+    pub drawn-in-place : (d : DrawAndPosition) → draws ≡ true → d ≡ drawAt stream position → d .number ≡ 0
+        → c ≡ channelOf s z (d .threshold)
         → SetLeaves w f w′ f′ (setAgain k s stream position at) (record { number = 0; position = d .position .next })
     drawn-in-place d t e n q =
         set-leaves (again-drawn k s stream position at old (omega (arith, channels-eight w f)) settled-there drawn-there t e n q) stored
@@ -76,4 +78,5 @@ module _ (w : WordRows) (f : FloatRows) (s : CauseSetting) (stream : List ℕ) (
   pub refused-in-place : (d : DrawAndPosition) → draws ≡ true → d ≡ drawAt stream position → (d .number ≡ 0 → ⊥)
       → SetLeaves w f w f (setAgain k s stream position at) (record { number = d .number; position = position })
   refused-in-place d t e n =
-      set-leaves (again-refused k s stream position at old (omega (arith, channels-eight w f)) settled-there drawn-there t e n) (leaves-none w f)
+      set-leaves (again-refused k s stream position at old (omega (arith, channels-eight w f)) settled-there drawn-there t e n)
+      (leaves-none w f)

@@ -1,20 +1,10 @@
 -- `setting_rows::set_again` meets its contract: the threshold is kept, or the draw is refused, or it is taken.
 use borrow.Author.Tests.{not-true, not-false}
+use borrow.Author.Needs.{needs}
 use lib.Ieee.{ofBits}
 use Rattle.clocks.proofs.SettingInPlace.{kept-in-place, refused-in-place, drawn-in-place}
-use borrow.Author.Needs.{needs}
 use Rattle.clocks.proofs.setting_rows.set_again.Statement.{statement}
 use Rattle.clocks.proofs.setting_rows.set_again.Tie as tie
-use Rattle.clocks.proofs.setting_rows.set_again.Reads as reads
-use Rattle.clocks.proofs.setting_rows.set_again.Lts as lts
-use Rattle.clocks.proofs.channel_rows.channel_at.Reads as channel-at-reads
-use Rattle.clocks.proofs.channel_rows.put_channel.Reads as put-channel-reads
-use Rattle.clocks.proofs.channels.settled_hazard.Reads as settled-hazard-reads
-use Rattle.clocks.proofs.clocks.policy_of.Reads as policy-of-reads
-use Rattle.clocks.proofs.layout.byte_from.Reads as byte-from-reads
-use Rattle.clocks.proofs.setting.channel_of.Reads as channel-of-reads
-use Rattle.clocks.proofs.setting.draws_again.Reads as draws-again-reads
-use Rattle.hazards.proofs.draws.draw_from.Reads as draw-from-reads
 
 channel-at-requires : tie.Need-channel-at-requires
 channel-at-requires c κs = search needs
@@ -56,9 +46,11 @@ returns c =
     let m = l .before .before .before .before in
     let a = m .args in
     kept-in-place (a .words .now) (a .floats .now) (a .setting) (a .stream .now) (a .position) (a .at) (m .pre .0) (l .channel-at .ensures)
-    (rw (d .before .before .byte-from .ensures) at (d .before .policy-of .ensures)) (d .before .before .before .before .settled-hazard .ensures)
+    (rw (d .before .before .byte-from .ensures) at (d .before .policy-of .ensures))
+    (d .before .before .before .before .settled-hazard .ensures)
     (d .draws-again .ensures) _ _ _ (c .before .before .put-channel .ensures)
-    (not-true _ (c .before .before .before .before .before .before .if1 .taken)) (c .before .before .before .before .before .channel-of .ensures)
+    (not-true _ (c .before .before .before .before .before .before .if1 .taken))
+    (c .before .before .before .before .before .channel-of .ensures)
 
 draw-from-requires : tie.Need-draw-from-requires
 draw-from-requires c κs = search needs
@@ -75,8 +67,10 @@ returns-2 c =
     let l = d .before .before .before .before .before in
     let m = l .before .before .before .before in
     let a = m .args in
-    refused-in-place (a .words .now) (a .floats .now) (a .setting) (a .stream .now) (a .position) (a .at) (m .pre .0) (l .channel-at .ensures)
-    (rw (d .before .before .byte-from .ensures) at (d .before .policy-of .ensures)) (d .before .before .before .before .settled-hazard .ensures)
+    refused-in-place (a .words .now) (a .floats .now) (a .setting) (a .stream .now) (a .position) (a .at) (m .pre .0)
+    (l .channel-at .ensures)
+    (rw (d .before .before .byte-from .ensures) at (d .before .policy-of .ensures))
+    (d .before .before .before .before .settled-hazard .ensures)
     (d .draws-again .ensures) _ (not-false _ (c .before .before .before .if1 .left)) (c .before .before .draw-from .ensures) (c .if2 .taken)
 
 channel-of-requires-2 : tie.Need-channel-of-requires-2
@@ -101,9 +95,10 @@ returns-3 c =
     let m = l .before .before .before .before in
     let a = m .args in
     drawn-in-place (a .words .now) (a .floats .now) (a .setting) (a .stream .now) (a .position) (a .at) (m .pre .0) (l .channel-at .ensures)
-    (rw (d .before .before .byte-from .ensures) at (d .before .policy-of .ensures)) (d .before .before .before .before .settled-hazard .ensures)
-    (d .draws-again .ensures) _ _ _ (c .before .before .put-channel2 .ensures)
-    _ (not-false _ (t .before .before .before .if1 .left)) (t .before .before .draw-from .ensures) (t .if2 .left)
+    (rw (d .before .before .byte-from .ensures) at (d .before .policy-of .ensures))
+    (d .before .before .before .before .settled-hazard .ensures)
+    (d .draws-again .ensures) _ _ _ (c .before .before .put-channel2 .ensures) _
+    (not-false _ (t .before .before .before .if1 .left)) (t .before .before .draw-from .ensures) (t .if2 .left)
     (c .before .before .before .before .before .channel-of2 .ensures)
 
 pub set-again-spec : {M : Type 1} → statement M

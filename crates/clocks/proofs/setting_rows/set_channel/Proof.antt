@@ -1,18 +1,12 @@
 -- `setting_rows::set_channel` meets its contract: a used channel has the cause, or none has.
 use mathlib.Core.Path.{sym, _∙_}
 use native.Mathlib.Omega.{arith}
+use borrow.Author.Needs.{needs}
 use Rattle.clocks.specs.Layout.{clockFrom}
 use Rattle.clocks.proofs.PlaceRows.{place-used}
 use Rattle.clocks.proofs.SettingCases.{set-held, set-absent}
-use Rattle.clocks.proofs.SettingInPlace.{set-leaves}
-use borrow.Author.Needs.{needs}
 use Rattle.clocks.proofs.setting_rows.set_channel.Statement.{statement}
 use Rattle.clocks.proofs.setting_rows.set_channel.Tie as tie
-use Rattle.clocks.proofs.setting_rows.set_channel.Reads as reads
-use Rattle.clocks.proofs.setting_rows.set_channel.Lts as lts
-use Rattle.clocks.proofs.clock_rows.place_of_cause.Reads as place-of-cause-reads
-use Rattle.clocks.proofs.setting_rows.set_again.Reads as set-again-reads
-use Rattle.clocks.proofs.setting_rows.set_new.Reads as set-new-reads
 
 place-of-cause-requires : tie.Need-place-of-cause-requires
 place-of-cause-requires c κs = search needs
@@ -48,9 +42,8 @@ returns c =
     let l = p .before .before in
     let a = l .before .before .before .args in
     let f = a .floats .now in
-    let held =
-        set-held (clockFrom (a .words .now) f) (a .setting) (a .stream .now) (a .position) (sym (p .at .given .1) ∙ l .place-of-cause .ensures f) in
-    rw held at (c .before .before .set-again .ensures)
+    let place = sym (p .at .given .1) ∙ l .place-of-cause .ensures f in
+    rw (set-held (clockFrom (a .words .now) f) (a .setting) (a .stream .now) (a .position) place) at (c .before .before .set-again .ensures)
 
 same-length-3 : tie.Need-same-length-3
 same-length-3 c = search needs
@@ -64,9 +57,8 @@ returns-2 c =
     let l = p .before .before in
     let a = l .before .before .before .args in
     let f = a .floats .now in
-    let absent =
-        set-absent (clockFrom (a .words .now) f) (a .setting) (a .stream .now) (a .position) (sym (p .enum-told .given .1) ∙ l .place-of-cause .ensures f) in
-    rw absent at (c .before .before .set-new .ensures)
+    let place = sym (p .enum-told .given .1) ∙ l .place-of-cause .ensures f in
+    rw (set-absent (clockFrom (a .words .now) f) (a .setting) (a .stream .now) (a .position) place) at (c .before .before .set-new .ensures)
 
 pub set-channel-spec : {M : Type 1} → statement M
 set-channel-spec =

@@ -1,6 +1,7 @@
 -- `setting_rows::set_new` meets its contract: a ninth cause, a draw that is refused, and one that is taken.
 use mathlib.Core.Path.{refl}
 use native.Mathlib.Omega.{arith}
+use borrow.Author.Needs.{needs}
 use lib.Ieee.{ofBits}
 use Rattle.clocks.specs.Clocks.{usedChannels}
 use Rattle.clocks.specs.Layout.{clockFrom}
@@ -10,15 +11,8 @@ use Rattle.clocks.proofs.Places.{new-most}
 use Rattle.clocks.proofs.RowLaws.{leaves-none}
 use Rattle.clocks.proofs.SettingCases.{new-ninth, new-refused, new-drawn}
 use Rattle.clocks.proofs.SettingInPlace.{set-leaves}
-use borrow.Author.Needs.{needs}
 use Rattle.clocks.proofs.setting_rows.set_new.Statement.{statement}
 use Rattle.clocks.proofs.setting_rows.set_new.Tie as tie
-use Rattle.clocks.proofs.setting_rows.set_new.Reads as reads
-use Rattle.clocks.proofs.setting_rows.set_new.Lts as lts
-use Rattle.clocks.proofs.clock_rows.insert_channel.Reads as insert-channel-reads
-use Rattle.clocks.proofs.clock_rows.place_for_new.Reads as place-for-new-reads
-use Rattle.clocks.proofs.setting.channel_of.Reads as channel-of-reads
-use Rattle.hazards.proofs.draws.draw_from.Reads as draw-from-reads
 
 index-1-if1 : tie.Need-index-1-if1
 index-1-if1 c = search needs
@@ -43,8 +37,8 @@ returns-2 c =
     let w = a .words .now in
     let f = a .floats .now in
     set-leaves
-    (new-refused (clockFrom w f) (a .setting) (a .stream .now) (a .position) (rw (count-in w f) (l .if1 .left)) (c .before .before .draw-from .ensures)
-    (c .if2 .taken))
+    (new-refused (clockFrom w f) (a .setting) (a .stream .now) (a .position) (rw (count-in w f) (l .if1 .left))
+    (c .before .before .draw-from .ensures) (c .if2 .taken))
     (leaves-none w f)
 
 channel-of-requires : tie.Need-channel-of-requires
@@ -83,8 +77,8 @@ returns-3 c =
     let w = a .words .now in
     let f = a .floats .now in
     set-leaves
-    (new-drawn (clockFrom w f) (a .setting) (a .stream .now) (a .position) (rw (count-in w f) (l .if1 .left)) (t .before .before .draw-from .ensures)
-    (t .if2 .left) (p .before .before .channel-of .ensures) (p .place-for-new .ensures f) refl)
+    (new-drawn (clockFrom w f) (a .setting) (a .stream .now) (a .position) (rw (count-in w f) (l .if1 .left))
+    (t .before .before .draw-from .ensures) (t .if2 .left) (p .before .before .channel-of .ensures) (p .place-for-new .ensures f) refl)
     (c .before .before .insert-channel .ensures)
 
 pub set-new-spec : {M : Type 1} → statement M

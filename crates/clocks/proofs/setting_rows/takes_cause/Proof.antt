@@ -1,14 +1,11 @@
 -- `setting_rows::takes_cause` meets its contract: a used channel has the cause, or none has.
 use mathlib.Core.Path.{sym, _∙_}
+use borrow.Author.Needs.{needs}
 use Rattle.clocks.specs.Layout.{clockFrom}
 use Rattle.clocks.proofs.OwnRows.{count-in}
 use Rattle.clocks.proofs.SettingInPlace.{takes-held, takes-absent}
-use borrow.Author.Needs.{needs}
 use Rattle.clocks.proofs.setting_rows.takes_cause.Statement.{statement}
 use Rattle.clocks.proofs.setting_rows.takes_cause.Tie as tie
-use Rattle.clocks.proofs.setting_rows.takes_cause.Reads as reads
-use Rattle.clocks.proofs.setting_rows.takes_cause.Lts as lts
-use Rattle.clocks.proofs.clock_rows.place_of_cause.Reads as place-of-cause-reads
 
 place-of-cause-requires : tie.Need-place-of-cause-requires
 place-of-cause-requires c κs = search needs
