@@ -2,10 +2,13 @@
 pub mod AscendingCauses
 pub mod ChannelStores
 pub mod ChangedPlaces
+pub mod ClearedRows
 pub mod EachChannel
 pub mod EachLaws
 pub mod EarliestTurns
 pub mod EventTimes
+pub mod OwnRows
+pub mod PlaceRows
 pub mod Places
 pub mod RequestLaws
 pub mod RowLaws
@@ -13,6 +16,7 @@ pub mod ScheduleStores
 pub mod RowLoops
 pub mod SchedulingCases
 pub mod SettingCases
+pub mod SettingInPlace
 pub mod SettingOutcomes
 pub mod Sound
 pub mod SoundChannels
