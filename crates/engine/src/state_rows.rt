@@ -4,8 +4,6 @@ ghost use mathlib.Core.Bool.{true};
 ghost use mathlib.Core.List.{[]};
 ghost use Prim.Native.Nat.{_+_, _<_};
 ghost use lib.ListN.{length, getD, set};
-ghost use mir.Val.{toZ, ofZ};
-ghost use mir.Syntax.{w32};
 ghost use Rattle.engine.specs.StateRows.{requestFrom, codedRequest};
 use crate::state::Request;
 use clocks::layout::u32_from;
@@ -42,27 +40,6 @@ pub const STATE_WORDS: usize = 177;
 
 pub const STATE_FLOATS: usize = 400;
 
-// A priority from its 32 bits, in two's complement, and back.
-fn priority_from(word: u32) -> i32
-    ensures { λ r. ⌜ r ≡ toZ w32 word ⌝ }
-{
-    if word < 0x8000_0000 {
-        word as i32
-    } else {
-        -((0xffff_ffff - word) as i32) - 1
-    }
-}
-
-fn priority_word(priority: i32) -> u32
-    ensures { λ r. ⌜ r ≡ ofZ w32 priority ⌝ }
-{
-    if priority < 0 {
-        0xffff_ffff - ((-(priority + 1)) as u32)
-    } else {
-        priority as u32
-    }
-}
-
 pub fn request_at(words: &[[u64; 8]], i: usize) -> Request
     requires { ⌜ (i < 16) × (length (now words) ≡ 177) ⌝ }
     ensures { λ r. ⌜ r ≡ requestFrom (getD (now (words .entry)) (161 + i) []) ⌝ }
@@ -74,7 +51,7 @@ pub fn request_at(words: &[[u64; 8]], i: usize) -> Request
             low: row[TICKS_LOW],
             high: row[TICKS_HIGH],
         },
-        priority: priority_from(u32_from(row[REQUEST_PRIORITY])),
+        priority: hazards::fields::i32_from(u32_from(row[REQUEST_PRIORITY])),
         index: row[REQUEST_INDEX],
     }
 }
@@ -87,7 +64,7 @@ pub(crate) fn request_row(r: Request) -> [u64; 8]
         r.clock as u64,
         r.ticks.low,
         r.ticks.high,
-        priority_word(r.priority) as u64,
+        hazards::fields::bits_of_i32(r.priority) as u64,
         r.index,
         0,
         0,

@@ -3,6 +3,8 @@ ghost use mathlib.Core.Path.{_≡_};
 ghost use Prim.Native.Nat.{_+_, _^_, _≤_, _<_};
 ghost use lib.ListN.{length};
 ghost use lib.Dec.{leb};
+ghost use mir.Syntax.{w32};
+ghost use mir.Val.{toZ, ofZ};
 ghost use Rattle.hazards.specs.Fields.{fieldAt, withField, f64At, withF64, i32At, withI32};
 
 fn wide(x: u8) -> u64
@@ -76,16 +78,22 @@ pub fn u64_at(bytes: &[u8], at: usize) -> u64
     word_at(bytes, at, 8)
 }
 
-// The i32 field at a place, in two's complement.
-pub fn i32_at(bytes: &[u8], at: usize) -> i32
-    ensures { λ r. ⌜ r ≡ i32At (now (bytes .entry)) at ⌝ }
+// The number of 32 bits in two's complement.
+pub fn i32_from(word: u32) -> i32
+    ensures { λ r. ⌜ r ≡ toZ w32 word ⌝ }
 {
-    let word = u32_at(bytes, at);
     if word < 0x8000_0000 {
         word as i32
     } else {
         -((0xffff_ffff - word) as i32) - 1
     }
+}
+
+// The i32 field at a place, in two's complement.
+pub fn i32_at(bytes: &[u8], at: usize) -> i32
+    ensures { λ r. ⌜ r ≡ i32At (now (bytes .entry)) at ⌝ }
+{
+    i32_from(u32_at(bytes, at))
 }
 
 // The f64 field at a place; every NaN pattern reads as a NaN.
@@ -120,15 +128,22 @@ pub fn put_u64(bytes: &mut [u8], at: usize, x: u64)
     put_word(bytes, at, 8, x);
 }
 
+// The 32 bits of a number in two's complement.
+pub fn bits_of_i32(x: i32) -> u32
+    ensures { λ r. ⌜ r ≡ ofZ w32 x ⌝ }
+{
+    if x < 0 {
+        0xffff_ffff - ((-(x + 1)) as u32)
+    } else {
+        x as u32
+    }
+}
+
 // Writes an i32 field at a place, in two's complement.
 pub fn put_i32(bytes: &mut [u8], at: usize, x: i32)
     ensures { λ _. ⌜ now (bytes .exit) ≡ withI32 (now (bytes .entry)) at x ⌝ }
 {
-    if x < 0 {
-        put_u32(bytes, at, 0xffff_ffff - ((-(x + 1)) as u32));
-    } else {
-        put_u32(bytes, at, x as u32);
-    }
+    put_u32(bytes, at, bits_of_i32(x));
 }
 
 // Writes an f64 field at a place; a NaN as its quiet pattern with a clear sign.
