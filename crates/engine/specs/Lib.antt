@@ -30,6 +30,7 @@ pub mod Rows
 pub mod StateRows
 -- internals: what the answers of the code's inner functions mean; no call that document 01 names cites these
 pub mod QueueInternals
+pub mod QueueRowsInternals
 pub mod ExecutionInternals
 pub mod ExecuteInternals
 pub mod ReplayInternals

@@ -7,6 +7,7 @@ pub mod execution;
 pub mod journal;
 pub mod opening;
 pub mod queue;
+pub mod queue_rows;
 pub mod replay;
 pub mod run;
 pub mod state;

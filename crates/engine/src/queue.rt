@@ -67,7 +67,7 @@ pub fn comes_first(a: Request, b: Request) -> bool
     a.index < b.index
 }
 
-fn earlier_of(a: Request, best: Pick) -> Pick
+pub(crate) fn earlier_of(a: Request, best: Pick) -> Pick
     ensures { λ r. ⌜ pickOf r ≡ earlierOf (some a) (pickOf best) ⌝ }
 {
     if best.found {
@@ -82,7 +82,7 @@ fn earlier_of(a: Request, best: Pick) -> Pick
 }
 
 // There are sixteen places.
-fn used_places(queued: usize) -> usize
+pub(crate) fn used_places(queued: usize) -> usize
     ensures { λ r. ⌜ r ≡ min queued 16 ⌝ }
 {
     if queued < 16 { queued } else { 16 }

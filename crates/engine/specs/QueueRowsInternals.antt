@@ -1,0 +1,25 @@
+-- What the queue's inner functions leave of the rows: requests moved to the first places, and places emptied.
+use mathlib.Core.Path.{_≡_}
+use mathlib.Core.List.{List, [], _++_}
+use Prim.Native.Nat.{ℕ, _-_, _≤_}
+use lib.ListN.{length, getD, take, replicate}
+use Rattle.clocks.specs.Layout.{WordRows}
+use Rattle.engine.specs.State.{emptyRequest}
+use Rattle.engine.specs.StateRows.{queueFrom, CodedShared}
+use Rattle.engine.specs.declared.state.Request.{Request}
+
+-- rs stand in the first places of w′, as many as kept says; the clocks' rows and the counts are those of w
+pub record MovedUp (w w′ : WordRows) (rs : List Request) (kept : ℕ) : Type 0 where
+  pub many : kept ≡ length rs
+  pub few : kept ≤ 16
+  pub first : take kept (queueFrom w′) ≡ rs
+  pub counts : getD w′ 160 [] ≡ getD w 160 []
+  pub clocks : take 160 w′ ≡ take 160 w
+  pub coded : CodedShared w → CodedShared w′
+
+-- the places from one on are empty, those before it and all other rows those of w
+pub record ClearedFrom (w w′ : WordRows) (from : ℕ) : Type 0 where
+  pub queue : queueFrom w′ ≡ take from (queueFrom w) ++ replicate (16 - from) emptyRequest
+  pub counts : getD w′ 160 [] ≡ getD w 160 []
+  pub clocks : take 160 w′ ≡ take 160 w
+  pub coded : CodedShared w → CodedShared w′
