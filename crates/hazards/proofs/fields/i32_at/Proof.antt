@@ -16,7 +16,7 @@ i32-from-requires c κs = search needs
 
 returns : tie.Need-returns
 unfolding i32At
-returns c = toZ-ofZ (c .i32-from .ok) ∙ (c .i32-from .ensures ∙ ap (toZ w32) (c .before .u32-at .ensures))
+returns c = toZ-ofZ (record { sfits = c .i32-from .ok }) ∙ (c .i32-from .ensures ∙ ap (toZ w32) (c .before .u32-at .ensures))
 
 pub i32-at-spec : {M : Type 1} → statement M
 i32-at-spec = tie.close (tie.spec u32-at-requires i32-from-requires returns)
