@@ -8,7 +8,7 @@ use lib.ListN.{getD, set, drop}
 use Rattle.hazards.proofs.Cases.{both-true}
 use Rattle.clocks.specs.Channels.{withAccumulated, onUsed}
 use Rattle.clocks.specs.Clocks.{usedChannels, withChannels}
-use Rattle.clocks.specs.Layout.{WordRows, FloatRows, channelFrom, channelAt, clockFrom, codedNumbers, Sized, Leaves}
+use Rattle.clocks.specs.Layout.{WordRows, FloatRows, channelFrom, channelAt, clockFrom, codedWords, codedNumbers, Sized, Leaves}
 use Rattle.clocks.specs.declared.channels.HazardChannelState.{HazardChannelState}
 use Rattle.clocks.proofs.ChannelStores.{numbers-stored}
 use Rattle.clocks.proofs.EachChannel.{each-none, each-all, each-turn}
@@ -26,7 +26,10 @@ pub progress-stored : (w : WordRows) (f : FloatRows) (j : ℕ) → j < 8 → Siz
     (withChannelAt (clockFrom w f) j (withAccumulated (channelAt w f j) total start))
 unfolding channelFrom codedNumbers
 progress-stored w f j hj sized total start =
-    numbers-stored w f j hj sized (progressRow (getD f (1 + 3 * j) []) total start) (λ h. both-true _ _ (h .channels j hj) .1)
+    let ws = getD w (2 + j) [] in
+    let ns = getD f (1 + 3 * j) [] in
+    numbers-stored w f j hj sized (progressRow ns total start)
+    (λ h. both-true (codedWords ws) (codedNumbers (getD ws 2 0) ns) (h .channels j hj) .1)
 
 -- ---- a loop that changes the used channels one by one: the first j are changed
 
