@@ -6,6 +6,7 @@ pub mod EachChannel
 pub mod EachLaws
 pub mod EarliestTurns
 pub mod EventTimes
+pub mod PausedRows
 pub mod Places
 pub mod RequestLaws
 pub mod RowLaws
