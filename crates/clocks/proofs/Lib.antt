@@ -9,6 +9,7 @@ pub mod EarliestTurns
 pub mod EventTimes
 pub mod OwnRows
 pub mod PlaceRows
+pub mod PausedRows
 pub mod Places
 pub mod RequestLaws
 pub mod RowLaws

@@ -6,99 +6,75 @@ use Rattle.clocks.specs.Layout.{channelFrom}
 use Rattle.clocks.proofs.channel_rows.settled_at.Statement.{statement}
 use Rattle.clocks.proofs.channel_rows.settled_at.Tie as tie
 
--- src/channel_rows.rt:104:20
 add-ws : tie.Need-add-ws
 add-ws c = search needs
 
--- src/channel_rows.rt:104:14
 mul-ws : tie.Need-mul-ws
 mul-ws c = search needs
 
--- src/channel_rows.rt:104:14
 shared-slice-copy-out-ws : tie.Need-shared-slice-copy-out-ws
 shared-slice-copy-out-ws c = search needs
 
--- src/channel_rows.rt:105:31
 mul-ns : tie.Need-mul-ns
 mul-ns c = search needs
 
--- src/channel_rows.rt:105:21
 add-ns : tie.Need-add-ns
 add-ns c = search needs
 
--- src/channel_rows.rt:105:14
 mul-ns-2 : tie.Need-mul-ns-2
 mul-ns-2 c = search needs
 
--- src/channel_rows.rt:105:14
 shared-slice-copy-out-ns : tie.Need-shared-slice-copy-out-ns
 shared-slice-copy-out-ns c = search needs
 
--- src/channel_rows.rt:107:9
 array-read-accumulated-at : tie.Need-array-read-accumulated-at
 array-read-accumulated-at c = search needs
 
--- src/channel_rows.rt:108:48
 array-read-byte-from : tie.Need-array-read-byte-from
 array-read-byte-from c = search needs
 
--- src/channel_rows.rt:108:38
 byte-from-requires : tie.Need-byte-from-requires
 byte-from-requires c κs = search needs
 
--- src/channel_rows.rt:108:59
 array-read-rate-of-kind : tie.Need-array-read-rate-of-kind
 array-read-rate-of-kind c = search needs
 
--- src/channel_rows.rt:108:9
 rate-of-kind-requires : tie.Need-rate-of-kind-requires
 rate-of-kind-requires c κs = search needs
 
--- src/channel_rows.rt:109:24
 mul-accumulated-at : tie.Need-mul-accumulated-at
 mul-accumulated-at c = search needs
 
--- src/channel_rows.rt:109:17
 add-accumulated-at : tie.Need-add-accumulated-at
 add-accumulated-at c = search needs
 
--- src/channel_rows.rt:109:9
 mul-accumulated-at-2 : tie.Need-mul-accumulated-at-2
 mul-accumulated-at-2 c = search needs
 
--- src/channel_rows.rt:109:9
 shared-slice-element-accumulated-at : tie.Need-shared-slice-element-accumulated-at
 shared-slice-element-accumulated-at c = search needs
 
--- src/channel_rows.rt:110:25
 mul-accumulated-at-3 : tie.Need-mul-accumulated-at-3
 mul-accumulated-at-3 c = search needs
 
--- src/channel_rows.rt:110:17
 add-accumulated-at-2 : tie.Need-add-accumulated-at-2
 add-accumulated-at-2 c = search needs
 
--- src/channel_rows.rt:110:9
 mul-accumulated-at-4 : tie.Need-mul-accumulated-at-4
 mul-accumulated-at-4 c = search needs
 
--- src/channel_rows.rt:110:9
 shared-slice-element-accumulated-at-2 : tie.Need-shared-slice-element-accumulated-at-2
 shared-slice-element-accumulated-at-2 c = search needs
 
--- src/channel_rows.rt:111:9
 array-read-accumulated-at-2 : tie.Need-array-read-accumulated-at-2
 array-read-accumulated-at-2 c = search needs
 
--- src/channel_rows.rt:112:9
 array-read-accumulated-at-3 : tie.Need-array-read-accumulated-at-3
 array-read-accumulated-at-3 c = search needs
 
--- src/channel_rows.rt:106:5
 accumulated-at-requires : tie.Need-accumulated-at-requires
 accumulated-at-requires c κs = search needs
 
--- src/channel_rows.rt:95:1
 returns : tie.Need-returns
 unfolding settledHazard channelFrom
 returns c =
