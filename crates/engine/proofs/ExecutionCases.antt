@@ -8,12 +8,13 @@ use native.Mathlib.Omega.{arith}
 use lib.Dec.{eqb, leb}
 use lib.Ieee.{Float}
 use lib.ListN.{length, length-take}
-use borrow.Author.Tests.{leb-true, leb-false, le-leb, lt-leb, eqb-false, eq-eqb, ne-eqb}
+use borrow.Author.Tests.{leb-true, leb-false, le-leb, lt-leb, eqb-true, eqb-false, eq-eqb, ne-eqb}
 use Rattle.hazards.specs.Answers.{noEvent}
 use Rattle.hazards.specs.Fields.{fieldAt}
 use Rattle.hazards.specs.Refusals.{tooManyCauses, noFaults, numberOf}
 use Rattle.hazards.specs.declared.answers.Answer.{Answer}
 use Rattle.hazards.specs.declared.refusals.Faults.{Faults}
+use Rattle.hazards.proofs.Cases.{by-test}
 use Rattle.clocks.specs.Clocks.{removeChannel}
 use Rattle.clocks.specs.Scheduling as scheduling
 use Rattle.clocks.specs.Setting.{setChannel}
@@ -94,7 +95,7 @@ module _ (f : Faults) {number : ℕ} (e : number ≡ numberOf f) where
   refusal-faulty present h =
       ap (λ (t : Bool). cond t (cond present 0 clockAbsent) number) (sym (ne-eqb number 0 h)) ∙ ap (orAbsent present) e
 
-  refusal-clock : (present : Bool) → number ≡ 0 → cond present 0 clockAbsent ≡ refusalOf present f
+  pub refusal-clock : (present : Bool) → number ≡ 0 → cond present 0 clockAbsent ≡ refusalOf present f
   refusal-clock present h =
       ap (λ (t : Bool). cond t (cond present 0 clockAbsent) number) (sym (eq-eqb number 0 h)) ∙ ap (orAbsent present) e
 
@@ -124,6 +125,16 @@ module _ (f : Faults) (slot : ClockSlot) (d : SurvivalClock → OnSlot) {number 
 
   pub there : number ≡ 0 → d (slot .clock) ≡ unlessFaulty f (onClock slot d)
   there h = by-clock (d (slot .clock)) number (numberOf f) (eqb (numberOf f) 0) (slot .present) refl e h
+
+  pub there-clean : number ≡ 0 → numberOf f ≡ 0
+  there-clean h = by-test (eqb (numberOf f) 0) (λ q. eqb-true (numberOf f) 0 q) (λ q. sym (rw q at e) ∙ h)
+
+  pub there-present : number ≡ 0 → slot .present ≡ true
+  there-present h = go (slot .present) (rw (eq-eqb (numberOf f) 0 (there-clean h)) at e)
+    where
+      go : (p : Bool) → number ≡ cond p 0 clockAbsent → p ≡ true
+      go true q = refl
+      go false q = absurd (omega arith)
 
 -- ---- RESCHEDULE and RESUME, by the method that they call
 module _ (n : ℕ) (slot : ClockSlot) (p : SharedState) (c : List ℕ) (method : SurvivalClock → Float → Censor → ℕ → Rescheduled) where

@@ -3,6 +3,7 @@
 -- tests, lists of bytes and comparison
 pub mod Conjunctions
 pub mod EveryPlace
+pub mod ListParts
 pub mod NotItself
 pub mod ComparisonLaws
 pub mod JournalBytes
@@ -38,6 +39,8 @@ pub mod Asking
 pub mod ReplaySteps
 pub mod Replays
 pub mod Splits
+pub mod StateParts
+pub mod CommandsInPlace
 pub mod ReplayLaws
 pub mod ExecuteLaws
 -- demand 3: of any engine that meets the laws, then of this one

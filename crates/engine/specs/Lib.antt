@@ -32,6 +32,7 @@ pub mod StateRows
 pub mod QueueInternals
 pub mod QueueRowsInternals
 pub mod ExecutionInternals
+pub mod ExecutionRowsInternals
 pub mod ExecuteInternals
 pub mod ReplayInternals
 pub mod RunInternals

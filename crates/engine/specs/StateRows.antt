@@ -15,7 +15,9 @@ use mir.Syntax.{w32}
 use Rattle.hazards.specs.Answers.{noEvent}
 use Rattle.hazards.specs.declared.answers.Answer.{Answer}
 use Rattle.clocks.specs.Layout.{WordRows, FloatRows, table, u32From, isU32, clockFrom, presentIn, Coded}
+use Rattle.clocks.specs.declared.clocks.SurvivalClock.{SurvivalClock}
 use Rattle.engine.specs.Engine.{Performed, rejected, performed}
+use Rattle.engine.specs.State.{slotAt, withSlot}
 use Rattle.engine.specs.declared.state.ClockSlot.{ClockSlot}
 use Rattle.engine.specs.declared.state.Request.{Request}
 use Rattle.engine.specs.declared.state.SharedState.{SharedState}
@@ -88,6 +90,13 @@ pub record LeavesShared (w w′ : WordRows) (p : SharedState) : Type 0 where
   pub shared : sharedFrom w′ ≡ p
   pub clocks : take 160 w′ ≡ take 160 w
   pub coded : CodedShared w → CodedShared w′
+
+-- what a call leaves that changes clock k alone: the clock c, at a place that is taken or not as before
+pub record LeavesClock (w : WordRows) (f : FloatRows) (k : ℕ) (w′ : WordRows) (f′ : FloatRows) (c : SurvivalClock) : Type 0 where
+  pub state : stateFrom w′ f′
+      ≡ withSlot (stateFrom w f) k (record { present = slotAt (stateFrom w f) k .present; clock = c }) (sharedFrom w)
+  pub shared : sharedFrom w′ ≡ sharedFrom w
+  pub coded : CodedState w f → CodedState w′ f′
 
 -- what a command's answer stands for: a refusal's number, or the state that is left and the answer
 abbrev pub performedOf : EngineState → Answer → Performed EngineState Answer

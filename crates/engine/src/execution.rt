@@ -214,7 +214,7 @@ fn withdraw(shared: SharedState, event: ScheduledEvent) -> SharedState
     shared
 }
 
-fn event_answer(event: RealizedEvent, withdrawn: bool, ticks: Ticks) -> Answer
+pub(crate) fn event_answer(event: RealizedEvent, withdrawn: bool, ticks: Ticks) -> Answer
     ensures { λ r. ⌜ r ≡ eventAnswer event withdrawn ticks ⌝ }
 {
     Answer {

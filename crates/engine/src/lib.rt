@@ -4,6 +4,7 @@ pub mod commands;
 pub mod comparison;
 pub mod execute;
 pub mod execution;
+pub mod execution_rows;
 pub mod journal;
 pub mod opening;
 pub mod queue;
