@@ -23,6 +23,7 @@ pub mod IndexLaws
 pub mod DistinctIndices
 pub mod QueueLaws
 pub mod QueuePlaces
+pub mod RequestRows
 pub mod QueueRoom
 -- state validation, and the invariant of the states reached from opening
 pub mod ValidationLaws
