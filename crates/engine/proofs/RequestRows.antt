@@ -10,11 +10,11 @@ use lib.Dec.{eqb}
 use mir.Syntax.{w32}
 use mir.Val.{toZ}
 use lib.ListN.{length, getD, set, take, drop}
-use lib.Seq.{getD-set-same, getD-set-other, take-set-le, set-out}
+use lib.Seq.{getD-set-same, getD-set-other, take-set-le}
 use Rattle.hazards.proofs.Cases.{by-test}
 use Rattle.clocks.specs.Layout.{WordRows, table}
 use Rattle.clocks.proofs.Tables.{length-table, getD-table, table-set, table-same}
-use Rattle.engine.specs.State.{emptyRequest, queuedRequests, withRequest}
+use Rattle.engine.specs.State.{emptyRequest, queuedRequests}
 use Rattle.engine.specs.StateRows.{requestFrom, queueFrom, sharedOf, sharedFrom, codedCounts, codedRequest}
 use Rattle.engine.specs.StateRows.{CodedShared, LeavesShared}
 use Rattle.engine.specs.QueueRowsInternals.{KeepsRest}
@@ -130,62 +130,45 @@ rest-then p q = record { counts = q .counts ∙ p .counts; clocks = q .clocks �
 
 -- ---- the row of the counts stored
 
-module _ (w : WordRows) where
-  abbrev spare : ℕ → ℕ
-  spare i = getD (getD w 160 []) i 0
+abbrev pub withCounts : List Request → ℕ → ℕ → ℕ → ℕ → SharedState
+withCounts queue queued made position applied = record {
+  queue = queue;
+  queued = queued;
+  «request_count» = made;
+  position = position;
+  «applied_length» = applied;
+}
 
-  abbrev pub withCounts : List Request → ℕ → ℕ → ℕ → ℕ → SharedState
-  withCounts queue queued made position applied = record {
-    queue = queue;
-    queued = queued;
-    «request_count» = made;
-    position = position;
-    «applied_length» = applied;
+module _ (w : WordRows) (sized : length w ≡ 177) (queued made position applied : ℕ) where
+  abbrev row : List ℕ
+  row = queued ∷ made ∷ position ∷ applied ∷ countAt w 4 ∷ countAt w 5 ∷ countAt w 6 ∷ countAt w 7 ∷ []
+
+  counts-there : getD (set w 160 row) 160 [] ≡ row
+  counts-there = getD-set-same w 160 row [] (omega arith)
+
+  counts-beside : (i : ℕ) → getD (set w 160 row) (161 + i) [] ≡ getD w (161 + i) []
+  counts-beside i = getD-set-other w 160 (161 + i) row [] (λ e. omega arith)
+
+  queue-same : queueFrom (set w 160 row) ≡ queueFrom w
+  queue-same =
+      table-same 16 (λ i. requestIn w i) (λ i. requestIn (set w 160 row) i) (λ i h. ap requestFrom (counts-beside i))
+
+  counts-coded : CodedShared w → CodedShared (set w 160 row)
+  unfolding codedCounts
+  counts-coded k = record {
+    counts = rw counts-there (k .counts);
+    requests = λ i h. rw (counts-beside i) (k .requests i h);
   }
 
-  module _ (sized : length w ≡ 177) (queued made position applied : ℕ) where
-    abbrev row : List ℕ
-    row = queued ∷ made ∷ position ∷ applied ∷ spare 4 ∷ spare 5 ∷ spare 6 ∷ spare 7 ∷ []
-
-    counts-there : getD (set w 160 row) 160 [] ≡ row
-    counts-there = getD-set-same w 160 row [] (omega arith)
-
-    counts-beside : (i : ℕ) → getD (set w 160 row) (161 + i) [] ≡ getD w (161 + i) []
-    counts-beside i = getD-set-other w 160 (161 + i) row [] (λ e. omega arith)
-
-    queue-same : queueFrom (set w 160 row) ≡ queueFrom w
-    queue-same =
-        table-same 16 (λ i. requestIn w i) (λ i. requestIn (set w 160 row) i) (λ i h. ap requestFrom (counts-beside i))
-
-    counts-coded : CodedShared w → CodedShared (set w 160 row)
-    unfolding codedCounts
-    counts-coded k = record {
-      counts = rw counts-there (k .counts);
-      requests = λ i h. rw (counts-beside i) (k .requests i h);
-    }
-
-    pub counts-stored : LeavesShared w (set w 160 row) (withCounts (sharedFrom w .queue) queued made position applied)
-    unfolding sharedFrom sharedOf
-    counts-stored = record {
-      shared = rw (counts-there, queue-same);
-      clocks = take-set-le 160 w 160 row (omega arith);
-      coded = counts-coded;
-    }
+  pub counts-stored : LeavesShared w (set w 160 row) (withCounts (sharedFrom w .queue) queued made position applied)
+  unfolding sharedFrom sharedOf
+  counts-stored = record {
+    shared = rw (counts-there, queue-same);
+    clocks = take-set-le 160 w 160 row (omega arith);
+    coded = counts-coded;
+  }
 
 -- the requests' rows changed, and then the counts
 module _ {w w′ w″ : WordRows} {p q : SharedState} where
   pub counted : KeepsRest w w′ → LeavesShared w′ w″ p → p ≡ q → LeavesShared w w″ q
   counted k s e = record { shared = s .shared ∙ e; clocks = s .clocks ∙ k .clocks; coded = λ c. s .coded (k .coded c) }
-
--- ---- one request more
-
-module _ (w w′ : WordRows) (r : Request) where
-  -- its row is stored where there is a place for it
-  pub record PutIn : Type 0 where
-    pub queue : queueFrom w′ ≡ set (queueFrom w) (countAt w 0) r
-    pub rest : KeepsRest w w′
-
-  pub put-counted : PutIn
-      → withCounts w (sharedFrom w′ .queue) (countAt w 0 + 1) (countAt w 1 + 1) (countAt w 2) (countAt w 3) ≡ withRequest (sharedFrom w) r
-  unfolding sharedFrom sharedOf
-  put-counted p = rw (p .queue)

@@ -1,84 +1,99 @@
+-- `queue_rows::move_up` meets its contract: at each turn those of the first `i` requests that stay stand in the first places.
+use mathlib.Core.Logic.{⊎-elim}
+use mathlib.Core.Path.{_≡_, refl}
+use Prim.Native.Nat.{_<_, _≤_, _-_, min}
+use lib.ListN.{length, length-set}
+use Rattle.engine.proofs.RequestRows.{countAt}
+use Rattle.engine.proofs.QueueRowLaws.{Moving, moving-none, moving-more, moving-left, moving-all}
 use borrow.Author.Needs.{needs}
 use native.Mathlib.Omega.{arith}
 use Rattle.engine.proofs.queue_rows.move_up.Statement.{statement}
 use Rattle.engine.proofs.queue_rows.move_up.Tie as tie
-use Rattle.engine.proofs.queue_rows.move_up.Reads as reads
-use Rattle.engine.proofs.queue_rows.move_up.Lts as lts
-use Rattle.engine.proofs.queue.used_places.Reads as used-places-reads
 
 abbrev Inv-loop : tie.InvT-loop
-Inv-loop words₀ index used kept₀ i₀ words kept i = ?
+Inv-loop words₀ index used kept₀ i₀ words kept i =
+    (i ≤ used) × (kept ≤ i) × (length words ≡ length words₀) × Moving words₀ index i words kept
 
 abbrev μ-loop : tie.MeasureT-loop
-μ-loop words₀ index used kept₀ i₀ words kept i = ?
+μ-loop words₀ index used kept₀ i₀ words kept i = used - i
 
--- src/queue_rows.rt:94:28
 index-1-used-places : tie.Need-index-1-used-places Inv-loop μ-loop
-index-1-used-places c = ?
+index-1-used-places c = search needs
 
--- src/queue_rows.rt:94:28
 index-2-used-places : tie.Need-index-2-used-places Inv-loop μ-loop
-index-2-used-places c = ?
+index-2-used-places c = search needs
 
--- src/queue_rows.rt:94:9
 used-places-requires : tie.Need-used-places-requires Inv-loop μ-loop
 used-places-requires c κs = search needs
 
--- src/queue_rows.rt:97:5
 loop-holds : tie.Need-loop-holds Inv-loop μ-loop
-loop-holds c = ?
+loop-holds c = (omega arith, omega arith, refl, moving-none (c .before .before .args .words .now) (c .before .before .args .index))
 
--- src/queue_rows.rt:98:25
 add-row : tie.Need-add-row Inv-loop μ-loop
 add-row c = omega arith
 
--- src/queue_rows.rt:98:19
 mul-row : tie.Need-mul-row Inv-loop μ-loop
 mul-row c = omega arith
 
--- src/queue_rows.rt:98:19
 slice-copy-out-row : tie.Need-slice-copy-out-row Inv-loop μ-loop
-slice-copy-out-row c = ?
+slice-copy-out-row c = omega (arith, c .before .before .used-places .ensures)
 
--- src/queue_rows.rt:99:12
 array-read-if1 : tie.Need-array-read-if1 Inv-loop μ-loop
-array-read-if1 c = ?
+array-read-if1 c = search needs
 
--- src/queue_rows.rt:100:19
 add-t21 : tie.Need-add-t21 Inv-loop μ-loop
 add-t21 c = omega arith
 
--- src/queue_rows.rt:100:13
 mul-t22 : tie.Need-mul-t22 Inv-loop μ-loop
 mul-t22 c = omega arith
 
--- src/queue_rows.rt:100:13
 slice-set-from-words : tie.Need-slice-set-from-words Inv-loop μ-loop
-slice-set-from-words c = ?
+slice-set-from-words c = omega (arith, c .before .before .before .before .used-places .ensures)
 
--- src/queue_rows.rt:101:13
 add-kept : tie.Need-add-kept Inv-loop μ-loop
 add-kept c = omega arith
 
--- src/queue_rows.rt:103:9
 add-i : tie.Need-add-i Inv-loop μ-loop
 add-i c = omega arith
 
--- src/queue_rows.rt:97:5
 loop-less : tie.Need-loop-less Inv-loop μ-loop
 loop-less c = omega arith
 
--- src/queue_rows.rt:97:5
 loop-again : tie.Need-loop-again Inv-loop μ-loop
-loop-again c = ?
+loop-again c =
+    let l = c .before .before .before in
+    let m = l .before .before .before in
+    let w₀ = m .args .words .now in
+    let w = l .loop .words in
+    let i = l .loop .i in
+    let kept = l .loop .kept in
+    let index = m .args .index in
+    let h : i < min (countAt w₀ 0) 16 = omega (arith, l .before .used-places .ensures) in
+    let sized : length w ≡ 177 = omega arith in
+    ⊎-elim
+    (λ x. (
+      omega arith,
+      omega (arith, x .2),
+      rw (x .1) (simp length-set (omega arith)),
+      rw (x .1, x .2) (moving-more w₀ w index i kept (l .loop .inv .3) h sized (x .0 .taken)),
+    ))
+    (λ x. (
+      omega arith,
+      omega (arith, x .2),
+      rw (x .1) (omega arith),
+      rw (x .1, x .2) (moving-left w₀ w index i kept (l .loop .inv .3) h (x .0 .left)),
+    ))
+    (c .if1 .came)
 
--- src/queue_rows.rt:90:1
 same-length : tie.Need-same-length Inv-loop μ-loop
-same-length c = ?
+same-length c = omega arith
 
--- src/queue_rows.rt:90:1
 returns : tie.Need-returns Inv-loop μ-loop
-returns c = ?
+returns c =
+    let l = c .before in
+    let a = l .before .before .before .args in
+    moving-all (a .words .now) (l .loop .words) (a .index) (l .loop .i) (l .loop .kept) (l .loop .inv .3)
+    (omega (arith, l .before .used-places .ensures))
 
 pub move-up-spec : {M : Type 1} → statement M
 move-up-spec =

@@ -1,4 +1,7 @@
 -- `queue_rows::next_request` meets its contract: at each turn `best` is the earliest of the requests from `i` on.
+use mathlib.Core.Option.{Option, some}
+use mathlib.Core.Path.{_≡_, sym, _∙_, ap₂}
+use Rattle.engine.specs.declared.state.Request.{Request}
 use mathlib.Core.Option.{some}
 use mathlib.Core.Path.{_≡_, sym, _∙_, ap}
 use Prim.Native.Nat.{_≤_, min, _-_}
@@ -58,7 +61,8 @@ loop-again c =
     let w = l .before .before .before .before .args .words .now in
     let i = l .loop .i in (
       omega arith,
-      c .earlier-of .ensures ∙ ?
+      c .earlier-of .ensures
+          ∙ ap₂ (λ (r : Request) (o : Option Request). earlierOf (some r) o) (c .before .request-at .ensures) (l .loop .inv .1)
           ∙ sym (next-more (row-back w i (omega arith) (omega arith))),
     )
 

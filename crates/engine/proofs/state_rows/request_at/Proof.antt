@@ -41,7 +41,9 @@ array-read-t25 c = search needs
 returns : tie.Need-returns
 unfolding requestFrom
 returns c =
-    rw (toZ-ofZ (record { sfits = c .i32-from .ok }) ∙ (c .i32-from .ensures ∙ ap (toZ w32) (c .before .u32-from .ensures)))
+    let read = ap (toZ w32) (c .before .u32-from .ensures) in
+    let e = toZ-ofZ (record { sfits = c .i32-from .ok }) ∙ (c .i32-from .ensures ∙ read) in
+    rw e
 
 pub request-at-spec : {M : Type 1} → statement M
 request-at-spec =

@@ -1,4 +1,10 @@
--- `state_rows::request_row` meets its contract.
+-- `state_rows::request_row` meets its contract: a priority's bits are read back as the priority.
+use mathlib.Core.Path.{sym, _∙_, ap}
+use native.Mathlib.Omega.{arith}
+use lib.IntN.{ℤ}
+use mir.Syntax.{w32}
+use mir.Val.{toZ, ofZ}
+use Rattle.engine.proofs.QueueLaws.{reads-back}
 use Rattle.engine.proofs.RequestRows.{row-of}
 use borrow.Author.Needs.{needs}
 use Rattle.engine.proofs.state_rows.request_row.Statement.{statement}
@@ -13,7 +19,9 @@ cast-t4 c = search needs
 returns : tie.Need-returns
 returns c =
     let m = c .before .before in
-    row-of (m .args .r) (c .bits-of-i32 .result) ? ?
+    let p = reads-back (m .args .r .priority) (m .good .0 .1 .1 .1 .1 .0 .1) in
+    row-of (m .args .r) (c .bits-of-i32 .result)
+    (ap (toZ w32) (c .bits-of-i32 .ensures) ∙ sym (p ∙ ap (λ (z : ℤ). toZ w32 (ofZ w32 z)) p)) (omega (arith, c .bits-of-i32 .ok))
 
 pub request-row-spec : {M : Type 1} → statement M
 request-row-spec = tie.close (tie.spec bits-of-i32-requires cast-t4 returns)
