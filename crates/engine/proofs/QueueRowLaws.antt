@@ -10,8 +10,7 @@ use lib.Seq.{set-out, take-suc-set, take-all, drop-set-lt, drop-drop, getD-drop}
 use Rattle.clocks.specs.Layout.{WordRows}
 use Rattle.engine.specs.Queue.{without}
 use Rattle.engine.specs.State.{emptyRequest, queuedRequests, withQueue, withRequest}
-use Rattle.engine.specs.StateRows.{requestFrom, queueFrom, sharedOf, sharedFrom, codedRequest}
-use Rattle.engine.specs.StateRows.{CodedShared, LeavesShared}
+use Rattle.engine.specs.StateRows.{requestFrom, queueFrom, sharedOf, sharedFrom, codedRequest, LeavesShared}
 use Rattle.engine.specs.QueueRowsInternals.{KeepsRest, MovedUp, ClearedFrom}
 use Rattle.engine.specs.declared.state.Request.{Request}
 use Rattle.engine.proofs.QueueLaws.{without-kept, without-left}

@@ -1,5 +1,5 @@
 -- The rows of requests and of the counts in lent memory: the queued requests one after another, and one row stored.
-use mathlib.Core.Path.{_≡_, refl, sym, _∙_, ap}
+use mathlib.Core.Path.{_≡_, refl, _∙_, ap}
 use mathlib.Core.Bool.{true}
 use mathlib.Core.List.{List, [], _∷_, _++_}
 use Prim.Native.Nat.{ℕ, _+_, _-_, _<_, _≤_, min}
@@ -7,12 +7,12 @@ use native.Mathlib.Nat.{mod-eq-of-lt}
 use native.Mathlib.Omega.{arith}
 use borrow.Author.Tests.{eqb-true, eqb-false, lt-ltb}
 use lib.Dec.{eqb}
-use mir.Syntax.{w32}
-use mir.Val.{toZ}
 use lib.ListN.{length, getD, set, take, drop}
 use lib.Seq.{getD-set-same, getD-set-other, take-set-le}
+use mir.Syntax.{w32}
+use mir.Val.{toZ}
 use Rattle.hazards.proofs.Cases.{by-test}
-use Rattle.clocks.specs.Layout.{WordRows, table}
+use Rattle.clocks.specs.Layout.{WordRows}
 use Rattle.clocks.proofs.Tables.{length-table, getD-table, table-set, table-same}
 use Rattle.engine.specs.State.{emptyRequest, queuedRequests}
 use Rattle.engine.specs.StateRows.{requestFrom, queueFrom, sharedOf, sharedFrom, codedCounts, codedRequest}
@@ -41,10 +41,6 @@ module _ (w : WordRows) where
 
   abbrev pub requestIn : ℕ → Request
   requestIn i = requestFrom (getD w (161 + i) [])
-
-  pub queue-in : sharedFrom w .queue ≡ queueFrom w
-  unfolding sharedFrom sharedOf
-  queue-in = refl
 
   pub queued-in : sharedFrom w .queued ≡ countAt 0
   unfolding sharedFrom sharedOf

@@ -1,10 +1,9 @@
 -- `queue_rows::clear_from` meets its contract: at each turn the places before `i` are as they shall be.
 use mathlib.Core.Path.{_≡_, refl}
 use Prim.Native.Nat.{_≤_, _-_}
+use native.Mathlib.Omega.{arith}
 use lib.ListN.{length, length-set}
 use Rattle.engine.proofs.QueueRowLaws.{Clearing, clearing-none, clearing-more, clearing-all}
-use borrow.Author.Needs.{needs}
-use native.Mathlib.Omega.{arith}
 use Rattle.engine.proofs.queue_rows.clear_from.Statement.{statement}
 use Rattle.engine.proofs.queue_rows.clear_from.Tie as tie
 

@@ -1,14 +1,14 @@
 -- `queue_rows::is_queued` meets its contract: at each turn the answer among the requests from `i` on is the answer among all.
 use mathlib.Core.Path.{refl, _≡_, sym, _∙_}
 use Prim.Native.Nat.{_≤_, _-_}
+use native.Mathlib.Omega.{arith}
 use lib.ListN.{drop}
+use borrow.Author.Needs.{needs}
 use Rattle.engine.specs.State.{queuedRequests}
 use Rattle.engine.specs.StateRows.{sharedFrom}
 use Rattle.engine.specs.Queue.{isQueued}
 use Rattle.engine.proofs.QueueLaws.{there-here, there-later, there-none}
 use Rattle.engine.proofs.RequestRows.{index-in, row-next, row-end}
-use borrow.Author.Needs.{needs}
-use native.Mathlib.Omega.{arith}
 use Rattle.engine.proofs.queue_rows.is_queued.Statement.{statement}
 use Rattle.engine.proofs.queue_rows.is_queued.Tie as tie
 

@@ -2,17 +2,17 @@
 use mathlib.Core.Logic.{⊎-elim}
 use mathlib.Core.Path.{_≡_, refl}
 use Prim.Native.Nat.{_<_, _≤_, _-_, min}
+use native.Mathlib.Omega.{arith}
 use lib.ListN.{length, length-set}
+use borrow.Author.Needs.{needs}
 use Rattle.engine.proofs.RequestRows.{countAt}
 use Rattle.engine.proofs.QueueRowLaws.{Moving, moving-none, moving-more, moving-left, moving-all}
-use borrow.Author.Needs.{needs}
-use native.Mathlib.Omega.{arith}
 use Rattle.engine.proofs.queue_rows.move_up.Statement.{statement}
 use Rattle.engine.proofs.queue_rows.move_up.Tie as tie
 
 abbrev Inv-loop : tie.InvT-loop
 Inv-loop words₀ index used kept₀ i₀ words kept i =
-    (i ≤ used) × (kept ≤ i) × (length words ≡ length words₀) × Moving words₀ index i words kept
+    (i ≤ used) × (length words ≡ length words₀) × Moving words₀ index i words kept
 
 abbrev μ-loop : tie.MeasureT-loop
 μ-loop words₀ index used kept₀ i₀ words kept i = used - i
@@ -27,7 +27,7 @@ used-places-requires : tie.Need-used-places-requires Inv-loop μ-loop
 used-places-requires c κs = search needs
 
 loop-holds : tie.Need-loop-holds Inv-loop μ-loop
-loop-holds c = (omega arith, omega arith, refl, moving-none (c .before .before .args .words .now) (c .before .before .args .index))
+loop-holds c = (omega arith, refl, moving-none (c .before .before .args .words .now) (c .before .before .args .index))
 
 add-row : tie.Need-add-row Inv-loop μ-loop
 add-row c = omega arith
@@ -73,15 +73,13 @@ loop-again c =
     ⊎-elim
     (λ x. (
       omega arith,
-      omega (arith, x .2),
       rw (x .1) (simp length-set (omega arith)),
-      rw (x .1, x .2) (moving-more w₀ w index i kept (l .loop .inv .3) h sized (x .0 .taken)),
+      rw (x .1, x .2) (moving-more w₀ w index i kept (l .loop .inv .2) h sized (x .0 .taken)),
     ))
     (λ x. (
       omega arith,
-      omega (arith, x .2),
       rw (x .1) (omega arith),
-      rw (x .1, x .2) (moving-left w₀ w index i kept (l .loop .inv .3) h (x .0 .left)),
+      rw (x .1, x .2) (moving-left w₀ w index i kept (l .loop .inv .2) h (x .0 .left)),
     ))
     (c .if1 .came)
 
@@ -92,7 +90,7 @@ returns : tie.Need-returns Inv-loop μ-loop
 returns c =
     let l = c .before in
     let a = l .before .before .before .args in
-    moving-all (a .words .now) (l .loop .words) (a .index) (l .loop .i) (l .loop .kept) (l .loop .inv .3)
+    moving-all (a .words .now) (l .loop .words) (a .index) (l .loop .i) (l .loop .kept) (l .loop .inv .2)
     (omega (arith, l .before .used-places .ensures))
 
 pub move-up-spec : {M : Type 1} → statement M

@@ -1,19 +1,17 @@
 -- `queue_rows::next_request` meets its contract: at each turn `best` is the earliest of the requests from `i` on.
-use mathlib.Core.Option.{Option, some}
 use mathlib.Core.Path.{_≡_, sym, _∙_, ap₂}
-use Rattle.engine.specs.declared.state.Request.{Request}
-use mathlib.Core.Option.{some}
-use mathlib.Core.Path.{_≡_, sym, _∙_, ap}
+use mathlib.Core.Option.{Option, some}
 use Prim.Native.Nat.{_≤_, min, _-_}
+use native.Mathlib.Omega.{arith}
 use lib.ListN.{drop}
+use borrow.Author.Needs.{needs}
 use Rattle.engine.specs.State.{queuedRequests}
 use Rattle.engine.specs.StateRows.{sharedFrom}
 use Rattle.engine.specs.QueueInternals.{pickOf}
 use Rattle.engine.specs.Queue.{nextRequest, earlierOf}
+use Rattle.engine.specs.declared.state.Request.{Request}
 use Rattle.engine.proofs.QueueLaws.{next-more, next-none}
 use Rattle.engine.proofs.RequestRows.{countAt, row-back, row-end}
-use borrow.Author.Needs.{needs}
-use native.Mathlib.Omega.{arith}
 use Rattle.engine.proofs.queue_rows.next_request.Statement.{statement}
 use Rattle.engine.proofs.queue_rows.next_request.Tie as tie
 

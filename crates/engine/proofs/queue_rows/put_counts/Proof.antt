@@ -1,6 +1,6 @@
 -- `queue_rows::put_counts` meets its contract: the row of the counts is stored, with the spare places as they were.
-use Rattle.engine.proofs.RequestRows.{counts-stored}
 use borrow.Author.Needs.{needs}
+use Rattle.engine.proofs.RequestRows.{counts-stored}
 use Rattle.engine.proofs.queue_rows.put_counts.Statement.{statement}
 use Rattle.engine.proofs.queue_rows.put_counts.Tie as tie
 

@@ -3,9 +3,9 @@ use mathlib.Core.Logic.{⊎-elim}
 use mathlib.Core.Path.{_∙_}
 use native.Mathlib.Omega.{arith}
 use lib.ListN.{length-set}
+use borrow.Author.Needs.{needs}
 use Rattle.engine.proofs.RequestRows.{queued-in, made-in}
 use Rattle.engine.proofs.QueueRowLaws.{PutIn, put-stored, put-beyond, put-in-left}
-use borrow.Author.Needs.{needs}
 use Rattle.engine.proofs.queue_rows.put_in.Statement.{statement}
 use Rattle.engine.proofs.queue_rows.put_in.Tie as tie
 

@@ -1,6 +1,6 @@
 -- `queue_rows::take_out` meets its contract: requests moved up, the places after them emptied, and then the counts.
-use Rattle.engine.proofs.QueueRowLaws.{taken-out}
 use borrow.Author.Needs.{needs}
+use Rattle.engine.proofs.QueueRowLaws.{taken-out}
 use Rattle.engine.proofs.queue_rows.take_out.Statement.{statement}
 use Rattle.engine.proofs.queue_rows.take_out.Tie as tie
 

@@ -1,10 +1,10 @@
 -- `state_rows::request_at` meets its contract.
-use mathlib.Core.Path.{_∙_, ap}
-use mir.Facts.{toZ-ofZ}
+use mathlib.Core.Path.{sym, _∙_, ap}
 use mir.Syntax.{w32}
 use mir.Val.{toZ}
-use Rattle.engine.specs.StateRows.{requestFrom}
 use borrow.Author.Needs.{needs}
+use Rattle.engine.specs.StateRows.{requestFrom}
+use Rattle.engine.proofs.QueueLaws.{reads-back}
 use Rattle.engine.proofs.state_rows.request_at.Statement.{statement}
 use Rattle.engine.proofs.state_rows.request_at.Tie as tie
 
@@ -41,9 +41,8 @@ array-read-t25 c = search needs
 returns : tie.Need-returns
 unfolding requestFrom
 returns c =
-    let read = ap (toZ w32) (c .before .u32-from .ensures) in
-    let e = toZ-ofZ (record { sfits = c .i32-from .ok }) ∙ (c .i32-from .ensures ∙ read) in
-    rw e
+    let priority = sym (reads-back (c .i32-from .result) (c .i32-from .ok)) in
+    rw (priority ∙ (c .i32-from .ensures ∙ ap (toZ w32) (c .before .u32-from .ensures)))
 
 pub request-at-spec : {M : Type 1} → statement M
 request-at-spec =

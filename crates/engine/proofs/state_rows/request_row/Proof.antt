@@ -4,9 +4,9 @@ use native.Mathlib.Omega.{arith}
 use lib.IntN.{ℤ}
 use mir.Syntax.{w32}
 use mir.Val.{toZ, ofZ}
+use borrow.Author.Needs.{needs}
 use Rattle.engine.proofs.QueueLaws.{reads-back}
 use Rattle.engine.proofs.RequestRows.{row-of}
-use borrow.Author.Needs.{needs}
 use Rattle.engine.proofs.state_rows.request_row.Statement.{statement}
 use Rattle.engine.proofs.state_rows.request_row.Tie as tie
 
