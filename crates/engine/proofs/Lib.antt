@@ -24,6 +24,8 @@ pub mod IndexLaws
 pub mod DistinctIndices
 pub mod QueueLaws
 pub mod QueuePlaces
+pub mod RequestRows
+pub mod QueueRowLaws
 pub mod QueueRoom
 -- state validation, and the invariant of the states reached from opening
 pub mod ValidationLaws

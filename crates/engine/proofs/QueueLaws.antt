@@ -148,11 +148,11 @@ unfolding without
 without-length index us = keep-length (λ r. not (eqb (r .index) index)) us
 
 module _ (index : ℕ) (us : List Request) (r : Request) {vs : List Request} (last : vs ≡ us ++ (r ∷ [])) where
-  without-kept : (r .index ≡ index → ⊥) → without index vs ≡ without index us ++ (r ∷ [])
+  pub without-kept : (r .index ≡ index → ⊥) → without index vs ≡ without index us ++ (r ∷ [])
   unfolding without
   without-kept h = rw (last, keep-append (λ x. not (eqb (x .index) index)) us (r ∷ []), ne-eqb _ _ h)
 
-  without-left : r .index ≡ index → without index vs ≡ without index us
+  pub without-left : r .index ≡ index → without index vs ≡ without index us
   unfolding without
   without-left h = rw (last, keep-append (λ x. not (eqb (x .index) index)) us (r ∷ []), eq-eqb _ _ h) (append-nil _)
 

@@ -8,18 +8,20 @@ use Rattle.engine.specs.State.{emptyRequest}
 use Rattle.engine.specs.StateRows.{queueFrom, CodedShared}
 use Rattle.engine.specs.declared.state.Request.{Request}
 
--- rs stand in the first places of w′, as many as kept says; the clocks' rows and the counts are those of w
-pub record MovedUp (w w′ : WordRows) (rs : List Request) (kept : ℕ) : Type 0 where
-  pub many : kept ≡ length rs
-  pub few : kept ≤ 16
-  pub first : take kept (queueFrom w′) ≡ rs
+-- only rows of requests are changed: the counts and the clocks' rows are those of w
+pub record KeepsRest (w w′ : WordRows) : Type 0 where
   pub counts : getD w′ 160 [] ≡ getD w 160 []
   pub clocks : take 160 w′ ≡ take 160 w
   pub coded : CodedShared w → CodedShared w′
 
--- the places from one on are empty, those before it and all other rows those of w
+-- rs stand in the first places of w′, as many as kept says
+pub record MovedUp (w w′ : WordRows) (rs : List Request) (kept : ℕ) : Type 0 where
+  pub many : kept ≡ length rs
+  pub few : kept ≤ 16
+  pub first : take kept (queueFrom w′) ≡ rs
+  pub rest : KeepsRest w w′
+
+-- the places from one on are empty, those before it are those of w
 pub record ClearedFrom (w w′ : WordRows) (from : ℕ) : Type 0 where
   pub queue : queueFrom w′ ≡ take from (queueFrom w) ++ replicate (16 - from) emptyRequest
-  pub counts : getD w′ 160 [] ≡ getD w 160 []
-  pub clocks : take 160 w′ ≡ take 160 w
-  pub coded : CodedShared w → CodedShared w′
+  pub rest : KeepsRest w w′
