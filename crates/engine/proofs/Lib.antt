@@ -14,6 +14,7 @@ pub mod AcceptedFields
 pub mod ExecutionCases
 pub mod PerformedWays
 pub mod PerformedTargets
+pub mod SharedInPlace
 pub mod SharedLaws
 pub mod SlotLaws
 -- requests and the queue
@@ -68,5 +69,6 @@ pub mod RunUndos
 pub mod RunReverts
 -- the table of rows, and a list worked through
 pub mod Computed
+pub mod RescheduledInPlace
 pub mod Rows
 pub mod Worked
