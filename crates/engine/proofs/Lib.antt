@@ -14,7 +14,6 @@ pub mod AcceptedFields
 pub mod ExecutionCases
 pub mod PerformedWays
 pub mod PerformedTargets
-pub mod SharedInPlace
 pub mod SharedLaws
 pub mod SlotLaws
 -- requests and the queue
@@ -44,6 +43,8 @@ pub mod Replays
 pub mod Splits
 pub mod StateParts
 pub mod CommandsInPlace
+pub mod SharedInPlace
+pub mod RescheduledInPlace
 pub mod ReplayLaws
 pub mod ExecuteLaws
 -- demand 3: of any engine that meets the laws, then of this one
@@ -69,6 +70,5 @@ pub mod RunUndos
 pub mod RunReverts
 -- the table of rows, and a list worked through
 pub mod Computed
-pub mod RescheduledInPlace
 pub mod Rows
 pub mod Worked

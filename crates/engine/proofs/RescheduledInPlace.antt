@@ -1,5 +1,5 @@
--- RESCHEDULE and RESUME in place, by the method that they call: without room, and done.
-use mathlib.Core.Path.{_≡_, refl, sym, _∙_, ap, ap₂}
+-- RESCHEDULE and RESUME in place, by the method that they call: refused, without room, and done.
+use mathlib.Core.Path.{_≡_, refl, _∙_, ap, ap₂}
 use mathlib.Core.Bool.{true, false}
 use mathlib.Core.List.{List}
 use Prim.Native.Nat.{ℕ, _+_}

@@ -1,7 +1,6 @@
 -- `execution_rows::requeue` meets its contract.
 use mathlib.Core.Path.{_≡_, _∙_, ap}
 use mathlib.Core.Bool.{Bool, cond}
-use native.Mathlib.Omega.{arith}
 use lib.ListN.{length}
 use Rattle.engine.specs.declared.state.SharedState.{SharedState}
 use Rattle.engine.specs.State.{withRequest, withAppliedBytes}
