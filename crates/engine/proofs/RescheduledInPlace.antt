@@ -70,7 +70,8 @@ module _ (w : WordRows) (f : FloatRows) (n : ℕ) (c : List ℕ) (method : Survi
       reschedule-made l left l′ asks then l″ q =
           let answers =
           q
-          ∙ ap₂ (λ (x : SharedState) (g : QueueChange). eventAnswer (g .event) (isWithdrawn x (g .withdrawn)) (g .ticks)) (left .shared) asks in
+          ∙ ap₂ (λ (x : SharedState) (g : QueueChange). eventAnswer (g .event) (isWithdrawn x (g .withdrawn)) (g .ticks))
+          (left .shared) asks in
           carried-out w f c (rescheduleFaults c) on e h (reschedule-done n p c outcome l refl refl refl answers)
           (ap (λ (x : Answer). x .number) answers) left l′
           (shared-as then
