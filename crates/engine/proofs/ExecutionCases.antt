@@ -138,7 +138,7 @@ module _ (f : Faults) (slot : ClockSlot) (d : SurvivalClock → OnSlot) {number 
 
 -- ---- RESCHEDULE and RESUME, by the method that they call
 module _ (n : ℕ) (slot : ClockSlot) (p : SharedState) (c : List ℕ) (method : SurvivalClock → Float → Censor → ℕ → Rescheduled) where
-  abbrev methodOn : SurvivalClock → OnSlot
+  abbrev pub methodOn : SurvivalClock → OnSlot
   methodOn k = afterReschedule n p c (method k (nowOf c) (censorOf c) (p .«request_count»))
 
   module _ {number : ℕ} {faults : Faults} (e : number ≡ refusalOf (slot .present) faults) (f : faults ≡ rescheduleFaults c) where

@@ -43,6 +43,8 @@ pub mod Replays
 pub mod Splits
 pub mod StateParts
 pub mod CommandsInPlace
+pub mod SharedInPlace
+pub mod RescheduledInPlace
 pub mod ReplayLaws
 pub mod ExecuteLaws
 -- demand 3: of any engine that meets the laws, then of this one
