@@ -30,23 +30,31 @@ zero-bits-requires-4 c κs = search needs
 
 returns : tie.Need-returns
 returns c =
+    let third = c .before .before in
+    let second = third .before .before .before in
+    let first = second .before .before .before in
     rw (
-      sym (c .before .before .before .before .before .before .before .before .before .zero-bits .ensures) ∙ c .before .before .before .before .before .before .before .before .if1 .taken,
-      sym (c .before .before .before .before .before .before .zero-bits2 .ensures) ∙ c .before .before .before .before .before .if2 .taken,
-      sym (c .before .before .before .zero-bits3 .ensures) ∙ c .before .before .if3 .taken,
+      sym (first .before .zero-bits .ensures) ∙ first .if1 .taken,
+      sym (second .before .zero-bits2 .ensures) ∙ second .if2 .taken,
+      sym (third .before .zero-bits3 .ensures) ∙ third .if3 .taken,
       c .zero-bits4 .ensures,
     )
 
 returns-2 : tie.Need-returns-2
 returns-2 c =
+    let second = c .before .before .before in
+    let first = second .before .before .before in
     rw (
-      sym (c .before .before .before .before .before .before .before .zero-bits .ensures) ∙ c .before .before .before .before .before .before .if1 .taken,
-      sym (c .before .before .before .before .zero-bits2 .ensures) ∙ c .before .before .before .if2 .taken,
+      sym (first .before .zero-bits .ensures) ∙ first .if1 .taken,
+      sym (second .before .zero-bits2 .ensures) ∙ second .if2 .taken,
       sym (c .before .zero-bits3 .ensures) ∙ c .if3 .left,
-    ) (c .if3 .left)
+    )
+    (c .if3 .left)
 
 returns-3 : tie.Need-returns-3
-returns-3 c = rw (sym (c .before .before .before .before .zero-bits .ensures) ∙ c .before .before .before .if1 .taken, sym (c .before .zero-bits2 .ensures) ∙ c .if2 .left) (c .if2 .left)
+returns-3 c =
+    let first = c .before .before .before in
+    rw (sym (first .before .zero-bits .ensures) ∙ first .if1 .taken, sym (c .before .zero-bits2 .ensures) ∙ c .if2 .left) (c .if2 .left)
 
 returns-4 : tie.Need-returns-4
 returns-4 c = rw (sym (c .before .zero-bits .ensures) ∙ c .if1 .left) (c .if1 .left)

@@ -1,4 +1,4 @@
--- `validation_rows::valid_clock` meets its contract: at each turn the channels from j on pass, their causes from `least` on, where all pass.
+-- `validation_rows::valid_clock` meets its contract: at each turn the channels from j on, their causes from `least` on, pass where all do.
 use mathlib.Core.Path.{_≡_, refl, sym, _∙_}
 use Prim.Native.Nat.{_≤_, _-_}
 use borrow.Author.Tests.{not-true, not-false}

@@ -30,14 +30,16 @@ is-finite-requires-3 c κs = search needs
 returns-2 : tie.Need-returns-2
 returns-2 c =
     let b = c .before in
-    let pass = two-pass _ _ _ (b .before .before .before .is-finite .ensures) (b .before .is-finite2 .ensures) (not-false _ (b .if1 .left)) in
+    let first = b .before .before .before .is-finite .ensures in
+    let pass = two-pass _ _ _ first (b .before .is-finite2 .ensures) (not-false _ (b .if1 .left)) in
     let winner = b .before .before .before .before .before .args .winner in
     c .if2 .taken ∙ sym (pass ∙ rw (not-true winner (c .if2 .taken)))
 
 returns-3 : tie.Need-returns-3
 returns-3 c =
     let b = c .before .before .before in
-    let pass = two-pass _ _ _ (b .before .before .before .is-finite .ensures) (b .before .is-finite2 .ensures) (not-false _ (b .if1 .left)) in
+    let first = b .before .before .before .is-finite .ensures in
+    let pass = two-pass _ _ _ first (b .before .is-finite2 .ensures) (not-false _ (b .if1 .left)) in
     let winner = b .before .before .before .before .before .args .winner in
     c .is-finite3 .ensures ∙ sym (pass ∙ rw (not-false winner (c .before .before .if2 .left)))
 
