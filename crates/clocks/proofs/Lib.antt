@@ -3,10 +3,12 @@ pub mod AscendingCauses
 pub mod ChannelStores
 pub mod ChangedPlaces
 pub mod ClearedRows
+pub mod CodedRows
 pub mod EachChannel
 pub mod EachLaws
 pub mod EarliestTurns
 pub mod EventTimes
+pub mod EveryBelow
 pub mod OwnRows
 pub mod PlaceRows
 pub mod PausedRows
@@ -30,4 +32,5 @@ pub mod Tables
 pub mod TickRounding
 pub mod TickValues
 pub mod UsedChannels
+pub mod ValidRows
 pub mod ValidationNotKept

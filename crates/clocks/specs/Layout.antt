@@ -8,7 +8,7 @@
 --   floats 1 + 3 j, of channel j: accumulated hazard, threshold, interval start, the hazard's own rate; four spare
 --   floats 2 + 3 j and 3 + 3 j, of channel j: ends and rates of its pairs
 use mathlib.Core.Path.{_≡_}
-use mathlib.Core.Bool.{Bool, true, not, cond, _&&_, _||_}
+use mathlib.Core.Bool.{Bool, true, not, _&&_, _||_}
 use mathlib.Core.List.{List, [], _∷_}
 use Prim.Native.Nat.{ℕ, zero, suc, _+_, _*_, _%_, _<_}
 use lib.Dec.{eqb, ltb}
@@ -31,6 +31,11 @@ FloatRows = List (List Float)
 unfoldable pub table : {A : Type 0} → ℕ → (ℕ → A) → List A
 table zero f = []
 table (suc n) f = f 0 ∷ table n (λ i. f (suc i))
+
+-- a test of every place below n
+unfoldable pub everyBelow : ℕ → (ℕ → Bool) → Bool
+everyBelow zero test = true
+everyBelow (suc n) test = everyBelow n test && test n
 
 -- ---- what words are read as
 
@@ -106,10 +111,13 @@ codedSchedule b =
     && (isU32 (getD b 3 0)
     && (isFlag (getD b 4 0) && (eqb (getD b 5 0) 0 && (eqb (getD b 6 0) 0 && eqb (getD b 7 0) 0)))))
 
+-- +0.0 in the last four places
+abbrev pub spareZero : List Float → Bool
+spareZero ns =
+    zeroBits (getD ns 4 nan) && (zeroBits (getD ns 5 nan) && (zeroBits (getD ns 6 nan) && zeroBits (getD ns 7 nan)))
+
 unfoldable pub codedTimes : List Float → Bool
-codedTimes ts =
-    zeroBits (getD ts 3 nan)
-    && (zeroBits (getD ts 4 nan) && (zeroBits (getD ts 5 nan) && (zeroBits (getD ts 6 nan) && zeroBits (getD ts 7 nan))))
+codedTimes ts = zeroBits (getD ts 3 nan) && spareZero ts
 
 unfoldable pub codedWords : List ℕ → Bool
 codedWords ws =
@@ -120,13 +128,20 @@ codedWords ws =
 
 -- a hazard of kind 0 has no rate of its own: +0.0 stands there
 unfoldable pub codedNumbers : ℕ → List Float → Bool
-codedNumbers kind ns =
-    (not (eqb kind 0) || zeroBits (getD ns 3 nan))
-    && (zeroBits (getD ns 4 nan) && (zeroBits (getD ns 5 nan) && (zeroBits (getD ns 6 nan) && zeroBits (getD ns 7 nan))))
+codedNumbers kind ns = (not (eqb kind 0) || zeroBits (getD ns 3 nan)) && spareZero ns
 
 abbrev pub codedChannel : List ℕ → List Float → Bool
 codedChannel ws ns = codedWords ws && codedNumbers (getD ws 2 0) ns
 
+-- every channel, used or not
+abbrev pub codedChannels : WordRows → FloatRows → Bool
+codedChannels w f = everyBelow 8 (λ j. codedChannel (getD w (2 + j) []) (getD f (1 + 3 * j) []))
+
+unfoldable pub codedClock : WordRows → FloatRows → Bool
+codedClock w f =
+    codedSettings (getD w 0 []) && (codedSchedule (getD w 1 []) && (codedTimes (getD f 0 []) && codedChannels w f))
+
+-- the same as facts
 pub record Coded (w : WordRows) (f : FloatRows) : Type 0 where
   pub settings : codedSettings (getD w 0 []) ≡ true
   pub schedule : codedSchedule (getD w 1 []) ≡ true

@@ -11,3 +11,4 @@ pub mod scheduling;
 pub mod setting;
 pub mod setting_rows;
 pub mod ticks;
+pub mod validation_rows;

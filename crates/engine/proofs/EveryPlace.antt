@@ -1,32 +1,12 @@
--- A test of every place below n: one place more, and one that fails; and the loop that holds two lists against each other place by place.
+-- The loop that holds two lists against each other place by place.
 use mathlib.Core.Path.{_≡_, refl, sym, _∙_}
 use mathlib.Core.Bool.{Bool, true, false}
 use mathlib.Core.List.{List, [], _∷_}
 use Prim.Native.Nat.{ℕ, zero, suc, _+_, _≤_, _<_}
-use native.Mathlib.Numerals.{add-one}
 use native.Mathlib.Omega.{arith}
-use borrow.Author.Tests.{eqb-true, eqb-false}
-use lib.Dec.{eqb}
 use lib.ListN.{length, getD}
-use Rattle.hazards.proofs.Cases.{by-test}
+use Rattle.clocks.proofs.EveryBelow.{every-none, every-more, every-fails}
 use Rattle.engine.specs.Comparison.{everyBelow}
-use Rattle.engine.proofs.Conjunctions.{and-false}
-
-module _ (test : ℕ → Bool) where
-  pub every-none : everyBelow 0 test ≡ true
-  unfolding everyBelow
-  every-none = refl
-
-  pub every-more : (n : ℕ) → everyBelow n test ≡ true → test n ≡ true → everyBelow (n + 1) test ≡ true
-  unfolding everyBelow
-  every-more n e h = rw (add-one n, e, h)
-
-  pub every-fails : (n k : ℕ) → k < n → test k ≡ false → everyBelow n test ≡ false
-  unfolding everyBelow
-  every-fails zero k l e = absurd (omega arith)
-  every-fails (suc n) k l e =
-      by-test (eqb k n) (λ q. rw (← eqb-true k n q, e, and-false (everyBelow k test)))
-      (λ q. let m : k < n = omega (arith, eqb-false k n q) in rw (every-fails n k m e))
 
 -- a place within a list is read with any default
 pub getD-any : {A : Type 0} (l : List A) (i : ℕ) (d e : A) → i < length l → getD l i d ≡ getD l i e

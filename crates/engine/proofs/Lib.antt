@@ -29,6 +29,8 @@ pub mod QueueRowLaws
 pub mod QueueRoom
 -- state validation, and the invariant of the states reached from opening
 pub mod ValidationLaws
+pub mod CodedStates
+pub mod ValidStates
 pub mod SoundState
 pub mod SoundValid
 pub mod SoundQueues

@@ -1,8 +1,7 @@
 -- Document 01, refusal 13 ("end in another state"): two states are the same where every field is, used or not; floats by their bits, with
 -- all NaNs alike.
-use mathlib.Core.Bool.{Bool, true, false, not, cond, _&&_}
+use mathlib.Core.Bool.{Bool, false, not, cond, _&&_}
 use mathlib.Core.List.{List}
-use Prim.Native.Nat.{ℕ, zero, suc}
 use lib.Dec.{eqb}
 use lib.IntN.{ℤ}
 use lib.Signed.{leZ}
@@ -15,6 +14,7 @@ use Rattle.hazards.specs.declared.rates.HazardRate.{HazardRate}
 use Rattle.hazards.specs.declared.rates.Intervals.{Intervals}
 use Rattle.clocks.specs.Channels.{emptyChannel}
 use Rattle.clocks.specs.Clocks.{policyNumber}
+unfoldable pub use Rattle.clocks.specs.Layout.{everyBelow}
 use Rattle.clocks.specs.declared.channels.HazardChannelState.{HazardChannelState}
 use Rattle.clocks.specs.declared.clocks.EntityId.{EntityId}
 use Rattle.clocks.specs.declared.clocks.ScheduledEvent.{ScheduledEvent}
@@ -37,12 +37,6 @@ sameInteger a b = leZ a b && leZ b a
 
 unfoldable pub sameFloat : Float → Float → Bool
 sameFloat x y = cond (isNan x) (isNan y) (cond (isNan y) false (eqb (toBits binary64 x) (toBits binary64 y)))
-
--- ---- arrays: a test of every place below n
-
-unfoldable pub everyBelow : ℕ → (ℕ → Bool) → Bool
-everyBelow zero test = true
-everyBelow (suc n) test = everyBelow n test && test n
 
 -- ---- channels
 

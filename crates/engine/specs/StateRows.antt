@@ -14,7 +14,7 @@ use mir.Val.{toZ}
 use mir.Syntax.{w32}
 use Rattle.hazards.specs.Answers.{noEvent}
 use Rattle.hazards.specs.declared.answers.Answer.{Answer}
-use Rattle.clocks.specs.Layout.{WordRows, FloatRows, table, u32From, isU32, clockFrom, presentIn, Coded}
+use Rattle.clocks.specs.Layout.{WordRows, FloatRows, table, everyBelow, u32From, isU32, clockFrom, presentIn, codedClock, Coded}
 use Rattle.clocks.specs.declared.clocks.SurvivalClock.{SurvivalClock}
 use Rattle.engine.specs.Engine.{Performed, rejected, performed}
 use Rattle.engine.specs.State.{slotAt, withSlot}
@@ -70,6 +70,16 @@ codedCounts row = eqb (getD row 4 0) 0 && (eqb (getD row 5 0) 0 && (eqb (getD ro
 unfoldable pub codedRequest : List ℕ → Bool
 codedRequest row = isU32 (getD row 3 0) && (eqb (getD row 5 0) 0 && (eqb (getD row 6 0) 0 && eqb (getD row 7 0) 0))
 
+abbrev pub codedRequests : WordRows → Bool
+codedRequests w = everyBelow 16 (λ i. codedRequest (getD w (161 + i) []))
+
+abbrev pub codedClocks : WordRows → FloatRows → Bool
+codedClocks w f = everyBelow 16 (λ k. codedClock (partAt 10 k w) (partAt 25 k f))
+
+unfoldable pub codedState : WordRows → FloatRows → Bool
+codedState w f = codedClocks w f && (codedCounts (getD w 160 []) && codedRequests w)
+
+-- the same as facts
 pub record CodedShared (w : WordRows) : Type 0 where
   pub counts : codedCounts (getD w 160 []) ≡ true
   pub requests : (i : ℕ) → i < 16 → codedRequest (getD w (161 + i) []) ≡ true
@@ -103,7 +113,8 @@ abbrev pub performedOf : EngineState → Answer → Performed EngineState Answer
 performedOf s a = cond (eqb (a .number) 0) (performed s a) (rejected (a .number))
 
 -- what a command in place leaves: what it is defined to, and where it is refused every word and float as it was
-pub record Performs (w : WordRows) (f : FloatRows) (o : Performed EngineState Answer) (w′ : WordRows) (f′ : FloatRows) (a : Answer) : Type 0 where
+pub record Performs (w : WordRows) (f : FloatRows) (o : Performed EngineState Answer) (w′ : WordRows) (f′ : FloatRows) (a : Answer)
+    : Type 0 where
   pub does : performedOf (stateFrom w′ f′) a ≡ o
   pub keeps : (a .number ≡ 0 → ⊥) → (w′ ≡ w) × (f′ ≡ f) × (a ≡ noEvent (a .number))
   pub coded : CodedState w f → CodedState w′ f′

@@ -15,3 +15,4 @@ pub mod state;
 pub mod state_rows;
 pub mod theorem;
 pub mod validation;
+pub mod validation_rows;

@@ -44,7 +44,7 @@ returns : tie.Need-returns
 returns c =
     let e = c .before .before .create .ensures in
     let k = c .before .before .before in
-    let l = k .before .before in
+    let l = k .before .before .before .before in
     let m = l .before .before in
     let q = m .before .before in (
       e .0
