@@ -79,9 +79,10 @@ returns c =
           (leaves-as (call .ensures .0)
           (ap (λ (x : SurvivalClock). setChannel x (a .setting) (a .stream .now) position .clock) there)),
       call .ensures .1 ∙ ap (λ (x : SurvivalClock). channelDraw (setChannel x (a .setting) (a .stream .now) position)) there,
-      λ n.
-          (ap (λ (z : WordRows). putMid (10 * k) (wordsLent k) w z) (call .ensures .2 n .0) ∙ put-same (10 * k) (wordsLent k) w,
-          ap (λ (y : FloatRows). putMid (25 * k) (floatsLent k) f y) (call .ensures .2 n .1) ∙ put-same (25 * k) (floatsLent k) f),
+      λ n. (
+        ap (λ (z : WordRows). putMid (10 * k) (wordsLent k) w z) (call .ensures .2 n .0) ∙ put-same (10 * k) (wordsLent k) w,
+        ap (λ (y : FloatRows). putMid (25 * k) (floatsLent k) f y) (call .ensures .2 n .1) ∙ put-same (25 * k) (floatsLent k) f,
+      ),
     )
 
 pub set-in-spec : {M : Type 1} → statement M
