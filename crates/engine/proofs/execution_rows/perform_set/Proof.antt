@@ -50,14 +50,16 @@ same-length c = search needs
 returns : tie.Need-returns
 unfolding performSet
 returns c =
-    let m = c .before .before .before .before .before .before .before in
+    let q = c .before .before in
+    let m = q .before .before .before .before .before in
     let a = m .args in
     let w = a .words .now in
     let f = a .floats .now in
     let b = a .command .now in
     let here = slotAt (stateFrom w f) (clockOf b) .present in
-    let e = c .before .before .refusal-of .ensures f ∙ ap (refusalOf here) (c .before .before .before .set-faults .ensures) in
-    turned-away w f b (setFaults b) (setOn (a .journal-length) (sharedFrom w) b (a .stream .now)) e (c .before .if1 .taken) (c .no-event .ensures)
+    let e = q .refusal-of .ensures f ∙ ap (refusalOf here) (q .before .set-faults .ensures) in
+    turned-away w f b (setFaults b) (setOn (a .journal-length) (sharedFrom w) b (a .stream .now)) e (c .before .if1 .taken)
+    (c .no-event .ensures)
 
 byte-at-requires : tie.Need-byte-at-requires
 byte-at-requires c κs = search needs
@@ -71,15 +73,16 @@ setting-of-requires c κs = search needs
 takes-cause-requires : tie.Need-takes-cause-requires
 takes-cause-requires c κs =
     let t = c .before in
-    let m = t .before .before .before .before .before .before .before .before in
+    let q = t .before .before in
+    let m = q .before .before .before .before .before .before in
     let a = m .args in
     let w = a .words .now in
     let f = a .floats .now in
     let b = a .command .now in
     let here = slotAt (stateFrom w f) (clockOf b) in
-    let e = t .before .before .before .refusal-of .ensures f ∙ ap (refusalOf (here .present)) (t .before .before .before .before .set-faults .ensures) in
+    let e = q .before .refusal-of .ensures f ∙ ap (refusalOf (here .present)) (q .before .before .set-faults .ensures) in
     let does = setOn (a .journal-length) (sharedFrom w) b (a .stream .now) in
-    let clean = there-clean (setFaults b) here does e (t .before .before .if1 .left) in
+    let clean = there-clean (setFaults b) here does e (q .if1 .left) in
     (rw (t .before .byte-at .ensures) (set-accepted b clean .clock), m .pre .sized .words)
 
 no-event-requires-2 : tie.Need-no-event-requires-2
@@ -91,20 +94,22 @@ same-length-2 c = search needs
 returns-2 : tie.Need-returns-2
 unfolding performSet
 returns-2 c =
-    let t = c .before .before .before .before in
-    let m = t .before .before .before .before .before .before .before .before in
+    let i = c .before in
+    let t = i .before .before .before in
+    let q = t .before .before in
+    let m = q .before .before .before .before .before .before in
     let a = m .args in
     let w = a .words .now in
     let f = a .floats .now in
     let b = a .command .now in
     let here = slotAt (stateFrom w f) (clockOf b) in
-    let e = t .before .before .before .refusal-of .ensures f ∙ ap (refusalOf (here .present)) (t .before .before .before .before .set-faults .ensures) in
+    let e = q .before .refusal-of .ensures f ∙ ap (refusalOf (here .present)) (q .before .before .set-faults .ensures) in
     let does = setOn (a .journal-length) (sharedFrom w) b (a .stream .now) in
     let r = setChannel (here .clock) (settingOf b) (a .stream .now) (sharedFrom w .position) in
     let taken : takesCause (here .clock) (settingOf b .«cause_id») ≡ false =
-    sym (rw (t .setting-of .ensures, t .before .byte-at .ensures) at (c .before .before .takes-cause .ensures f)) ∙ not-true _ (c .before .if2 .taken) in
+    sym (rw (t .setting-of .ensures, t .before .byte-at .ensures) at (i .before .takes-cause .ensures f)) ∙ not-true _ (i .if2 .taken) in
     let ninth : r .number ≡ tooManyCauses = not-taken (here .clock) (settingOf b) (a .stream .now) (sharedFrom w .position) taken in
-    refused-later w f b (setFaults b) does e (t .before .before .if1 .left) tooManyCauses (λ z. omega arith)
+    refused-later w f b (setFaults b) does e (q .if1 .left) tooManyCauses (λ z. omega arith)
     (ap refused (sym ninth) ∙ set-ninth (a .journal-length) (sharedFrom w) b r ninth) (c .no-event2 .ensures)
 
 has-room-requires : tie.Need-has-room-requires
@@ -119,35 +124,39 @@ same-length-3 c = search needs
 returns-3 : tie.Need-returns-3
 unfolding performSet
 returns-3 c =
-    let t = c .before .before .before .before .before .before .before in
-    let m = t .before .before .before .before .before .before .before .before in
+    let h = c .before .before in
+    let i = h .before .before in
+    let t = i .before .before .before in
+    let q = t .before .before in
+    let m = q .before .before .before .before .before .before in
     let a = m .args in
     let w = a .words .now in
     let f = a .floats .now in
     let b = a .command .now in
     let here = slotAt (stateFrom w f) (clockOf b) in
-    let e = t .before .before .before .refusal-of .ensures f ∙ ap (refusalOf (here .present)) (t .before .before .before .before .set-faults .ensures) in
+    let e = q .before .refusal-of .ensures f ∙ ap (refusalOf (here .present)) (q .before .before .set-faults .ensures) in
     let does = setOn (a .journal-length) (sharedFrom w) b (a .stream .now) in
     let r = setChannel (here .clock) (settingOf b) (a .stream .now) (sharedFrom w .position) in
     let taken : takesCause (here .clock) (settingOf b .«cause_id») ≡ true =
-    sym (rw (t .setting-of .ensures, t .before .byte-at .ensures) at (c .before .before .before .before .before .takes-cause .ensures f)) ∙ not-false _ (c .before .before .before .before .if2 .left) in
+    sym (rw (t .setting-of .ensures, t .before .byte-at .ensures) at (i .before .takes-cause .ensures f)) ∙ not-false _ (i .if2 .left) in
     let other = taken-other (here .clock) (settingOf b) (a .stream .now) (sharedFrom w .position) taken in
-    refused-later w f b (setFaults b) does e (t .before .before .if1 .left) journalFull (λ z. omega arith)
-    (set-full (a .journal-length) (sharedFrom w) b r other (sym (c .before .before .has-room .ensures) ∙ not-true _ (c .before .if3 .taken)))
+    refused-later w f b (setFaults b) does e (q .if1 .left) journalFull (λ z. omega arith)
+    (set-full (a .journal-length) (sharedFrom w) b r other (sym (h .has-room .ensures) ∙ not-true _ (c .before .if3 .taken)))
     (c .no-event3 .ensures)
 
 set-in-requires : tie.Need-set-in-requires
 set-in-requires c κs =
     let t = c .before .before .before .before .before .before .before .before in
-    let m = t .before .before .before .before .before .before .before .before in
+    let q = t .before .before in
+    let m = q .before .before .before .before .before .before in
     let a = m .args in
     let w = a .words .now in
     let f = a .floats .now in
     let b = a .command .now in
     let here = slotAt (stateFrom w f) (clockOf b) in
-    let e = t .before .before .before .refusal-of .ensures f ∙ ap (refusalOf (here .present)) (t .before .before .before .before .set-faults .ensures) in
+    let e = q .before .refusal-of .ensures f ∙ ap (refusalOf (here .present)) (q .before .before .set-faults .ensures) in
     let does = setOn (a .journal-length) (sharedFrom w) b (a .stream .now) in
-    let clean = there-clean (setFaults b) here does e (t .before .before .if1 .left) in
+    let clean = there-clean (setFaults b) here does e (q .if1 .left) in
     (rw (t .before .byte-at .ensures) (set-accepted b clean .clock), m .pre .sized)
 
 no-event-requires-4 : tie.Need-no-event-requires-4
@@ -163,47 +172,52 @@ returns-4 : tie.Need-returns-4
 unfolding performSet
 returns-4 c =
     let l = c .before .before .before .before .before in
-    let t = c .before .before .before .before .before .before .before .before .before .before .before .before .before .before in
-    let m = t .before .before .before .before .before .before .before .before in
+    let g = l .before .before .before in
+    let i = g .before .before .before in
+    let t = i .before .before .before in
+    let q = t .before .before in
+    let m = q .before .before .before .before .before .before in
     let a = m .args in
     let w = a .words .now in
     let f = a .floats .now in
     let b = a .command .now in
     let here = slotAt (stateFrom w f) (clockOf b) in
-    let e = t .before .before .before .refusal-of .ensures f ∙ ap (refusalOf (here .present)) (t .before .before .before .before .set-faults .ensures) in
+    let e = q .before .refusal-of .ensures f ∙ ap (refusalOf (here .present)) (q .before .before .set-faults .ensures) in
     let does = setOn (a .journal-length) (sharedFrom w) b (a .stream .now) in
     let r = setChannel (here .clock) (settingOf b) (a .stream .now) (sharedFrom w .position) in
     let taken : takesCause (here .clock) (settingOf b .«cause_id») ≡ true =
-    sym (rw (t .setting-of .ensures, t .before .byte-at .ensures) at (l .before .before .before .before .before .before .before .takes-cause .ensures f)) ∙ not-false _ (l .before .before .before .before .before .before .if2 .left) in
+    sym (rw (t .setting-of .ensures, t .before .byte-at .ensures) at (i .before .takes-cause .ensures f)) ∙ not-false _ (i .if2 .left) in
     let other = taken-other (here .clock) (settingOf b) (a .stream .now) (sharedFrom w .position) taken in
-    let fit = sym (l .before .before .before .before .has-room .ensures) ∙ not-false _ (l .before .before .before .if3 .left) in
+    let fit = sym (g .before .has-room .ensures) ∙ not-false _ (g .if3 .left) in
     let call = l .set-in in
     let drawn : call .result ≡ channelDraw r = rw (t .setting-of .ensures, t .before .byte-at .ensures) at (call .ensures .1) in
     let number = ap (λ (x : ChannelDraw). x .number) drawn in
     let refusal = c .before .if4 .taken in
     let same = call .ensures .2 refusal in
     rw (same .0, same .1)
-    (refused-later w f b (setFaults b) does e (t .before .before .if1 .left) (call .result .number) refusal
+    (refused-later w f b (setFaults b) does e (q .if1 .left) (call .result .number) refusal
     (ap refused number ∙ set-refused (a .journal-length) (sharedFrom w) b r other fit (λ z. refusal (number ∙ z)))
     (c .no-event4 .ensures))
 
 put-position-requires : tie.Need-put-position-requires
 put-position-requires c κs =
-    c .before .before .before .before .before .set-in .kept .0 ∙ c .before .before .before .before .before .before .before .before .before .before .before .before .before .before .before .before .before .before .before .before .before .before .pre .sized .words
+    let l = c .before .before .before .before .before in
+    l .set-in .kept .0 ∙ l .before .before .before .before .before .before .before .before .before .before .before .before .before .before .before .before .before .pre .sized .words
 
 count-applied-requires : tie.Need-count-applied-requires
 count-applied-requires c κs =
     let l = c .before .before .before .before .before .before .before .before in
     let call = l .set-in in
     let put = c .before .before .put-position in
-    let m = l .before .before .before .before .before .before .before .before .before .before .before .before .before .before .before .before .before in
+    let g = l .before .before .before in
+    let m = g .before .before .before .before .before .before .before .before .before .before .before .before .before .before in
     let a = m .args in
     let h : a .journal-length < 2 ^ 64 = omega (arith, m .good .1 .1 .1 .0 .1) in (
       put .kept .0 ∙ (call .kept .0 ∙ m .pre .sized .words),
       applied-fits (length (a .command .now)) (a .journal-length)
           (ap (λ (p : SharedState). p .«applied_length») (put .ensures .shared)
           ∙ ap (λ (p : SharedState). p .«applied_length») (call .ensures .0 .shared))
-          (sym (l .before .before .before .before .has-room .ensures) ∙ not-false _ (l .before .before .before .if3 .left)) h,
+          (sym (g .before .has-room .ensures) ∙ not-false _ (g .if3 .left)) h,
     )
 
 no-event-requires-5 : tie.Need-no-event-requires-5
@@ -219,20 +233,23 @@ returns-5 : tie.Need-returns-5
 unfolding performSet
 returns-5 c =
     let l = c .before .before .before .before .before .before .before .before .before .before .before in
-    let t = c .before .before .before .before .before .before .before .before .before .before .before .before .before .before .before .before .before .before .before .before in
-    let m = t .before .before .before .before .before .before .before .before in
+    let g = l .before .before .before in
+    let i = g .before .before .before in
+    let t = i .before .before .before in
+    let q = t .before .before in
+    let m = q .before .before .before .before .before .before in
     let a = m .args in
     let w = a .words .now in
     let f = a .floats .now in
     let b = a .command .now in
     let here = slotAt (stateFrom w f) (clockOf b) in
-    let e = t .before .before .before .refusal-of .ensures f ∙ ap (refusalOf (here .present)) (t .before .before .before .before .set-faults .ensures) in
+    let e = q .before .refusal-of .ensures f ∙ ap (refusalOf (here .present)) (q .before .before .set-faults .ensures) in
     let does = setOn (a .journal-length) (sharedFrom w) b (a .stream .now) in
     let r = setChannel (here .clock) (settingOf b) (a .stream .now) (sharedFrom w .position) in
     let taken : takesCause (here .clock) (settingOf b .«cause_id») ≡ true =
-    sym (rw (t .setting-of .ensures, t .before .byte-at .ensures) at (l .before .before .before .before .before .before .before .takes-cause .ensures f)) ∙ not-false _ (l .before .before .before .before .before .before .if2 .left) in
+    sym (rw (t .setting-of .ensures, t .before .byte-at .ensures) at (i .before .takes-cause .ensures f)) ∙ not-false _ (i .if2 .left) in
     let other = taken-other (here .clock) (settingOf b) (a .stream .now) (sharedFrom w .position) taken in
-    let fit = sym (l .before .before .before .before .has-room .ensures) ∙ not-false _ (l .before .before .before .if3 .left) in
+    let fit = sym (g .before .has-room .ensures) ∙ not-false _ (g .if3 .left) in
     let call = l .set-in in
     let drawn : call .result ≡ channelDraw r = rw (t .setting-of .ensures, t .before .byte-at .ensures) at (call .ensures .1) in
     let number = ap (λ (x : ChannelDraw). x .number) drawn in
@@ -241,7 +258,7 @@ returns-5 c =
     let left : LeavesClock w f (clockOf b) (call .last .0) (call .last .1 .0) (r .clock) =
     rw (t .setting-of .ensures, t .before .byte-at .ensures) at (call .ensures .0) in
     let moved = put .ensures .shared ∙ ap₂ withPosition (left .shared) (ap (λ (x : ChannelDraw). x .position) drawn) in
-    carried-out w f b (setFaults b) does e (t .before .before .if1 .left)
+    carried-out w f b (setFaults b) does e (q .if1 .left)
     (set-done (a .journal-length) (sharedFrom w) b r other fit (sym number ∙ c .before .before .before .before .before .before .before .if4 .left) (c .no-event5 .ensures))
     (ap (λ (x : Answer). x .number) (c .no-event5 .ensures)) left (call .kept .0 ∙ m .pre .sized .words)
     (shared-then (put .ensures) (shared-as (count .ensures) (ap (withAppliedBytes (length b)) moved)))
