@@ -202,7 +202,8 @@ returns-4 c =
 put-position-requires : tie.Need-put-position-requires
 put-position-requires c κs =
     let l = c .before .before .before .before .before in
-    l .set-in .kept .0 ∙ l .before .before .before .before .before .before .before .before .before .before .before .before .before .before .before .before .before .pre .sized .words
+    let i = l .before .before .before .before .before .before in
+    l .set-in .kept .0 ∙ i .before .before .before .before .before .before .before .before .before .before .before .pre .sized .words
 
 count-applied-requires : tie.Need-count-applied-requires
 count-applied-requires c κs =
@@ -259,7 +260,8 @@ returns-5 c =
     rw (t .setting-of .ensures, t .before .byte-at .ensures) at (call .ensures .0) in
     let moved = put .ensures .shared ∙ ap₂ withPosition (left .shared) (ap (λ (x : ChannelDraw). x .position) drawn) in
     carried-out w f b (setFaults b) does e (q .if1 .left)
-    (set-done (a .journal-length) (sharedFrom w) b r other fit (sym number ∙ c .before .before .before .before .before .before .before .if4 .left) (c .no-event5 .ensures))
+    (set-done (a .journal-length) (sharedFrom w) b r other fit
+    (sym number ∙ c .before .before .before .before .before .before .before .if4 .left) (c .no-event5 .ensures))
     (ap (λ (x : Answer). x .number) (c .no-event5 .ensures)) left (call .kept .0 ∙ m .pre .sized .words)
     (shared-then (put .ensures) (shared-as (count .ensures) (ap (withAppliedBytes (length b)) moved)))
     (count .kept .0 ∙ (put .kept .0 ∙ (call .kept .0 ∙ m .pre .sized .words)))
