@@ -1,5 +1,5 @@
 -- SET on a clock in lent memory by its cases: the clock that it leaves in the rows, and its answer.
-use mathlib.Core.Path.{_≡_, sym, _∙_, ap}
+use mathlib.Core.Path.{_≡_, refl, sym, _∙_, ap}
 use mathlib.Core.Bool.{Bool, true, false}
 use mathlib.Core.List.{List, []}
 use Prim.Native.Nat.{ℕ, _<_}
@@ -36,13 +36,14 @@ module _ (k : SurvivalClock) (cause : ℕ) where
   unfolding takesCause
   takes-absent h = rw (takesCause, ← h)
 
--- an outcome, as it lies in the rows
+-- an outcome, as it lies in the rows; a refusal leaves every word and float as it was
 abbrev pub SetLeaves : WordRows → FloatRows → WordRows → FloatRows → ChannelSet → ChannelDraw → Type 0
-SetLeaves w f w′ f′ o r = Leaves w f w′ f′ (o .clock) × (r ≡ channelDraw o)
+SetLeaves w f w′ f′ o r =
+    Leaves w f w′ f′ (o .clock) × (r ≡ channelDraw o) × ((r .number ≡ 0 → ⊥) → (w′ ≡ w) × (f′ ≡ f))
 
 pub set-leaves : {w w′ : WordRows} {f f′ : FloatRows} {o p : ChannelSet} → o ≡ p → Leaves w f w′ f′ (o .clock)
-    → SetLeaves w f w′ f′ p (channelDraw o)
-set-leaves e l = (leaves-as l (ap (λ (x : ChannelSet). x .clock) e), ap channelDraw e)
+    → ((o .number ≡ 0 → ⊥) → (w′ ≡ w) × (f′ ≡ f)) → SetLeaves w f w′ f′ p (channelDraw o)
+set-leaves e l keeps = (leaves-as l (ap (λ (x : ChannelSet). x .clock) e), ap channelDraw e, keeps)
 
 -- a cause that the clock has, at its place
 module _ (w : WordRows) (f : FloatRows) (s : CauseSetting) (stream : List ℕ) (position at : ℕ) (h : at < 8)
@@ -67,16 +68,17 @@ module _ (w : WordRows) (f : FloatRows) (s : CauseSetting) (stream : List ℕ) (
     kept-in-place d q =
         set-leaves
         (again-kept k s stream position at old (omega (arith, channels-eight w f)) settled-there drawn-there d (rw there q))
-        stored
+        stored (λ n. absurd (n refl))
 
     pub drawn-in-place : (d : DrawAndPosition) → draws ≡ true → d ≡ drawAt stream position → d .number ≡ 0
         → c ≡ channelOf s z (d .threshold)
         → SetLeaves w f w′ f′ (setAgain k s stream position at) (record { number = 0; position = d .position .next })
     drawn-in-place d t e n q =
         set-leaves (again-drawn k s stream position at old (omega (arith, channels-eight w f)) settled-there drawn-there t e n q) stored
+        (λ m. absurd (m refl))
 
   pub refused-in-place : (d : DrawAndPosition) → draws ≡ true → d ≡ drawAt stream position → (d .number ≡ 0 → ⊥)
       → SetLeaves w f w f (setAgain k s stream position at) (record { number = d .number; position = position })
   refused-in-place d t e n =
       set-leaves (again-refused k s stream position at old (omega (arith, channels-eight w f)) settled-there drawn-there t e n)
-      (leaves-none w f)
+      (leaves-none w f) (λ _. (refl, refl))

@@ -1,16 +1,19 @@
 -- What set_channel comes to, whatever the channels become: set with the threshold kept, set with a draw, or refused with nothing changed.
 use mathlib.Core.Path.{_≡_, refl}
+use mathlib.Core.Bool.{true, false, true≢false}
 use mathlib.Core.List.{List}
 use Prim.Native.Nat.{ℕ, _≤_}
+use native.Mathlib.Omega.{arith}
 use borrow.Author.Tests.{eqb-true, eqb-false}
 use lib.Dec.{eqb, ltb}
 use lib.ListN.{getD}
 use Rattle.hazards.specs.Draws.{streamLength, drawAt}
 use Rattle.hazards.specs.Refusals.{tooManyCauses}
-use Rattle.hazards.proofs.DrawLaws.{drawNumber, accepted-within}
+use Rattle.hazards.proofs.DrawLaws.{drawNumber, each-way, accepted-within}
 use Rattle.clocks.specs.Channels.{emptyChannel, settledHazard, placeOfCause}
 use Rattle.clocks.specs.Clocks.{usedChannels, withChannels}
 use Rattle.clocks.specs.Setting.{drawsAgain, notSet, setAgain, setNew, setChannel}
+use Rattle.clocks.specs.SettingRows.{takesCause}
 use Rattle.clocks.specs.declared.channels.HazardChannelState.{HazardChannelState}
 use Rattle.clocks.specs.declared.clocks.SurvivalClock.{SurvivalClock}
 use Rattle.clocks.specs.declared.setting.CauseSetting.{CauseSetting}
@@ -62,3 +65,42 @@ module _ (k : SurvivalClock) (s : CauseSetting) (stream : List ℕ) (position : 
   pub set-within : position ≤ streamLength stream → setChannel k s stream position .position ≤ streamLength stream
   set-within l =
       set-way (λ r. r .position ≤ streamLength stream) (λ cs n. l) (λ cs n d. accepted-within stream position d) (λ d. l) l
+
+  -- ---- 10 is the refusal of a cause that the clock doesn't take, and of no other
+  abbrev NotTen : ℕ → Type 0
+  NotTen n = n ≡ tooManyCauses → ⊥
+
+  draw-other : NotTen (drawNumber stream position)
+  draw-other =
+      each-way stream position (λ d. NotTen (d .number)) (λ h e. omega arith) (λ h e. omega arith) (λ h w e. omega arith) (λ h w e. omega arith)
+
+  none-other : NotTen 0
+  none-other e = omega arith
+
+  again-other : (at : ℕ) → NotTen (setAgain k s stream position at .number)
+  unfolding setAgain
+  again-other at =
+      let old = getD (k .channels) at emptyChannel in
+      by-test (drawsAgain (k .policy) (settledHazard old (s .now)) (old .«target_threshold»))
+      (λ e. by-test (eqb (drawNumber stream position) 0) (λ d. rw (e, d) none-other) (λ d. rw (e, d) draw-other))
+      (λ e. rw e none-other)
+
+  new-other : ltb (k .«channel_count») 8 ≡ true → NotTen (setNew k s stream position .number)
+  unfolding setNew
+  new-other e = by-test (eqb (drawNumber stream position) 0) (λ d. rw (e, d) none-other) (λ d. rw (e, d) draw-other)
+
+  new-refused : ltb (k .«channel_count») 8 ≡ false → setNew k s stream position .number ≡ tooManyCauses
+  unfolding setNew
+  new-refused e = rw e
+
+  pub taken-other : takesCause k (s .«cause_id») ≡ true → setChannel k s stream position .number ≡ tooManyCauses → ⊥
+  unfolding setChannel takesCause
+  taken-other t =
+      by-place (placeOfCause (s .«cause_id») (usedChannels k)) (λ at h. rw (setChannel, h) (again-other at))
+      (λ h. rw (setChannel, h) (new-other (rw (takesCause, h) at t)))
+
+  pub not-taken : takesCause k (s .«cause_id») ≡ false → setChannel k s stream position .number ≡ tooManyCauses
+  unfolding setChannel takesCause
+  not-taken t =
+      by-place (placeOfCause (s .«cause_id») (usedChannels k)) (λ at h. absurd (true≢false (rw (takesCause, h) at t)))
+      (λ h. rw (setChannel, h) (new-refused (rw (takesCause, h) at t)))

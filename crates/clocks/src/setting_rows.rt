@@ -44,7 +44,8 @@ fn set_again<'a, 's>(
     requires { ⌜ (at < 8) × Sized (now words) (now floats) ⌝ }
     ensures { λ r. ⌜ Leaves (now (words .entry)) (now (floats .entry)) (now (words .exit)) (now (floats .exit))
         (setAgain (clockFrom (now (words .entry)) (now (floats .entry))) setting (now (stream .entry)) position at .clock)
-        × (r ≡ channelDraw (setAgain (clockFrom (now (words .entry)) (now (floats .entry))) setting (now (stream .entry)) position at)) ⌝ }
+        × (r ≡ channelDraw (setAgain (clockFrom (now (words .entry)) (now (floats .entry))) setting (now (stream .entry)) position at))
+        × ((r .number ≡ 0 → ⊥) → (now (words .exit) ≡ now (words .entry)) × (now (floats .exit) ≡ now (floats .entry))) ⌝ }
 {
     let old = crate::channel_rows::channel_at(words, floats, at);
     let accumulated = crate::channels::settled_hazard(old, setting.now);
@@ -83,7 +84,8 @@ fn set_new<'a, 's>(
     requires { ⌜ Sized (now words) (now floats) ⌝ }
     ensures { λ r. ⌜ Leaves (now (words .entry)) (now (floats .entry)) (now (words .exit)) (now (floats .exit))
         (setNew (clockFrom (now (words .entry)) (now (floats .entry))) setting (now (stream .entry)) position .clock)
-        × (r ≡ channelDraw (setNew (clockFrom (now (words .entry)) (now (floats .entry))) setting (now (stream .entry)) position)) ⌝ }
+        × (r ≡ channelDraw (setNew (clockFrom (now (words .entry)) (now (floats .entry))) setting (now (stream .entry)) position))
+        × ((r .number ≡ 0 → ⊥) → (now (words .exit) ≡ now (words .entry)) × (now (floats .exit) ≡ now (floats .entry))) ⌝ }
 {
     if words[SETTINGS][COUNT] >= 8 {
         return ChannelDraw {
@@ -118,7 +120,8 @@ pub fn set_channel<'a, 's>(
     requires { ⌜ Sized (now words) (now floats) ⌝ }
     ensures { λ r. ⌜ Leaves (now (words .entry)) (now (floats .entry)) (now (words .exit)) (now (floats .exit))
         (setChannel (clockFrom (now (words .entry)) (now (floats .entry))) setting (now (stream .entry)) position .clock)
-        × (r ≡ channelDraw (setChannel (clockFrom (now (words .entry)) (now (floats .entry))) setting (now (stream .entry)) position)) ⌝ }
+        × (r ≡ channelDraw (setChannel (clockFrom (now (words .entry)) (now (floats .entry))) setting (now (stream .entry)) position))
+        × ((r .number ≡ 0 → ⊥) → (now (words .exit) ≡ now (words .entry)) × (now (floats .exit) ≡ now (floats .entry))) ⌝ }
 {
     match crate::clock_rows::place_of_cause(words, setting.cause_id) {
         CausePlace::At(at) => set_again(words, floats, setting, stream, position, at),

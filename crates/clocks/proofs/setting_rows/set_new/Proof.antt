@@ -25,7 +25,8 @@ returns c =
     let a = c .before .before .before .args in
     let w = a .words .now in
     let f = a .floats .now in
-    set-leaves (new-ninth (clockFrom w f) (a .setting) (a .stream .now) (a .position) (rw (count-in w f) (c .if1 .taken))) (leaves-none w f)
+    set-leaves (new-ninth (clockFrom w f) (a .setting) (a .stream .now) (a .position) (rw (count-in w f) (c .if1 .taken)))
+    (leaves-none w f) (λ _. (refl, refl))
 
 draw-from-requires : tie.Need-draw-from-requires
 draw-from-requires c κs = search needs
@@ -39,7 +40,7 @@ returns-2 c =
     set-leaves
     (new-refused (clockFrom w f) (a .setting) (a .stream .now) (a .position) (rw (count-in w f) (l .if1 .left))
     (c .before .before .draw-from .ensures) (c .if2 .taken))
-    (leaves-none w f)
+    (leaves-none w f) (λ _. (refl, refl))
 
 channel-of-requires : tie.Need-channel-of-requires
 channel-of-requires c κs = search needs
@@ -79,7 +80,7 @@ returns-3 c =
     set-leaves
     (new-drawn (clockFrom w f) (a .setting) (a .stream .now) (a .position) (rw (count-in w f) (l .if1 .left))
     (t .before .before .draw-from .ensures) (t .if2 .left) (p .before .before .channel-of .ensures) (p .place-for-new .ensures f) refl)
-    (c .before .before .insert-channel .ensures)
+    (c .before .before .insert-channel .ensures) (λ n. absurd (n refl))
 
 pub set-new-spec : {M : Type 1} → statement M
 set-new-spec =
