@@ -4,7 +4,7 @@ use mathlib.Core.Bool.{Bool, true}
 use mathlib.Core.List.{List, []}
 use Prim.Native.Nat.{ℕ, _+_, _*_, _-_, _<_}
 use native.Mathlib.Omega.{arith}
-use borrow.Author.Tests.{eq-eqb, ne-eqb}
+use borrow.Author.Tests.{eq-eqb, ne-eqb, eqb-true, eqb-false}
 use lib.Dec.{eqb}
 use lib.ListN.{length, getD, set, take, drop, length-take, length-drop}
 use lib.Seq.{set-set, getD-take, getD-drop}
@@ -13,15 +13,21 @@ use Rattle.hazards.specs.declared.answers.Answer.{Answer}
 use Rattle.clocks.specs.Layout.{WordRows, FloatRows, flagFrom, presentIn, clockFrom, Coded, Leaves}
 use Rattle.clocks.specs.declared.clocks.SurvivalClock.{SurvivalClock}
 use Rattle.hazards.specs.declared.refusals.Faults.{Faults}
-use Rattle.engine.specs.Commands.{clockOf}
-use Rattle.engine.specs.State.{slotAt, withSlot}
-use Rattle.engine.specs.Execution.{OnSlot, refused, done, holding, stored, unlessFaulty, onClock}
+use Rattle.engine.specs.Commands as commands
+use Rattle.engine.specs.Commands.{widthOf, byteAt, clockOf}
+use Rattle.engine.specs.Engine.{Performed}
+use Rattle.engine.specs.Queue.{nextRequest}
+use Rattle.engine.specs.State.{slotAt, withSlot, queuedRequests}
+use Rattle.engine.specs.Execution.{OnSlot, refused, done, holding, stored, unlessFaulty, onClock, clockOfRequest}
+use Rattle.engine.specs.Execution.{target, performOn, perform}
 use Rattle.engine.specs.StateRows.{partAt, slotOf, slotFrom, sharedFrom, stateFrom, CodedState, SizedState, LeavesShared, LeavesClock}
 use Rattle.engine.specs.StateRows.{performedOf, Performs}
 use Rattle.engine.specs.declared.state.ClockSlot.{ClockSlot}
 use Rattle.engine.specs.declared.state.SharedState.{SharedState}
 use Rattle.engine.specs.declared.state.EngineState.{EngineState}
-use Rattle.engine.proofs.ExecutionCases.{refusalOf, not-done, there, there-present}
+use Rattle.hazards.proofs.Cases.{by-test}
+use Rattle.engine.proofs.CommandLaws.{no-width}
+use Rattle.engine.proofs.ExecutionCases.{refusalOf, not-done, there, there-present, target-named, target-deliver}
 use Rattle.engine.proofs.ListParts.{put}
 use Rattle.engine.proofs.StateParts.{slot-at, shared-same, rest-same, clock-put, clock-coded, shared-put, shared-coded}
 
@@ -169,3 +175,39 @@ module _ (w : WordRows) (f : FloatRows) (c : List ℕ) (faults : Faults) (d : Su
 -- the shared state that a call left where another had changed a clock alone
 pub shared-as : {w′ w″ : WordRows} {p q : SharedState} → LeavesShared w′ w″ p → p ≡ q → LeavesShared w′ w″ q
 shared-as left e = record { shared = left .shared ∙ e; clocks = left .clocks; coded = left .coded }
+
+-- ---- by its code: the clock that the command names, or that of the next request
+
+pub performs-as : {w w′ : WordRows} {f f′ : FloatRows} {o o′ : Performed EngineState Answer} {r : Answer} → Performs w f o w′ f′ r → o ≡ o′
+    → Performs w f o′ w′ f′ r
+performs-as h e = record { does = h .does ∙ e; keeps = h .keeps; coded = h .coded }
+
+module _ (w : WordRows) (f : FloatRows) (stream : List ℕ) (n : ℕ) (b : List ℕ) where
+  abbrev state : EngineState
+  state = stateFrom w f
+
+  at-target : {k : ℕ} {d : OnSlot} → k ≡ target (sharedFrom w) b → d ≡ performOn stream n (slotAt state k) (sharedFrom w) b
+      → stored state k d ≡ perform stream n state b
+  unfolding perform stateFrom
+  at-target {k} e q =
+      ap (stored state k) q ∙ ap (λ (i : ℕ). stored state i (performOn stream n (slotAt state i) (sharedFrom w) b)) e
+
+  pub by-name : {d : OnSlot} → (byteAt b 0 ≡ commands.deliver → ⊥)
+      → d ≡ performOn stream n (slotAt state (clockOf b)) (sharedFrom w) b → stored state (clockOf b) d ≡ perform stream n state b
+  by-name h q = at-target (target-named (sharedFrom w) b h) q
+
+  pub by-delivery : {d : OnSlot} → byteAt b 0 ≡ commands.deliver
+      → d ≡ performOn stream n (slotAt state (clockOfRequest (nextRequest (queuedRequests (sharedFrom w))))) (sharedFrom w) b
+      → stored state (clockOfRequest (nextRequest (queuedRequests (sharedFrom w)))) d ≡ perform stream n state b
+  by-delivery h q = at-target (sym (target-deliver (sharedFrom w) b h)) q
+
+-- a code that has a width and is none of the others is DELIVER's
+pub only-delivery : (b : List ℕ) {code : ℕ} → code ≡ byteAt b 0 → (code ≡ 1 → ⊥) → (code ≡ 2 → ⊥) → (code ≡ 3 → ⊥) → (code ≡ 4 → ⊥)
+    → (code ≡ 5 → ⊥) → (code ≡ 6 → ⊥) → 0 < widthOf (byteAt b 0) → (byteAt b 0 ≡ 8 → ⊥) → byteAt b 0 ≡ commands.deliver
+only-delivery b e h₁ h₂ h₃ h₄ h₅ h₆ wide h₈ =
+    by-test (eqb (byteAt b 0) commands.deliver) (λ q. eqb-true (byteAt b 0) commands.deliver q)
+    (λ q.
+    let none =
+    no-width (byteAt b 0) (λ z. h₁ (e ∙ z)) (λ z. h₂ (e ∙ z)) (λ z. h₃ (e ∙ z)) (λ z. h₄ (e ∙ z)) (λ z. h₅ (e ∙ z)) (λ z. h₆ (e ∙ z))
+    (eqb-false (byteAt b 0) commands.deliver q) h₈ in
+    absurd (omega (arith, none, wide)))

@@ -337,7 +337,7 @@ module _ (next : Pick) {o : Option Request} (e : pickOf next ≡ o) where
   not-found : next .found ≡ false → none ≡ o
   not-found h = ap (λ (t : Bool). cond t (some (next .request)) none) (sym h) ∙ e
 
-  found : next .found ≡ true → some (next .request) ≡ o
+  pub found : next .found ≡ true → some (next .request) ≡ o
   found h = ap (λ (t : Bool). cond t (some (next .request)) none) (sym h) ∙ e
 
 module _ (n : ℕ) (slot : ClockSlot) (p : SharedState) (c : List ℕ) (next : Pick) (e : pickOf next ≡ nextRequest (queuedRequests p)) where
@@ -375,6 +375,10 @@ module _ (p : SharedState) (c : List ℕ) where
   pub target-named : (byteAt c 0 ≡ commands.deliver → ⊥) → clockOf c ≡ target p c
   unfolding target
   target-named h = ap aimed (sym (ne-eqb (byteAt c 0) commands.deliver h))
+
+  pub target-deliver : byteAt c 0 ≡ commands.deliver → target p c ≡ clockOfRequest (nextRequest (queuedRequests p))
+  unfolding target
+  target-deliver h = ap aimed (eq-eqb (byteAt c 0) commands.deliver h)
 
   module _ (h : byteAt c 0 ≡ commands.deliver) (next : Pick) (e : pickOf next ≡ nextRequest (queuedRequests p)) where
     pub target-next : next .found ≡ true → next .request .clock ≡ target p c

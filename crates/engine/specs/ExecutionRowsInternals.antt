@@ -1,6 +1,6 @@
 -- What the code needs of a state in lent memory to perform a command on it, and what a rescheduled clock does to the queue.
 use mathlib.Core.Path.{_≡_}
-use mathlib.Core.Bool.{cond}
+use mathlib.Core.Bool.{true, cond}
 use mathlib.Core.List.{List}
 use mathlib.Core.Option.{some}
 use Prim.Native.Nat.{ℕ, _<_}
@@ -8,8 +8,8 @@ use Rattle.clocks.specs.Layout.{WordRows, FloatRows}
 use Rattle.clocks.specs.declared.schedule_rows.QueueChange.{QueueChange}
 use Rattle.engine.specs.Execution.{withdraw, requestOf}
 use Rattle.engine.specs.Queue.{nextRequest}
-use Rattle.engine.specs.State.{queuedRequests, withRequest}
-use Rattle.engine.specs.StateRows.{sharedFrom, SizedState}
+use Rattle.engine.specs.State.{slotAt, queuedRequests, withRequest}
+use Rattle.engine.specs.StateRows.{sharedFrom, stateFrom, SizedState}
 use Rattle.engine.specs.ExecutionInternals.{Countable}
 use Rattle.engine.specs.declared.state.Request.{Request}
 use Rattle.engine.specs.declared.state.SharedState.{SharedState}
@@ -20,8 +20,9 @@ requeued p c change =
     let left = withdraw p (change .withdrawn) in
     cond (change .event .present) (withRequest left (requestOf left c (change .ticks))) left
 
--- a valid state is within this: its sizes, its counts, and that the next request is for one of the sixteen clocks
+-- a valid state is within this: its sizes, its counts, and that the next request is for one of the sixteen clocks, which is there
 pub record Ready (w : WordRows) (f : FloatRows) : Type 0 where
   pub sized : SizedState w f
   pub counts : Countable (sharedFrom w)
   pub next : (r : Request) → nextRequest (queuedRequests (sharedFrom w)) ≡ some r → r .clock < 16
+  pub there : (r : Request) → nextRequest (queuedRequests (sharedFrom w)) ≡ some r → slotAt (stateFrom w f) (r .clock) .present ≡ true

@@ -12,7 +12,7 @@ ghost use Rattle.clocks.specs.SettingRows.{takesCause, channelDraw};
 ghost use Rattle.clocks.specs.ScheduleRows.{queueChange};
 ghost use Rattle.clocks.specs.Scheduling as scheduling;
 ghost use Rattle.clocks.specs.Layout.{FloatRows, Sized, Coded, clockFrom, presentIn};
-ghost use Rattle.engine.specs.Commands.{clockOf, createdClock};
+ghost use Rattle.engine.specs.Commands.{widthOf, byteAt, clockOf, createdClock};
 ghost use Rattle.engine.specs.Queue.{nextRequest};
 ghost use Rattle.engine.specs.Refusals.{clockAbsent};
 ghost use Rattle.engine.specs.State.{slotAt, withSlot, queuedRequests, withRequest, withPosition, withAppliedBytes};
@@ -580,7 +580,7 @@ pub(crate) fn perform(
     journal_length: usize,
     command: &[u8],
 ) -> Answer
-    requires { ⌜ Ready (now words) (now floats) ⌝ }
+    requires { ⌜ Ready (now words) (now floats) × (0 < widthOf (byteAt (now command) 0)) × (byteAt (now command) 0 ≡ 8 → ⊥) ⌝ }
     ensures { λ r. ⌜ Performs (now (words .entry)) (now (floats .entry))
         (perform (now (stream .entry)) «journal_length» (stateFrom (now (words .entry)) (now (floats .entry))) (now (command .entry)))
         (now (words .exit)) (now (floats .exit)) r ⌝ }
