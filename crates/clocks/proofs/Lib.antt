@@ -11,7 +11,6 @@ pub mod EventTimes
 pub mod EveryBelow
 pub mod OwnRows
 pub mod PlaceRows
-pub mod PausedRows
 pub mod Places
 pub mod RequestLaws
 pub mod RowLaws

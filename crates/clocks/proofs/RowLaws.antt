@@ -20,7 +20,8 @@ pub channels-eight : (w : WordRows) (f : FloatRows) → length (clockFrom w f .c
 unfolding clockFrom clockOf
 channels-eight w f = length-table 8 (λ j. channelAt w f j)
 
-pub channel-in : (w : WordRows) (f : FloatRows) (j : ℕ) (d : HazardChannelState) → j < 8 → getD (clockFrom w f .channels) j d ≡ channelAt w f j
+pub channel-in : (w : WordRows) (f : FloatRows) (j : ℕ) (d : HazardChannelState) → j < 8
+    → getD (clockFrom w f .channels) j d ≡ channelAt w f j
 unfolding clockFrom clockOf
 channel-in w f j d h = getD-table 8 (λ i. channelAt w f i) j d h
 

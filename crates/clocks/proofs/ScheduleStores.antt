@@ -16,6 +16,7 @@ use Rattle.clocks.specs.Clocks.{notScheduled, noWinner, withSchedule}
 use Rattle.clocks.specs.Layout.{WordRows, FloatRows, channelAt, channelsFrom, clockOf, clockFrom, Sized, Leaves, Coded}
 use Rattle.clocks.specs.Layout.{isFlag, isU32, codedSchedule, codedTimes}
 use Rattle.clocks.specs.declared.clocks.SurvivalClock.{SurvivalClock}
+use Rattle.clocks.proofs.RowLaws.{leaves-as}
 use Rattle.clocks.proofs.Tables.{table-same}
 
 module _ (w : WordRows) (f : FloatRows) (sized : Sized w f) (b : List ℕ) (ts : List Float) where
@@ -154,3 +155,19 @@ module _ (w : WordRows) (f : FloatRows) where
       ≡ withSchedule k notScheduled (k .«current_winner») false last
   unfolding clockFrom clockOf
   paused-clock last = refl
+
+-- both rows of a clock that is paused at a time
+abbrev pub pausedRow : List ℕ → List ℕ
+pausedRow b = 0 ∷ 0 ∷ at b 2 ∷ at b 3 ∷ 0 ∷ at b 5 ∷ at b 6 ∷ at b 7 ∷ []
+
+abbrev pub updatedAt : List Float → Float → List Float
+updatedAt ts last = time ts 0 ∷ time ts 1 ∷ last ∷ time ts 3 ∷ time ts 4 ∷ time ts 5 ∷ time ts 6 ∷ time ts 7 ∷ []
+
+pub paused-stored : (w : WordRows) (f : FloatRows) → Sized w f → (last : Float)
+    → Leaves w f (set w 1 (pausedRow (getD w 1 []))) (set f 0 (updatedAt (getD f 0 []) last))
+    (withSchedule (clockFrom w f) notScheduled (clockFrom w f .«current_winner») false last)
+paused-stored w f sized last =
+    leaves-as
+    (schedule-stored w f sized (pausedRow (getD w 1 [])) (updatedAt (getD f 0 []) last)
+    (λ h. (paused-coded (getD w 1 []) (h .schedule), times-coded (getD f 0 []) (h .times) _ _ _)))
+    (paused-clock w f last)

@@ -72,7 +72,8 @@ module _ (k : SurvivalClock) (s : CauseSetting) (stream : List ℕ) (position : 
 
   draw-other : NotTen (drawNumber stream position)
   draw-other =
-      each-way stream position (λ d. NotTen (d .number)) (λ h e. omega arith) (λ h e. omega arith) (λ h w e. omega arith) (λ h w e. omega arith)
+      each-way stream position (λ d. NotTen (d .number)) (λ h e. omega arith) (λ h e. omega arith)
+      (λ h w e. omega arith) (λ h w e. omega arith)
 
   none-other : NotTen 0
   none-other e = omega arith

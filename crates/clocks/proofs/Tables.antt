@@ -26,7 +26,8 @@ module _ {A : Type 0} where
   -- two tables that agree at every place but one
   pub table-set : (n : ℕ) (f g : ℕ → A) (i : ℕ) → i < n → ((j : ℕ) → j < n → (j ≡ i → ⊥) → g j ≡ f j) → table n g ≡ set (table n f) i (g i)
   table-set n f g i h other =
-      ext-getD (g i) (table n g) (set (table n f) i (g i)) (length-table n g ∙ sym (length-set (table n f) i (g i) ∙ length-table n f)) (λ j l.
+      ext-getD (g i) (table n g) (set (table n f) i (g i))
+      (length-table n g ∙ sym (length-set (table n f) i (g i) ∙ length-table n f)) (λ j l.
       let b : j < n = omega (arith, length-table n g) in
       getD-table n g j (g i) b
       ∙ by-test (eqb j i)

@@ -1,4 +1,4 @@
--- What a clock that is rescheduled in place asks of the engine's queue: the outcome of Scheduling without its clock, which lies in the rows.
+-- What a clock that is rescheduled in place asks of the engine's queue: the outcome of Scheduling without the clock, which lies in rows.
 use Rattle.clocks.specs.declared.scheduling.Rescheduled.{Rescheduled}
 use Rattle.clocks.specs.declared.schedule_rows.QueueChange.{QueueChange}
 

@@ -1,4 +1,4 @@
-// reschedule, pause, resume and on_event_dispatched of hazard_clock.rs on a clock in lent memory, with what each asks of the engine's queue.
+// reschedule, pause, resume and on_event_dispatched of hazard_clock.rs on a clock in lent memory, with what each asks of the queue.
 ghost use mathlib.Core.Path.{_≡_};
 ghost use Rattle.clocks.specs.Scheduling.{scheduledFor, reschedule, pause, resume, onEventDispatched};
 ghost use Rattle.clocks.specs.Layout.{Sized, Leaves, clockFrom};

@@ -135,7 +135,8 @@ module _ (w : WordRows) (f : FloatRows) (k : ℕ) (w′ : WordRows) (f′ : Floa
   held-coded h = shared-coded w′ w″ f′ l l″ p then (left .coded h)
 
 -- whether it is there, by the first word of its rows
-pub present-there : (w : WordRows) (f : FloatRows) (k : ℕ) → k < 16 → eqb (getD (getD w (10 * k) []) 0 0) 1 ≡ slotAt (stateFrom w f) k .present
+pub present-there : (w : WordRows) (f : FloatRows) (k : ℕ) → k < 16
+    → eqb (getD (getD w (10 * k) []) 0 0) 1 ≡ slotAt (stateFrom w f) k .present
 unfolding slotOf
 present-there w f k hk =
     let e : 10 * k ≡ 10 * k + 0 = omega arith in

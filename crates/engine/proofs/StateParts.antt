@@ -111,7 +111,8 @@ module _ (w z : WordRows) (f y : FloatRows) (k : ℕ) (hk : k < 16) (sized : Siz
 
 -- ---- the shared state
 
-module _ (w w′ : WordRows) (f : FloatRows) (sized : length w ≡ 177) (sized′ : length w′ ≡ 177) (p : SharedState) (left : LeavesShared w w′ p) where
+module _ (w w′ : WordRows) (f : FloatRows) (sized : length w ≡ 177) (sized′ : length w′ ≡ 177) (p : SharedState)
+    (left : LeavesShared w w′ p) where
   part-same : (i : ℕ) → i < 16 → partAt 10 i w′ ≡ partAt 10 i w
   part-same i h =
       sym (within-first w′ 160 (10 * i) 10 (omega arith) (omega arith))

@@ -16,8 +16,9 @@ ghost use Rattle.engine.specs.Commands.{widthOf, byteAt, clockOf, create
 ghost use Rattle.engine.specs.Queue.{nextRequest};
 ghost use Rattle.engine.specs.Refusals.{clockAbsent};
 ghost use Rattle.engine.specs.State.{slotAt, withSlot, queuedRequests, withRequest, withPosition, withAppliedBytes};
-ghost use Rattle.engine.specs.Execution.{holding, isWithdrawn, withdraw, stored, performCreate, performSet, performRemove, performReschedule};
-ghost use Rattle.engine.specs.Execution.{performPause, performResume, performDeliver, perform, requestOf, eventAnswer, clockOfRequest};
+ghost use Rattle.engine.specs.Execution.{holding, isWithdrawn, withdraw, stored, performCreate, performSet, performRemove};
+ghost use Rattle.engine.specs.Execution.{performReschedule, performPause, performResume, performDeliver, perform};
+ghost use Rattle.engine.specs.Execution.{requestOf, eventAnswer, clockOfRequest};
 ghost use Rattle.engine.specs.StateRows.{sharedFrom, stateFrom, CodedState, SizedState, LeavesShared, LeavesClock, Performs};
 ghost use Rattle.engine.specs.ExecutionInternals.{Countable};
 ghost use Rattle.engine.specs.ExecutionRowsInternals.{Ready, requeued};
@@ -86,7 +87,8 @@ fn refusal_of(words: &[[u64; 8]], command: &[u8], faults: Faults) -> u8
     requires { ⌜ (length (now words) ≡ 177) × (numberOf faults ≡ 0 → clockOf (now command) < 16) ⌝ }
     ensures { λ r. ⌜ ((floats : FloatRows)
         → r ≡ cond (eqb (numberOf faults) 0)
-        (cond (slotAt (stateFrom (now (words .entry)) floats) (clockOf (now (command .entry))) .present) 0 clockAbsent) (numberOf faults)) ⌝ }
+        (cond (slotAt (stateFrom (now (words .entry)) floats) (clockOf (now (command .entry))) .present) 0 clockAbsent)
+        (numberOf faults)) ⌝ }
 {
     let number = faults.number();
     if number != 0 {
@@ -264,9 +266,10 @@ fn set_in(
 ) -> ChannelDraw
     requires { ⌜ (clock < 16) × SizedState (now words) (now floats) ⌝ }
     ensures { λ r. ⌜ LeavesClock (now (words .entry)) (now (floats .entry)) clock (now (words .exit)) (now (floats .exit))
-        (setChannel (slotAt (stateFrom (now (words .entry)) (now (floats .entry))) clock .clock) setting (now (stream .entry)) (sharedFrom (now (words .entry)) .position) .clock)
-        × (r ≡ channelDraw (setChannel (slotAt (stateFrom (now (words .entry)) (now (floats .entry))) clock .clock) setting (now (stream .entry))
-        (sharedFrom (now (words .entry)) .position)))
+        (setChannel (slotAt (stateFrom (now (words .entry)) (now (floats .entry))) clock .clock) setting
+        (now (stream .entry)) (sharedFrom (now (words .entry)) .position) .clock)
+        × (r ≡ channelDraw (setChannel (slotAt (stateFrom (now (words .entry)) (now (floats .entry))) clock .clock) setting
+        (now (stream .entry)) (sharedFrom (now (words .entry)) .position)))
         × ((r .number ≡ 0 → ⊥) → (now (words .exit) ≡ now (words .entry)) × (now (floats .exit) ≡ now (floats .entry))) ⌝ }
 {
     let w = CLOCK_WORDS * clock;
@@ -292,7 +295,8 @@ fn perform_set(
     requires { ⌜ Ready (now words) (now floats) ⌝ }
     ensures { λ r. ⌜ Performs (now (words .entry)) (now (floats .entry))
         (stored (stateFrom (now (words .entry)) (now (floats .entry))) (clockOf (now (command .entry)))
-        (performSet (now (stream .entry)) «journal_length» (slotAt (stateFrom (now (words .entry)) (now (floats .entry))) (clockOf (now (command .entry))))
+        (performSet (now (stream .entry)) «journal_length»
+        (slotAt (stateFrom (now (words .entry)) (now (floats .entry))) (clockOf (now (command .entry))))
         (sharedFrom (now (words .entry))) (now (command .entry))))
         (now (words .exit)) (now (floats .exit)) r ⌝ }
 {
@@ -432,7 +436,8 @@ fn reschedule_in(
 ) -> QueueChange
     requires { ⌜ (clock < 16) × SizedState (now words) (now floats) ⌝ }
     ensures { λ r. ⌜ LeavesClock (now (words .entry)) (now (floats .entry)) clock (now (words .exit)) (now (floats .exit))
-        (scheduling.reschedule (slotAt (stateFrom (now (words .entry)) (now (floats .entry))) clock .clock) time censor (sharedFrom (now (words .entry)) .«request_count») .clock)
+        (scheduling.reschedule (slotAt (stateFrom (now (words .entry)) (now (floats .entry))) clock .clock) time censor
+        (sharedFrom (now (words .entry)) .«request_count») .clock)
         × (r ≡ queueChange (scheduling.reschedule (slotAt (stateFrom (now (words .entry)) (now (floats .entry))) clock .clock) time censor
         (sharedFrom (now (words .entry)) .«request_count»))) ⌝ }
 {
@@ -485,7 +490,8 @@ fn resume_in(
 ) -> QueueChange
     requires { ⌜ (clock < 16) × SizedState (now words) (now floats) ⌝ }
     ensures { λ r. ⌜ LeavesClock (now (words .entry)) (now (floats .entry)) clock (now (words .exit)) (now (floats .exit))
-        (scheduling.resume (slotAt (stateFrom (now (words .entry)) (now (floats .entry))) clock .clock) time censor (sharedFrom (now (words .entry)) .«request_count») .clock)
+        (scheduling.resume (slotAt (stateFrom (now (words .entry)) (now (floats .entry))) clock .clock) time censor
+        (sharedFrom (now (words .entry)) .«request_count») .clock)
         × (r ≡ queueChange (scheduling.resume (slotAt (stateFrom (now (words .entry)) (now (floats .entry))) clock .clock) time censor
         (sharedFrom (now (words .entry)) .«request_count»))) ⌝ }
 {
@@ -552,7 +558,8 @@ fn perform_deliver(
 ) -> Answer
     requires { ⌜ Ready (now words) (now floats) ⌝ }
     ensures { λ r. ⌜ Performs (now (words .entry)) (now (floats .entry))
-        (stored (stateFrom (now (words .entry)) (now (floats .entry))) (clockOfRequest (nextRequest (queuedRequests (sharedFrom (now (words .entry))))))
+        (stored (stateFrom (now (words .entry)) (now (floats .entry)))
+        (clockOfRequest (nextRequest (queuedRequests (sharedFrom (now (words .entry))))))
         (performDeliver «journal_length» (slotAt (stateFrom (now (words .entry)) (now (floats .entry)))
         (clockOfRequest (nextRequest (queuedRequests (sharedFrom (now (words .entry)))))))
         (sharedFrom (now (words .entry))) (now (command .entry))))

@@ -89,7 +89,8 @@ pub(crate) fn put_counts(
 // them is not said.
 fn move_up(words: &mut [[u64; 8]], index: u64) -> usize
     requires { ⌜ length (now words) ≡ 177 ⌝ }
-    ensures { λ kept. ⌜ MovedUp (now (words .entry)) (now (words .exit)) (without index (queuedRequests (sharedFrom (now (words .entry))))) kept ⌝ }
+    ensures { λ kept. ⌜ MovedUp (now (words .entry)) (now (words .exit))
+        (without index (queuedRequests (sharedFrom (now (words .entry))))) kept ⌝ }
 {
     let used = used_places(words[COUNTS][QUEUED] as usize);
     let mut kept: usize = 0;

@@ -10,100 +10,73 @@ use Rattle.clocks.proofs.RowLaws.{withChannelAt, leaves-as}
 use Rattle.clocks.proofs.ChannelStores.{wordsOf, numbersOf, channel-back, stored-coded, rows-stored}
 use Rattle.clocks.proofs.channel_rows.put_channel.Statement.{statement}
 use Rattle.clocks.proofs.channel_rows.put_channel.Tie as tie
-use Rattle.clocks.proofs.channel_rows.put_channel.Reads as reads
-use Rattle.clocks.proofs.channel_rows.put_channel.Lts as lts
-use Rattle.hazards.proofs.rates.kind_number.Reads as kind-number-reads
-use Rattle.hazards.proofs.rates.own_rate.Reads as own-rate-reads
 
--- src/channel_rows.rt:63:16
 kind-number-requires : tie.Need-kind-number-requires
 kind-number-requires c κs = search needs
 
--- src/channel_rows.rt:63:16
 cast-kind : tie.Need-cast-kind
 cast-kind c = search needs
 
--- src/channel_rows.rt:64:9
 own-rate-requires : tie.Need-own-rate-requires
 own-rate-requires c κs = search needs
 
--- src/channel_rows.rt:69:9
 cast-t14 : tie.Need-cast-t14
 cast-t14 c = search needs
 
--- src/channel_rows.rt:70:9
 cast-t15 : tie.Need-cast-t15
 cast-t15 c = search needs
 
--- src/channel_rows.rt:88:11
 add-ws : tie.Need-add-ws
 add-ws c = search needs
 
--- src/channel_rows.rt:88:5
 mul-ws : tie.Need-mul-ws
 mul-ws c = search needs
 
--- src/channel_rows.rt:88:5
 slice-set-from-ws : tie.Need-slice-set-from-ws
 slice-set-from-ws c = search needs
 
--- src/channel_rows.rt:89:22
 mul-ns : tie.Need-mul-ns
 mul-ns c = search needs
 
--- src/channel_rows.rt:89:12
 add-ns : tie.Need-add-ns
 add-ns c = search needs
 
--- src/channel_rows.rt:89:5
 mul-ns-2 : tie.Need-mul-ns-2
 mul-ns-2 c = search needs
 
--- src/channel_rows.rt:89:5
 slice-set-from-ns : tie.Need-slice-set-from-ns
 slice-set-from-ns c = search needs
 
--- src/channel_rows.rt:90:19
 mul-ends : tie.Need-mul-ends
 mul-ends c = search needs
 
--- src/channel_rows.rt:90:12
 add-ends : tie.Need-add-ends
 add-ends c = search needs
 
--- src/channel_rows.rt:90:5
 mul-ends-2 : tie.Need-mul-ends-2
 mul-ends-2 c = search needs
 
--- src/channel_rows.rt:90:5
 slice-set-from-ends : tie.Need-slice-set-from-ends
 slice-set-from-ends c = simp length-set (omega arith)
 
--- src/channel_rows.rt:91:20
 mul-rates : tie.Need-mul-rates
 mul-rates c = search needs
 
--- src/channel_rows.rt:91:12
 add-rates : tie.Need-add-rates
 add-rates c = search needs
 
--- src/channel_rows.rt:91:5
 mul-rates-2 : tie.Need-mul-rates-2
 mul-rates-2 c = search needs
 
--- src/channel_rows.rt:91:5
 slice-set-from-rates : tie.Need-slice-set-from-rates
 slice-set-from-rates c = simp length-set (omega arith)
 
--- src/channel_rows.rt:50:1
 same-length : tie.Need-same-length
 same-length c = search needs
 
--- src/channel_rows.rt:50:1
 same-length-2 : tie.Need-same-length-2
 same-length-2 c = search needs
 
--- src/channel_rows.rt:50:1
 returns : tie.Need-returns
 unfolding ofBits
 returns c =
@@ -112,7 +85,8 @@ returns c =
     let k : HazardChannelState = a .c in
     leaves-as
     (rw (c .before .before .before .before .own-rate .ensures, c .before .before .before .before .before .kind-number .ensures)
-    (rows-stored (a .words .now) (a .floats .now) (a .j) (m .pre .0) (m .pre .1) (wordsOf k) (numbersOf k) (k .intervals .ends) (k .intervals .rates)
+    (rows-stored (a .words .now) (a .floats .now) (a .j) (m .pre .0) (m .pre .1) (wordsOf k) (numbersOf k)
+    (k .intervals .ends) (k .intervals .rates)
     (λ h. stored-coded k (omega arith) (omega arith))))
     (ap (withChannelAt (clockFrom (a .words .now) (a .floats .now)) (a .j)) (channel-back k (omega arith) (omega arith)))
 

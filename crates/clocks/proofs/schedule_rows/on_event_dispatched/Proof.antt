@@ -12,94 +12,67 @@ use Rattle.clocks.proofs.SchedulingCases.{dispatched-none, dispatched-o
 use Rattle.clocks.proofs.ScheduleStores.{schedule-stored, idle-coded, times-coded, idle-clock}
 use Rattle.clocks.proofs.schedule_rows.on_event_dispatched.Statement.{statement}
 use Rattle.clocks.proofs.schedule_rows.on_event_dispatched.Tie as tie
-use Rattle.clocks.proofs.schedule_rows.on_event_dispatched.Reads as reads
-use Rattle.clocks.proofs.schedule_rows.on_event_dispatched.Lts as lts
-use Rattle.clocks.proofs.layout.u32_from.Reads as u32-from-reads
-use Rattle.clocks.proofs.scheduling.not_realized.Reads as not-realized-reads
-use Rattle.clocks.proofs.scheduling.realized.Reads as realized-reads
-use Rattle.hazards.proofs.floats.not_below_zero.Reads as not-below-zero-reads
 
--- src/schedule_rows.rt:166:13
 slice-copy-out-b : tie.Need-slice-copy-out-b
 slice-copy-out-b c = search needs
 
--- src/schedule_rows.rt:167:14
 slice-copy-out-ts : tie.Need-slice-copy-out-ts
 slice-copy-out-ts c = search needs
 
--- src/schedule_rows.rt:168:26
 array-read-u32-from : tie.Need-array-read-u32-from
 array-read-u32-from c = search needs
 
--- src/schedule_rows.rt:168:9
 u32-from-requires : tie.Need-u32-from-requires
 u32-from-requires c κs = search needs
 
--- src/schedule_rows.rt:169:39
 array-read-if1 : tie.Need-array-read-if1
 array-read-if1 c = search needs
 
--- src/schedule_rows.rt:169:45
 array-read-t18 : tie.Need-array-read-t18
 array-read-t18 c = search needs
 
--- src/schedule_rows.rt:169:51
 array-read-t21 : tie.Need-array-read-t21
 array-read-t21 c = search needs
 
--- src/schedule_rows.rt:169:5
 slice-set-from-words : tie.Need-slice-set-from-words
 slice-set-from-words c = search needs
 
--- src/schedule_rows.rt:171:9
 array-read-not-below-zero : tie.Need-array-read-not-below-zero
 array-read-not-below-zero c = search needs
 
--- src/schedule_rows.rt:173:9
 array-read-not-below-zero-2 : tie.Need-array-read-not-below-zero-2
 array-read-not-below-zero-2 c = search needs
 
--- src/schedule_rows.rt:174:9
 array-read-not-below-zero-3 : tie.Need-array-read-not-below-zero-3
 array-read-not-below-zero-3 c = search needs
 
--- src/schedule_rows.rt:175:9
 array-read-t34 : tie.Need-array-read-t34
 array-read-t34 c = search needs
 
--- src/schedule_rows.rt:176:9
 array-read-t37 : tie.Need-array-read-t37
 array-read-t37 c = search needs
 
--- src/schedule_rows.rt:177:9
 array-read-t40 : tie.Need-array-read-t40
 array-read-t40 c = search needs
 
--- src/schedule_rows.rt:178:9
 array-read-t43 : tie.Need-array-read-t43
 array-read-t43 c = search needs
 
--- src/schedule_rows.rt:170:5
 slice-set-from-floats : tie.Need-slice-set-from-floats
 slice-set-from-floats c = search needs
 
--- src/schedule_rows.rt:180:8
 array-read-if1-2 : tie.Need-array-read-if1-2
 array-read-if1-2 c = search needs
 
--- src/schedule_rows.rt:181:9
 not-realized-requires : tie.Need-not-realized-requires
 not-realized-requires c κs = search needs
 
--- src/schedule_rows.rt:181:9
 same-length : tie.Need-same-length
 same-length c = search needs
 
--- src/schedule_rows.rt:181:9
 same-length-2 : tie.Need-same-length-2
 same-length-2 c = search needs
 
--- src/schedule_rows.rt:181:9
 returns : tie.Need-returns
 unfolding clockFrom clockOf ofBits
 returns c =
@@ -113,31 +86,24 @@ returns c =
       c .not-realized .ensures ∙ ap (λ (r : Dispatched). r .event) e,
     )
 
--- src/schedule_rows.rt:183:32
 array-read-not-below-zero-4 : tie.Need-array-read-not-below-zero-4
 array-read-not-below-zero-4 c = search needs
 
--- src/schedule_rows.rt:183:50
 array-read-not-below-zero-5 : tie.Need-array-read-not-below-zero-5
 array-read-not-below-zero-5 c = search needs
 
--- src/schedule_rows.rt:183:9
 not-below-zero-requires : tie.Need-not-below-zero-requires
 not-below-zero-requires c κs = search needs
 
--- src/schedule_rows.rt:184:5
 realized-requires : tie.Need-realized-requires
 realized-requires c κs = search needs
 
--- src/schedule_rows.rt:157:1
 same-length-3 : tie.Need-same-length-3
 same-length-3 c = search needs
 
--- src/schedule_rows.rt:157:1
 same-length-4 : tie.Need-same-length-4
 same-length-4 c = search needs
 
--- src/schedule_rows.rt:157:1
 returns-2 : tie.Need-returns-2
 unfolding clockFrom clockOf ofBits
 returns-2 c =

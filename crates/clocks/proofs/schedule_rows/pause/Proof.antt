@@ -7,7 +7,7 @@ use borrow.Author.Needs.{needs}
 use Rattle.clocks.specs.Clocks.{notScheduled, withSchedule}
 use Rattle.clocks.specs.Layout.{clockOf, clockFrom}
 use Rattle.clocks.specs.declared.clocks.SurvivalClock.{SurvivalClock}
-use Rattle.clocks.proofs.PausedRows.{paused-stored}
+use Rattle.clocks.proofs.ScheduleStores.{paused-stored}
 use Rattle.clocks.proofs.RowLaws.{leaves-then, leaves-none, leaves-as}
 use Rattle.clocks.proofs.SchedulingCases.{pause-inactive, pause-active}
 use Rattle.clocks.proofs.schedule_rows.pause.Statement.{statement}

@@ -10,98 +10,74 @@ use Rattle.clocks.specs.ScheduleRows.{queueChange}
 use Rattle.clocks.specs.declared.scheduling.Rescheduled.{Rescheduled}
 use Rattle.clocks.proofs.RowLaws.{leaves-as}
 use Rattle.clocks.proofs.SchedulingCases.{scheduled-none, scheduled-one}
-use Rattle.clocks.proofs.ScheduleStores.{schedule-stored, no-event-coded, event-coded, times-coded, unscheduled-clock, scheduled-clock}
+use Rattle.clocks.proofs.ScheduleStores.{schedule-stored, no-event-coded, event-coded, times-coded}
+use Rattle.clocks.proofs.ScheduleStores.{unscheduled-clock, scheduled-clock}
 use Rattle.clocks.proofs.schedule_rows.schedule_event.Statement.{statement}
 use Rattle.clocks.proofs.schedule_rows.schedule_event.Tie as tie
-use Rattle.clocks.proofs.schedule_rows.schedule_event.Reads as reads
-use Rattle.clocks.proofs.schedule_rows.schedule_event.Lts as lts
-use Rattle.clocks.proofs.ticks.ticks_at.Reads as ticks-at-reads
 
--- src/schedule_rows.rt:47:13
 slice-copy-out-b : tie.Need-slice-copy-out-b
 slice-copy-out-b c = search needs
 
--- src/schedule_rows.rt:48:14
 slice-copy-out-ts : tie.Need-slice-copy-out-ts
 slice-copy-out-ts c = search needs
 
--- src/schedule_rows.rt:50:18
 array-read-if1 : tie.Need-array-read-if1
 array-read-if1 c = search needs
 
--- src/schedule_rows.rt:51:16
 array-read-t21 : tie.Need-array-read-t21
 array-read-t21 c = search needs
 
--- src/schedule_rows.rt:57:13
 array-read-t24 : tie.Need-array-read-t24
 array-read-t24 c = search needs
 
--- src/schedule_rows.rt:58:13
 array-read-t27 : tie.Need-array-read-t27
 array-read-t27 c = search needs
 
--- src/schedule_rows.rt:59:13
 array-read-t30 : tie.Need-array-read-t30
 array-read-t30 c = search needs
 
--- src/schedule_rows.rt:60:13
 array-read-t33 : tie.Need-array-read-t33
 array-read-t33 c = search needs
 
--- src/schedule_rows.rt:61:13
 array-read-t36 : tie.Need-array-read-t36
 array-read-t36 c = search needs
 
--- src/schedule_rows.rt:62:13
 array-read-t39 : tie.Need-array-read-t39
 array-read-t39 c = search needs
 
--- src/schedule_rows.rt:54:9
 slice-set-from-words : tie.Need-slice-set-from-words
 slice-set-from-words c = search needs
 
--- src/schedule_rows.rt:65:13
 array-read-t44 : tie.Need-array-read-t44
 array-read-t44 c = search needs
 
--- src/schedule_rows.rt:66:13
 array-read-t47 : tie.Need-array-read-t47
 array-read-t47 c = search needs
 
--- src/schedule_rows.rt:68:13
 array-read-t50 : tie.Need-array-read-t50
 array-read-t50 c = search needs
 
--- src/schedule_rows.rt:69:13
 array-read-t53 : tie.Need-array-read-t53
 array-read-t53 c = search needs
 
--- src/schedule_rows.rt:70:13
 array-read-t56 : tie.Need-array-read-t56
 array-read-t56 c = search needs
 
--- src/schedule_rows.rt:71:13
 array-read-t59 : tie.Need-array-read-t59
 array-read-t59 c = search needs
 
--- src/schedule_rows.rt:72:13
 array-read-t62 : tie.Need-array-read-t62
 array-read-t62 c = search needs
 
--- src/schedule_rows.rt:64:9
 slice-set-from-floats : tie.Need-slice-set-from-floats
 slice-set-from-floats c = search needs
 
--- src/schedule_rows.rt:74:9
 same-length : tie.Need-same-length
 same-length c = search needs
 
--- src/schedule_rows.rt:74:9
 same-length-2 : tie.Need-same-length-2
 same-length-2 c = search needs
 
--- src/schedule_rows.rt:74:9
 returns : tie.Need-returns
 unfolding clockFrom clockOf
 returns c =
@@ -116,71 +92,54 @@ returns c =
       ap queueChange e,
     )
 
--- src/schedule_rows.rt:81:37
 cast-t17 : tie.Need-cast-t17
 cast-t17 c = search needs
 
--- src/schedule_rows.rt:81:68
 array-read-t21-2 : tie.Need-array-read-t21-2
 array-read-t21-2 c = search needs
 
--- src/schedule_rows.rt:81:74
 array-read-t70 : tie.Need-array-read-t70
 array-read-t70 c = search needs
 
--- src/schedule_rows.rt:81:80
 array-read-t73 : tie.Need-array-read-t73
 array-read-t73 c = search needs
 
--- src/schedule_rows.rt:81:5
 slice-set-from-words-2 : tie.Need-slice-set-from-words-2
 slice-set-from-words-2 c = search needs
 
--- src/schedule_rows.rt:82:22
 array-read-ticks-at : tie.Need-array-read-ticks-at
 array-read-ticks-at c = search needs
 
--- src/schedule_rows.rt:82:43
 array-read-t80 : tie.Need-array-read-t80
 array-read-t80 c = search needs
 
--- src/schedule_rows.rt:82:50
 array-read-t83 : tie.Need-array-read-t83
 array-read-t83 c = search needs
 
--- src/schedule_rows.rt:82:57
 array-read-t86 : tie.Need-array-read-t86
 array-read-t86 c = search needs
 
--- src/schedule_rows.rt:82:64
 array-read-t89 : tie.Need-array-read-t89
 array-read-t89 c = search needs
 
--- src/schedule_rows.rt:82:71
 array-read-t92 : tie.Need-array-read-t92
 array-read-t92 c = search needs
 
--- src/schedule_rows.rt:82:5
 slice-set-from-floats-2 : tie.Need-slice-set-from-floats-2
 slice-set-from-floats-2 c = search needs
 
--- src/schedule_rows.rt:83:64
 array-read-ticks-at-2 : tie.Need-array-read-ticks-at-2
 array-read-ticks-at-2 c = search needs
 
--- src/schedule_rows.rt:83:9
 ticks-at-requires : tie.Need-ticks-at-requires
 ticks-at-requires c κs = search needs
 
--- src/schedule_rows.rt:35:1
 same-length-3 : tie.Need-same-length-3
 same-length-3 c = search needs
 
--- src/schedule_rows.rt:35:1
 same-length-4 : tie.Need-same-length-4
 same-length-4 c = search needs
 
--- src/schedule_rows.rt:35:1
 returns-2 : tie.Need-returns-2
 unfolding clockFrom clockOf
 returns-2 c =

@@ -69,7 +69,9 @@ returns c =
       slot-left w f (a .clock) (m .pre .0) (m .pre .1) (call .last .0) (call .last .1 .0) (call .kept .0) (call .kept .1 .0)
           ∙ ap (λ (x : ClockSlot). withSlot (stateFrom w f) (a .clock) x (sharedFrom w)) here,
       shared-kept w f (a .clock) (m .pre .0) (m .pre .1) (call .last .0) (call .last .1 .0) (call .kept .0) (call .kept .1 .0),
-      λ h. slot-left-coded w f (a .clock) (m .pre .0) (m .pre .1) (call .last .0) (call .last .1 .0) (call .kept .0) (call .kept .1 .0) h (e .2),
+      λ h.
+          slot-left-coded w f (a .clock) (m .pre .0) (m .pre .1) (call .last .0) (call .last .1 .0) (call .kept .0) (call .kept .1 .0) h
+          (e .2),
     )
 
 pub create-in-spec : {M : Type 1} → statement M

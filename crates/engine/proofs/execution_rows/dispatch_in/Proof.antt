@@ -1,6 +1,5 @@
 -- `execution_rows::dispatch_in` meets its contract.
 use mathlib.Core.Path.{_∙_, ap}
-use native.Mathlib.Omega.{arith}
 use Rattle.clocks.specs.Scheduling as scheduling
 use Rattle.clocks.specs.declared.clocks.SurvivalClock.{SurvivalClock}
 use Rattle.clocks.proofs.RowLaws.{leaves-as}

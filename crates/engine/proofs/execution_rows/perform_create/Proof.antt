@@ -115,7 +115,8 @@ returns-3 c =
     sym (present-there w f (clockOf b) k)
     ∙ (ap (λ (i : ℕ). eqb (getD (getD w (10 * i) []) 0 0) 1) (sym (q .byte-at .ensures)) ∙ ne-eqb _ _ (x .if2 .left)) in
     refused-there w f (clockOf b) (performCreate n slot (sharedFrom w) b)
-    (create-full n slot (sharedFrom w) b e (l .if1 .left) t (sym (c .before .before .has-room .ensures) ∙ not-true _ (c .before .if3 .taken)))
+    (create-full n slot (sharedFrom w) b e (l .if1 .left) t
+    (sym (c .before .before .has-room .ensures) ∙ not-true _ (c .before .if3 .taken)))
     (λ z. omega arith) (c .no-event3 .ensures)
 
 create-in-requires : tie.Need-create-in-requires
@@ -168,7 +169,8 @@ returns-4 c =
     sym (present-there w f (clockOf b) k)
     ∙ (ap (λ (i : ℕ). eqb (getD (getD w (10 * i) []) 0 0) 1) (sym (q .byte-at .ensures)) ∙ ne-eqb _ _ (x .if2 .left)) in
     let p = withAppliedBytes (length b) (sharedFrom w) in
-    let made : stateFrom (call .last .0) (call .last .1 .0) ≡ withSlot (stateFrom w f) (clockOf b) (holding (createdClock b)) (sharedFrom w) =
+    let new = holding (createdClock b) in
+    let made : stateFrom (call .last .0) (call .last .1 .0) ≡ withSlot (stateFrom w f) (clockOf b) new (sharedFrom w) =
     rw (q .byte-at .ensures) at (call .ensures .0) in
     let l₁ = call .kept .0 ∙ m .pre .sized .words in
     let l₂ = count .kept .0 ∙ l₁ in

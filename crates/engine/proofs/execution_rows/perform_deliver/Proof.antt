@@ -89,7 +89,8 @@ count-applied-requires c κs =
     let m = y .before .before .before .before .before .before .before .before in
     let a = m .args in
     let h : a .journal-length < 2 ^ 64 = omega (arith, m .good .1 .1 .0 .1) in
-    let same = ap (λ (p : SharedState). p .«applied_length») (out .ensures .shared) ∙ ap (λ (p : SharedState). p .«applied_length») (call .ensures .0 .shared) in (
+    let length-of = λ (p : SharedState). p .«applied_length» in
+    let same = ap length-of (out .ensures .shared) ∙ ap length-of (call .ensures .0 .shared) in (
       out .kept .0 ∙ (call .kept .0 ∙ m .pre .sized .words),
       applied-fits (length (a .command .now)) (a .journal-length) same (sym (y .before .has-room .ensures) ∙ not-false _ (y .if2 .left)) h,
     )
@@ -128,7 +129,8 @@ returns-3 c =
     let left : LeavesClock w f k (call .last .0) (call .last .1 .0) (scheduling.onEventDispatched (slot .clock) .clock) =
     rw same at (call .ensures .0) in
     let gone = withQueue p (without (r .index) (queuedRequests p)) in
-    let took = shared-as (out .ensures) (ap (λ (s : SharedState). withQueue s (without (r .index) (queuedRequests s))) (call .ensures .0 .shared)) in
+    let without-it = λ (s : SharedState). withQueue s (without (r .index) (queuedRequests s)) in
+    let took = shared-as (out .ensures) (ap without-it (call .ensures .0 .shared)) in
     let l₁ = call .kept .0 ∙ m .pre .sized .words in
     let l₂ = out .kept .0 ∙ l₁ in
     let l₃ = count .kept .0 ∙ l₂ in

@@ -1,5 +1,5 @@
 -- `execution_rows::perform_remove` meets its contract: refused, without room, and done.
-use mathlib.Core.Path.{_≡_, sym, _∙_, ap}
+use mathlib.Core.Path.{sym, _∙_, ap}
 use Prim.Native.Nat.{_<_, _^_}
 use native.Mathlib.Omega.{arith}
 use borrow.Author.Tests.{not-true, not-false}
@@ -89,7 +89,8 @@ remove-in-requires c κs =
     let a = m .args in
     let here = slotAt (stateFrom (a .words .now) (a .floats .now)) (clockOf (a .command .now)) in
     let e = i .before .refusal-of .ensures (a .floats .now) ∙ ap (refusalOf (here .present)) (i .before .before .cause-faults .ensures) in
-    let clean = there-clean (causeFaults (a .command .now)) here (removeOn (a .journal-length) (sharedFrom (a .words .now)) (a .command .now)) e
+    let clean =
+    there-clean (causeFaults (a .command .now)) here (removeOn (a .journal-length) (sharedFrom (a .words .now)) (a .command .now)) e
     (i .if1 .left) in
     (rw (l .byte-at .ensures) (cause-accepted (a .command .now) clean), m .pre .sized)
 
@@ -131,7 +132,8 @@ returns-3 c =
     let here = slotAt (stateFrom w f) (clockOf b) in
     let e = l .refusal-of .ensures f ∙ ap (refusalOf (here .present)) (l .before .cause-faults .ensures) in
     let fit = sym (q .before .has-room .ensures) ∙ not-false _ (q .if2 .left) in
-    let left : LeavesClock w f (clockOf b) (call .last .0) (call .last .1 .0) (removeChannel (here .clock) (fieldAt 4 b commands.causeField)) =
+    let cause = fieldAt 4 b commands.causeField in
+    let left : LeavesClock w f (clockOf b) (call .last .0) (call .last .1 .0) (removeChannel (here .clock) cause) =
     rw (g .u32-at .ensures, g .before .byte-at .ensures) at (call .ensures) in
     carried-out w f b (causeFaults b) (removeOn (a .journal-length) (sharedFrom w) b) e (q .before .before .before .if1 .left)
     (ap (done (holding (removeChannel (here .clock) (fieldAt 4 b commands.causeField))) (withAppliedBytes (length b) (sharedFrom w)))

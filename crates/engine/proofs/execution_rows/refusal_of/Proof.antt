@@ -56,7 +56,8 @@ returns-2 c =
     let k : clockOf (m .args .command .now) < 16 = m .pre .1 (sym (q .before .before .number .ensures) ∙ q .before .if1 .left) in
     λ floats.
     ap (λ (b : Bool). cond b 0 clockAbsent)
-    (sym (eq-eqb _ _ (c .if2 .taken)) ∙ (ap (λ (i : ℕ). eqb (getD (getD w (10 * i) []) 0 0) 1) (q .byte-at .ensures) ∙ present-there w floats _ k))
+    (sym (eq-eqb _ _ (c .if2 .taken))
+    ∙ (ap (λ (i : ℕ). eqb (getD (getD w (10 * i) []) 0 0) 1) (q .byte-at .ensures) ∙ present-there w floats _ k))
     ∙ refusal-clock (m .args .faults) (q .before .before .number .ensures)
     (slotAt (stateFrom w floats) (clockOf (m .args .command .now)) .present) (q .before .if1 .left)
 
@@ -68,7 +69,8 @@ returns-3 c =
     let k : clockOf (m .args .command .now) < 16 = m .pre .1 (sym (q .before .before .number .ensures) ∙ q .before .if1 .left) in
     λ floats.
     ap (λ (b : Bool). cond b 0 clockAbsent)
-    (sym (ne-eqb _ _ (c .if2 .left)) ∙ (ap (λ (i : ℕ). eqb (getD (getD w (10 * i) []) 0 0) 1) (q .byte-at .ensures) ∙ present-there w floats _ k))
+    (sym (ne-eqb _ _ (c .if2 .left))
+    ∙ (ap (λ (i : ℕ). eqb (getD (getD w (10 * i) []) 0 0) 1) (q .byte-at .ensures) ∙ present-there w floats _ k))
     ∙ refusal-clock (m .args .faults) (q .before .before .number .ensures)
     (slotAt (stateFrom w floats) (clockOf (m .args .command .now)) .present) (q .before .if1 .left)
 

@@ -1,6 +1,5 @@
 -- `execution_rows::remove_in` meets its contract.
 use mathlib.Core.Path.{ap}
-use native.Mathlib.Omega.{arith}
 use Rattle.clocks.specs.Clocks.{removeChannel}
 use Rattle.clocks.specs.declared.clocks.SurvivalClock.{SurvivalClock}
 use Rattle.clocks.proofs.RowLaws.{leaves-as}
