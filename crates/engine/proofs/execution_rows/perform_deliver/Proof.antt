@@ -89,7 +89,7 @@ count-applied-requires c κs =
     let m = y .before .before .before .before .before .before .before .before in
     let a = m .args in
     let h : a .journal-length < 2 ^ 64 = omega (arith, m .good .1 .1 .0 .1) in
-    let length-of = λ (p : SharedState). p .«applied_length» in
+    let length-of : SharedState → ℕ = λ p. p .«applied_length» in
     let same = ap length-of (out .ensures .shared) ∙ ap length-of (call .ensures .0 .shared) in (
       out .kept .0 ∙ (call .kept .0 ∙ m .pre .sized .words),
       applied-fits (length (a .command .now)) (a .journal-length) same (sym (y .before .has-room .ensures) ∙ not-false _ (y .if2 .left)) h,
@@ -129,7 +129,7 @@ returns-3 c =
     let left : LeavesClock w f k (call .last .0) (call .last .1 .0) (scheduling.onEventDispatched (slot .clock) .clock) =
     rw same at (call .ensures .0) in
     let gone = withQueue p (without (r .index) (queuedRequests p)) in
-    let without-it = λ (s : SharedState). withQueue s (without (r .index) (queuedRequests s)) in
+    let without-it : SharedState → SharedState = λ s. withQueue s (without (r .index) (queuedRequests s)) in
     let took = shared-as (out .ensures) (ap without-it (call .ensures .0 .shared)) in
     let l₁ = call .kept .0 ∙ m .pre .sized .words in
     let l₂ = out .kept .0 ∙ l₁ in
