@@ -56,8 +56,8 @@ module _ (g : HazardChannelState → HazardChannelState) (w : WordRows) (f₀ : 
 
 -- ---- a loop that reads them: those from j on begin with channel j
 
-pub channel-next : (w : WordRows) (f : FloatRows) (j : ℕ) → j < min (clockFrom w f .«channel_count») 8
+pub used-from : (w : WordRows) (f : FloatRows) (j : ℕ) → j < min (clockFrom w f .«channel_count») 8
     → drop j (usedChannels (clockFrom w f)) ≡ channelAt w f j ∷ drop (j + 1) (usedChannels (clockFrom w f))
-channel-next w f j h =
+used-from w f j h =
     let k = clockFrom w f in
     rw (← channel-in w f j pastEnd (omega arith)) (used-next (k .channels) (k .«channel_count») (channels-eight w f) j pastEnd h)

@@ -1,4 +1,4 @@
--- The definitions of the clocks crate, from ticks and channels up to the clock's methods and refusal 1's test.
+-- The definitions of the clocks crate, from ticks and channels up to the clock's methods and refusal 1's test; then clocks in lent memory.
 pub mod Ticks
 pub mod Channels
 pub mod Clocks

@@ -43,12 +43,13 @@ pub mod Asking
 pub mod ReplaySteps
 pub mod Replays
 pub mod Splits
+pub mod ReplayLaws
+pub mod ExecuteLaws
+-- commands in lent memory
 pub mod StateParts
 pub mod CommandsInPlace
 pub mod SharedInPlace
 pub mod RescheduledInPlace
-pub mod ReplayLaws
-pub mod ExecuteLaws
 -- demand 3: of any engine that meets the laws, then of this one
 pub mod DemandHalves
 pub mod Supplied

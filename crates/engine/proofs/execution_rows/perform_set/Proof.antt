@@ -7,7 +7,6 @@ use borrow.Author.Tests.{not-true, not-false}
 use lib.ListN.{length}
 use Rattle.hazards.specs.Refusals.{tooManyCauses}
 use Rattle.hazards.specs.declared.answers.Answer.{Answer}
-use Rattle.clocks.specs.Layout.{WordRows}
 use Rattle.clocks.specs.Setting.{setChannel}
 use Rattle.clocks.specs.SettingRows.{takesCause, channelDraw}
 use Rattle.clocks.specs.declared.setting_rows.ChannelDraw.{ChannelDraw}
@@ -17,21 +16,14 @@ use Rattle.engine.specs.declared.state.SharedState.{SharedState}
 use Rattle.engine.specs.Refusals.{journalFull}
 use Rattle.engine.specs.State.{slotAt, withPosition, withAppliedBytes}
 use Rattle.engine.specs.Execution.{refused, performSet}
-use Rattle.engine.specs.StateRows.{sharedFrom, stateFrom, LeavesShared, LeavesClock}
+use Rattle.engine.specs.StateRows.{sharedFrom, stateFrom, LeavesClock}
 use Rattle.engine.proofs.AcceptedFields.{set-accepted}
 use Rattle.engine.proofs.ExecutionCases.{refusalOf, setOn, set-ninth, set-full, set-refused, set-done, there-clean, applied-fits}
 use Rattle.engine.proofs.CommandsInPlace.{turned-away, refused-later, carried-out, shared-as}
+use Rattle.engine.proofs.SharedInPlace.{shared-then}
 use borrow.Author.Needs.{needs}
 use Rattle.engine.proofs.execution_rows.perform_set.Statement.{statement}
 use Rattle.engine.proofs.execution_rows.perform_set.Tie as tie
-
--- one call on the shared state after another
-shared-then : {w w′ w″ : WordRows} {p q : SharedState} → LeavesShared w w′ p → LeavesShared w′ w″ q → LeavesShared w w″ q
-shared-then one two = record {
-  shared = two .shared;
-  clocks = two .clocks ∙ one .clocks;
-  coded = λ h. two .coded (one .coded h);
-}
 
 set-faults-requires : tie.Need-set-faults-requires
 set-faults-requires c κs = search needs
