@@ -12,10 +12,10 @@ use Rattle.hazards.specs.Answers.{answerWidth, noEvent, withAnswer}
 use Rattle.hazards.proofs.Bytes.{bytesOf-length}
 use Rattle.hazards.proofs.Overwrite.{over, over-length, over-next, field-over}
 use Rattle.hazards.proofs.Cases.{by-test}
-use Rattle.engine.specs.Commands.{widthOf}
+use Rattle.engine.specs.Commands.{widthOf, frontRefusal}
 use Rattle.engine.specs.Refusals.{noCommand, cutShort, answersFull}
 use Rattle.engine.specs.Engine.{Bytes, code}
-use Rattle.engine.specs.RunInternals.{Stop, stop, stopAt, endNumber}
+use Rattle.engine.specs.RunInternals.{Stop, stop, stopAt}
 
 -- ---- the refusal of an input that ends a run, by the tests on the input
 
@@ -23,28 +23,28 @@ abbrev pub numbered : Bool → Bool → ℕ
 numbered wide long = cond wide (cond long 0 cutShort) noCommand
 
 module _ (i : Bytes) where
-  pub end-empty : length i ≡ 0 → cutShort ≡ endNumber i
-  unfolding endNumber
+  pub end-empty : length i ≡ 0 → cutShort ≡ frontRefusal i
+  unfolding frontRefusal
   end-empty h = rw (le-ltb 0 (length i) (omega arith)) refl
 
   module _ (h : 0 < length i) where
-    pub end-number : endNumber i ≡ numbered (ltb 0 (widthOf (code i))) (leb (widthOf (code i)) (length i))
-    unfolding endNumber
+    pub end-number : frontRefusal i ≡ numbered (ltb 0 (widthOf (code i))) (leb (widthOf (code i)) (length i))
+    unfolding frontRefusal
     end-number = rw (lt-ltb 0 (length i) h) refl
 
-    pub end-none : widthOf (code i) ≤ 0 → noCommand ≡ endNumber i
+    pub end-none : widthOf (code i) ≤ 0 → noCommand ≡ frontRefusal i
     end-none w =
         sym (end-number ∙ ap (λ (b : Bool). numbered b (leb (widthOf (code i)) (length i))) (le-ltb 0 (widthOf (code i)) w))
 
     module _ (w : 0 < widthOf (code i)) where
-      by-length : endNumber i ≡ numbered true (leb (widthOf (code i)) (length i))
+      by-length : frontRefusal i ≡ numbered true (leb (widthOf (code i)) (length i))
       by-length =
           end-number ∙ ap (λ (b : Bool). numbered b (leb (widthOf (code i)) (length i))) (lt-ltb 0 (widthOf (code i)) w)
 
-      pub end-part : length i < widthOf (code i) → cutShort ≡ endNumber i
+      pub end-part : length i < widthOf (code i) → cutShort ≡ frontRefusal i
       end-part l = sym (by-length ∙ ap (numbered true) (lt-leb (widthOf (code i)) (length i) l))
 
-      pub end-whole : widthOf (code i) ≤ length i → 0 ≡ endNumber i
+      pub end-whole : widthOf (code i) ≤ length i → 0 ≡ frontRefusal i
       end-whole l = sym (by-length ∙ ap (numbered true) (le-leb (widthOf (code i)) (length i) l))
 
 -- ---- the three ways
@@ -55,7 +55,7 @@ module _ (i answers result : Bytes) (answered read : ℕ) where
   unfolding stopAt
   stop-full l = rw (lt-leb (answerWidth * answered + answerWidth) (length answers) l)
 
-  module _ (l : answerWidth * answered + answerWidth ≤ length answers) (number : ℕ) (e : number ≡ endNumber i) where
+  module _ (l : answerWidth * answered + answerWidth ≤ length answers) (number : ℕ) (e : number ≡ frontRefusal i) where
     pub stop-not : number ≡ 0 → stop number answers result ≡ stopAt i answers result answered read
     unfolding stopAt
     stop-not z = rw (le-leb (answerWidth * answered + answerWidth) (length answers) l, ← e, z)
@@ -68,19 +68,19 @@ module _ (i answers result : Bytes) (answered read : ℕ) where
 
   pub stop-way : (P : Stop → Type 0)
       → (length answers < answerWidth * answered + answerWidth → P (stop answersFull answers (bytesOf 8 answered ++ bytesOf 8 read)))
-      → (answerWidth * answered + answerWidth ≤ length answers → endNumber i ≡ 0 → P (stop 0 answers result))
-      → (answerWidth * answered + answerWidth ≤ length answers → (endNumber i ≡ 0 → ⊥)
+      → (answerWidth * answered + answerWidth ≤ length answers → frontRefusal i ≡ 0 → P (stop 0 answers result))
+      → (answerWidth * answered + answerWidth ≤ length answers → (frontRefusal i ≡ 0 → ⊥)
       → P
-      (stop (endNumber i) (withAnswer answers (answerWidth * answered) (noEvent (endNumber i)))
+      (stop (frontRefusal i) (withAnswer answers (answerWidth * answered) (noEvent (frontRefusal i)))
       (bytesOf 8 (answered + 1) ++ bytesOf 8 read)))
       → P (stopAt i answers result answered read)
   stop-way P full whole part =
       by-test (leb (answerWidth * answered + answerWidth) (length answers))
       (λ l.
       let room : answerWidth * answered + answerWidth ≤ length answers = leb-true _ _ l in
-      by-test (eqb (endNumber i) 0)
+      by-test (eqb (frontRefusal i) 0)
       (λ z. subst P (stop-not room 0 (sym (eqb-true _ _ z)) refl) (whole room (eqb-true _ _ z)))
-      (λ z. subst P (stop-number room (endNumber i) refl (eqb-false _ _ z)) (part room (eqb-false _ _ z))))
+      (λ z. subst P (stop-number room (frontRefusal i) refl (eqb-false _ _ z)) (part room (eqb-false _ _ z))))
       (λ l. subst P (stop-full (leb-false _ _ l)) (full (leb-false _ _ l)))
 
 -- ---- the result's two fields

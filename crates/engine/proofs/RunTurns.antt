@@ -13,7 +13,7 @@ use Rattle.hazards.specs.Answers.{answerWidth, noEvent, withAnswer}
 use Rattle.hazards.specs.declared.answers.Answer.{Answer}
 use Rattle.hazards.proofs.Cases.{by-test}
 use Rattle.engine.specs.Commands as commands
-use Rattle.engine.specs.Commands.{widthOf}
+use Rattle.engine.specs.Commands.{widthOf, frontRefusal}
 use Rattle.engine.specs.Refusals.{noCommand, cutShort, answersFull}
 use Rattle.engine.specs.Opening.{openedState}
 use Rattle.engine.specs.State.{slotAt, withSlot}
@@ -26,7 +26,7 @@ use Rattle.engine.specs.Validation.{validState}
 use Rattle.engine.specs.ExecutionInternals.{onSlotOf}
 use Rattle.engine.specs.Execution.{performOn, target, perform}
 use Rattle.engine.specs.Run.{Ran, finished, endsRun, executed, runFrom, ran}
-use Rattle.engine.specs.RunInternals.{Stop, stop, stopAt, JournalAndAnswers, journalAndAnswers, answerAt, openedRun, endNumber}
+use Rattle.engine.specs.RunInternals.{Stop, stop, stopAt, JournalAndAnswers, journalAndAnswers, answerAt, openedRun}
 use Rattle.engine.specs.Answers.{AfterInput, after, answerOf, returned}
 use Rattle.engine.specs.declared.execute.Executed.{Executed}
 use Rattle.engine.specs.declared.execution.SlotOutcome.{SlotOutcome}
@@ -184,7 +184,7 @@ module _ (bytes stream : Bytes) (n size : ℕ) (all : Ran) where
           (executes (unchanged E s j m) (execute-rejects E s j input m k)) t)
           ∙ fuel
 
-      input-number : Numbered (endNumber input)
+      input-number : Numbered (frontRefusal input)
       input-number =
           subst Numbered (sym (end-number input input-pos))
           (go (ltb 0 (widthOf (code input))) refl (leb (widthOf (code input)) (length input)) refl)

@@ -2,9 +2,9 @@
 -- own bytes, cut to its width.
 use mathlib.Core.Bool.{cond, false, not, _&&_, _||_}
 use Prim.Native.Nat.{ℕ, _+_}
-use lib.Dec.{eqb, ltb}
+use lib.Dec.{eqb, ltb, leb}
 use mathlib.Core.List.{List, [], _∷_}
-use lib.ListN.{getD}
+use lib.ListN.{length, getD}
 use lib.IntN.{ℤ}
 use lib.Ieee.{Float}
 use Rattle.hazards.specs.Floats.{inRange, isTime, zeroBits}
@@ -15,6 +15,7 @@ use Rattle.hazards.specs.Ties.{tieBreakerOf}
 use Rattle.hazards.specs.declared.refusals.Faults.{Faults}
 use Rattle.hazards.specs.declared.checks.HazardFields.{HazardFields}
 use Rattle.clocks.specs.Clocks.{policyOf, newClock}
+use Rattle.engine.specs.Refusals.{cutShort, noCommand}
 use Rattle.clocks.specs.declared.clocks.SurvivalClock.{SurvivalClock}
 use Rattle.clocks.specs.declared.setting.CauseSetting.{CauseSetting}
 use Rattle.clocks.specs.declared.scheduling.Censor.{Censor}
@@ -51,6 +52,12 @@ widthOf code =
     (cond (eqb code remove) 6
     (cond (eqb code reschedule) 23
     (cond (eqb code pause) 10 (cond (eqb code resume) 23 (cond (eqb code deliver) 1 (cond (eqb code undo) 1 0)))))))
+
+-- the 2 or 3 that bytes are refused by which do not begin with a whole command; 0 where they do
+unfoldable pub frontRefusal : List ℕ → ℕ
+frontRefusal i =
+    let width = widthOf (getD i 0 0) in
+    cond (ltb 0 (length i)) (cond (ltb 0 width) (cond (leb width (length i)) 0 cutShort) noCommand) cutShort
 
 -- ---- the places of the fields
 

@@ -4,15 +4,19 @@ use mathlib.Core.Bool.{true, cond}
 use mathlib.Core.List.{List}
 use mathlib.Core.Option.{some}
 use Prim.Native.Nat.{ℕ, _<_}
+use Rattle.hazards.specs.Answers.{noEvent}
+use Rattle.hazards.specs.declared.answers.Answer.{Answer}
 use Rattle.clocks.specs.Layout.{WordRows, FloatRows}
 use Rattle.clocks.specs.declared.schedule_rows.QueueChange.{QueueChange}
 use Rattle.engine.specs.Execution.{withdraw, requestOf}
 use Rattle.engine.specs.Queue.{nextRequest}
 use Rattle.engine.specs.State.{slotAt, queuedRequests, withRequest}
-use Rattle.engine.specs.StateRows.{sharedFrom, stateFrom, SizedState}
+use Rattle.engine.specs.Engine.{Performed}
+use Rattle.engine.specs.StateRows.{sharedFrom, stateFrom, SizedState, CodedState, performedOf}
 use Rattle.engine.specs.ExecutionInternals.{Countable}
 use Rattle.engine.specs.declared.state.Request.{Request}
 use Rattle.engine.specs.declared.state.SharedState.{SharedState}
+use Rattle.engine.specs.declared.state.EngineState.{EngineState}
 
 -- the shared state once a rescheduled clock's old event is withdrawn and its new one queued
 abbrev pub requeued : SharedState → List ℕ → QueueChange → SharedState
@@ -26,3 +30,12 @@ pub record Ready (w : WordRows) (f : FloatRows) : Type 0 where
   pub counts : Countable (sharedFrom w)
   pub next : (r : Request) → nextRequest (queuedRequests (sharedFrom w)) ≡ some r → r .clock < 16
   pub there : (r : Request) → nextRequest (queuedRequests (sharedFrom w)) ≡ some r → slotAt (stateFrom w f) (r .clock) .present ≡ true
+
+-- what a command that is taken back at once leaves: its answer as it is defined, and every field of the state as it was
+pub record TakenBack (w : WordRows) (f : FloatRows) (o : Performed EngineState Answer) (w′ : WordRows) (f′ : FloatRows) (a : Answer)
+    : Type 0 where
+  pub taken : EngineState
+  pub does : performedOf taken a ≡ o
+  pub refused : (a .number ≡ 0 → ⊥) → a ≡ noEvent (a .number)
+  pub same : stateFrom w′ f′ ≡ stateFrom w f
+  pub coded : CodedState w f → CodedState w′ f′

@@ -27,7 +27,10 @@ pub mod Ledger
 pub mod DeliveryOrder
 pub mod Demand3
 pub mod Rows
+-- the state in lent memory
 pub mod StateRows
+pub mod KeptRows
+pub mod ExecuteRows
 -- internals: what the answers of the code's inner functions mean; no call that document 01 names cites these
 pub mod QueueInternals
 pub mod QueueRowsInternals
@@ -35,4 +38,7 @@ pub mod ExecutionInternals
 pub mod ExecutionRowsInternals
 pub mod ExecuteInternals
 pub mod ReplayInternals
+pub mod ReplayRowsInternals
+pub mod OpeningRowsInternals
+pub mod ComparisonRowsInternals
 pub mod RunInternals

@@ -2,14 +2,14 @@
 use mathlib.Core.Bool.{Bool, cond, _&&_}
 use mathlib.Core.List.{_++_}
 use Prim.Native.Nat.{ℕ, _+_, _*_}
-use lib.Dec.{eqb, ltb, leb}
+use lib.Dec.{eqb, leb}
 use lib.ListN.{length, replicate}
 use lib.Seq.{paste}
 use Rattle.hazards.specs.Fields.{bytesOf}
 use Rattle.hazards.specs.Answers.{answerWidth, noEvent, withAnswer}
 use Rattle.hazards.specs.declared.answers.Answer.{Answer}
-use Rattle.engine.specs.Commands.{widthOf}
-use Rattle.engine.specs.Refusals.{noCommand, cutShort, answersFull}
+use Rattle.engine.specs.Commands.{frontRefusal}
+use Rattle.engine.specs.Refusals.{answersFull}
 use Rattle.engine.specs.Opening.{openedState}
 use Rattle.engine.specs.Commands as commands
 use Rattle.engine.specs.Engine.{Bytes, code}
@@ -25,13 +25,6 @@ pub record Stop : Type 0 where
 abbrev pub stop : ℕ → Bytes → Bytes → Stop
 stop number answers result = record { number = number; answers = answers; result = result }
 
--- the 2 or 3 that an input is refused by; 0 where it is a whole command
-unfoldable pub endNumber : Bytes → ℕ
-endNumber input =
-    cond (ltb 0 (length input))
-    (cond (ltb 0 (widthOf (code input))) (cond (leb (widthOf (code input)) (length input)) 0 cutShort) noCommand)
-    cutShort
-
 -- by the 2 or 3 that the input is refused by, which is answered and counted; 0 goes on and writes nothing
 abbrev pub stopBy : ℕ → Bytes → Bytes → ℕ → ℕ → Stop
 stopBy number answers result answered read =
@@ -41,7 +34,7 @@ stopBy number answers result answered read =
 -- 17 first, if under an answer's bytes are left
 unfoldable pub stopAt : Bytes → Bytes → Bytes → ℕ → ℕ → Stop
 stopAt input answers result answered read =
-    cond (leb (answerWidth * answered + answerWidth) (length answers)) (stopBy (endNumber input) answers result answered read)
+    cond (leb (answerWidth * answered + answerWidth) (length answers)) (stopBy (frontRefusal input) answers result answered read)
     (stop answersFull answers (bytesOf 8 answered ++ bytesOf 8 read))
 
 -- the journal and the answers after a command

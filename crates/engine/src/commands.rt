@@ -6,7 +6,9 @@ ghost use lib.Dec.{eqb, ltb};
 ghost use Rattle.hazards.specs.Fields.{fieldAt};
 ghost use Rattle.engine.specs.Commands.{widthOf, entityIndexField, generationField, byteAt, floatsAt, hazardFields, settingOf};
 ghost use Rattle.engine.specs.Commands.{createdClock, censorOf, clockFaults, createFaults, causeFaults, setFaults, rescheduleFaults};
-ghost use Rattle.engine.specs.Commands.{pauseFaults, faultsOf};
+ghost use Rattle.engine.specs.Commands.{pauseFaults, faultsOf, frontRefusal};
+use crate::refusals::CUT_SHORT;
+use crate::refusals::NO_COMMAND;
 use clocks::clocks::EntityId;
 use clocks::clocks::SurvivalClock;
 use clocks::clocks::policy_of;
@@ -94,6 +96,23 @@ pub fn width(code: u8) -> usize
         UNDO => 1,
         _ => 0,
     }
+}
+
+// The refusal of bytes that do not begin with a whole command: 2 where they are no command, 3 where it is cut short; else 0.
+pub fn front_refusal(input: &[u8]) -> u8
+    ensures { λ r. ⌜ r ≡ frontRefusal (now (input .entry)) ⌝ }
+{
+    if input.len() == 0 {
+        return CUT_SHORT;
+    }
+    let width = width(input[0]);
+    if width == 0 {
+        return NO_COMMAND;
+    }
+    if input.len() < width {
+        return CUT_SHORT;
+    }
+    0
 }
 
 // A byte past the end is 0.

@@ -27,7 +27,7 @@ fn same_flag(a: bool, b: bool) -> bool
     if a { b } else { !b }
 }
 
-fn same_float(a: f64, b: f64) -> bool
+pub(crate) fn same_float(a: f64, b: f64) -> bool
     ensures { λ r. ⌜ r ≡ sameFloat a b ⌝ }
 {
     if a != a {

@@ -9,15 +9,13 @@ ghost use Rattle.engine.specs.Validation.{validState};
 ghost use Rattle.engine.specs.Instance.{engineOf};
 ghost use Rattle.engine.specs.ExecuteInternals.{Recordable, performAndRecord, recorded};
 ghost use Rattle.engine.specs.Answers.{after, returned};
+use crate::refusals::CUT_SHORT;
+use crate::refusals::NO_COMMAND;
 use crate::execution::SlotOutcome;
 use crate::state::ClockSlot;
 use crate::state::EngineState;
 use crate::state::SharedState;
 use hazards::answers::Answer;
-
-pub const NO_COMMAND: u8 = 2;
-
-pub const CUT_SHORT: u8 = 3;
 
 // The answer and the state after an input.
 pub struct Executed {

@@ -10,6 +10,10 @@ ghost use Rattle.engine.specs.Execution.{refused, done, holding, isWithd
 ghost use Rattle.engine.specs.Execution.{afterReschedule, afterPause, performCreate, performSet, performRemove, performReschedule};
 ghost use Rattle.engine.specs.Execution.{performResume, performPause, performDeliver, performOn, target};
 ghost use Rattle.engine.specs.ExecutionInternals.{onSlotOf, Countable};
+use crate::refusals::JOURNAL_FULL;
+use crate::refusals::QUEUE_EMPTY;
+use crate::refusals::CLOCK_ABSENT;
+use crate::refusals::CLOCK_PRESENT;
 use crate::commands::CAUSE_FIELD;
 use crate::commands::CLOCK_FIELD;
 use crate::commands::CREATE;
@@ -34,14 +38,6 @@ use clocks::setting::ChannelSet;
 use clocks::ticks::Ticks;
 use hazards::answers::Answer;
 use hazards::refusals::Faults;
-
-pub const CLOCK_PRESENT: u8 = 8;
-
-pub const CLOCK_ABSENT: u8 = 9;
-
-pub const QUEUE_EMPTY: u8 = 11;
-
-pub const JOURNAL_FULL: u8 = 14;
 
 // A refusal's number, or 0 with slot, shared state and answer after the command.
 pub struct SlotOutcome {

@@ -18,10 +18,10 @@ ghost use Rattle.engine.specs.Refusals.{clockAbsent};
 ghost use Rattle.engine.specs.State.{slotAt, withSlot, queuedRequests, withRequest, withPosition, withAppliedBytes};
 ghost use Rattle.engine.specs.Execution.{holding, isWithdrawn, withdraw, stored, performCreate, performSet, performRemove};
 ghost use Rattle.engine.specs.Execution.{performReschedule, performPause, performResume, performDeliver, perform};
-ghost use Rattle.engine.specs.Execution.{requestOf, eventAnswer, clockOfRequest};
+ghost use Rattle.engine.specs.Execution.{requestOf, eventAnswer, clockOfRequest, target};
 ghost use Rattle.engine.specs.StateRows.{sharedFrom, stateFrom, CodedState, SizedState, LeavesShared, LeavesClock, Performs};
 ghost use Rattle.engine.specs.ExecutionInternals.{Countable};
-ghost use Rattle.engine.specs.ExecutionRowsInternals.{Ready, requeued};
+ghost use Rattle.engine.specs.ExecutionRowsInternals.{Ready, TakenBack, requeued};
 use crate::commands::CAUSE_FIELD;
 use crate::commands::CLOCK_FIELD;
 use crate::commands::CREATE;
@@ -41,11 +41,12 @@ use crate::commands::SCALE_FIELD;
 use crate::commands::SET;
 use crate::commands::TIE_FIELD;
 use crate::commands::byte_at;
-use crate::execution::CLOCK_ABSENT;
-use crate::execution::CLOCK_PRESENT;
-use crate::execution::JOURNAL_FULL;
-use crate::execution::QUEUE_EMPTY;
+use crate::refusals::CLOCK_ABSENT;
+use crate::refusals::CLOCK_PRESENT;
+use crate::refusals::JOURNAL_FULL;
+use crate::refusals::QUEUE_EMPTY;
 use crate::execution::event_answer;
+use crate::kept_rows::KEPT_WORDS;
 use crate::state::Request;
 use crate::state_rows::APPLIED_LENGTH;
 use crate::state_rows::COUNTS;
@@ -602,4 +603,42 @@ pub(crate) fn perform(
         RESUME => perform_resume(words, floats, journal_length, command),
         _ => perform_deliver(words, floats, journal_length, command),
     }
+}
+
+// The clock that a command is about, for DELIVER that of the next request. It is 15 where it is none of the sixteen: the command is refused
+// then.
+pub(crate) fn near_target(words: &[[u64; 8]], command: &[u8]) -> usize
+    requires { ⌜ length (now words) ≡ 177 ⌝ }
+    ensures { λ r. ⌜ (r < 16) × (target (sharedFrom (now (words .entry))) (now (command .entry)) < 16
+        → r ≡ target (sharedFrom (now (words .entry))) (now (command .entry))) ⌝ }
+{
+    let mut clock = byte_at(command, CLOCK_FIELD) as usize;
+    if byte_at(command, 0) == DELIVER {
+        clock = crate::queue_rows::next_request(words).request.clock;
+    }
+    if clock < 16 { clock } else { 15 }
+}
+
+// The answer to a command that is taken back at once: what it changed is as it was.
+pub(crate) fn perform_reverted(
+    words: &mut [[u64; 8]],
+    floats: &mut [[f64; 8]],
+    stream: &[u8],
+    journal_length: usize,
+    command: &[u8],
+) -> Answer
+    requires { ⌜ Ready (now words) (now floats) × (0 < widthOf (byteAt (now command) 0)) × (byteAt (now command) 0 ≡ 8 → ⊥) ⌝ }
+    ensures { λ r. ⌜ TakenBack (now (words .entry)) (now (floats .entry))
+        (perform (now (stream .entry)) «journal_length» (stateFrom (now (words .entry)) (now (floats .entry))) (now (command .entry)))
+        (now (words .exit)) (now (floats .exit)) r ⌝ }
+{
+    let mut kept: [[u64; 8]; KEPT_WORDS] = [[0; 8]; KEPT_WORDS];
+    let mut kept_floats: [[f64; 8]; CLOCK_FLOATS] = [[0.0; 8]; CLOCK_FLOATS];
+    let clock = near_target(words, command);
+    crate::kept_rows::keep(words, floats, clock, &mut kept, &mut kept_floats);
+    let answer = perform(words, floats, stream, journal_length, command);
+    if answer.number == 0 {
+        crate::kept_rows::put_back(words, floats, clock, &kept, &kept_floats);
+    }
+    answer
 }

@@ -9,14 +9,12 @@ ghost use Rattle.engine.specs.Replay.{cleared, undo};
 ghost use Rattle.engine.specs.Instance.{engineOf};
 ghost use Rattle.engine.specs.ReplayInternals.{beforeLast, wholeWidth, frontCommand, replayEndOf, ends, replayAll};
 ghost use Rattle.engine.specs.Answers.{after, returned};
+use crate::refusals::REPLAY_FAILS;
+use crate::refusals::NOTHING_APPLIED;
 use crate::execute::Executed;
 use crate::state::ClockSlot;
 use crate::state::EngineState;
 use crate::state::SharedState;
-
-pub const NOTHING_APPLIED: u8 = 12;
-
-pub const REPLAY_FAILS: u8 = 13;
 
 // Where a replay ends: the state after all commands, and the last command's place with its clock's number, slot and shared state before it.
 pub struct Replay {
@@ -62,7 +60,7 @@ pub(crate) fn with_slot(
 }
 
 // The width of the whole command at the front of the bytes; 0 where there is none, or it is an UNDO.
-fn command_width(bytes: &[u8]) -> usize
+pub(crate) fn command_width(bytes: &[u8]) -> usize
     ensures { λ r. ⌜ r ≡ wholeWidth (now (bytes .entry)) ⌝ }
 {
     if bytes.len() == 0 {
@@ -167,7 +165,7 @@ fn restored(end: Replay, journal: &mut [u8], applied: usize) -> EngineState
 }
 
 // The place of the last of some applied commands; 0 where there is none.
-fn last_command(bytes: &[u8]) -> usize
+pub(crate) fn last_command(bytes: &[u8]) -> usize
     ensures { λ r. ⌜ (r ≤ length (now (bytes .entry)))
         × ((stream : List ℕ) (n : ℕ) (s before : EngineState) (last : ℕ)
         → replayAll (engineOf stream n) (now (bytes .entry)) ≡ ends s before last → r ≡ last) ⌝ }

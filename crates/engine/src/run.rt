@@ -9,8 +9,10 @@ ghost use Rattle.hazards.specs.Fields.{bytesOf};
 ghost use Rattle.hazards.specs.Answers.{answerWidth};
 ghost use Rattle.engine.specs.Refusals.{nothingApplied};
 ghost use Rattle.engine.specs.Run.{runOf, ran};
-ghost use Rattle.engine.specs.RunInternals.{stop, endNumber, stopAt, journalAndAnswers, answerAt, isReverted, bothAnswered};
+ghost use Rattle.engine.specs.RunInternals.{stop, stopAt, journalAndAnswers, answerAt, isReverted, bothAnswered};
 ghost use Rattle.engine.specs.RunInternals.{openedRun};
+use crate::refusals::BAD_BUFFERS;
+use crate::refusals::ANSWERS_FULL;
 use crate::execution::perform_on;
 use crate::replay::replayed_state;
 use hazards::answers::ANSWER_WIDTH;
@@ -20,10 +22,6 @@ use hazards::answers::put_answer;
 
 // Room for a command's answer and that of an UNDO after it.
 const TWO_ANSWERS: usize = 2 * ANSWER_WIDTH;
-
-pub const ANSWERS_FULL: u8 = 17;
-
-pub const BAD_BUFFERS: u8 = 18;
 
 // Whether the stream is whole thresholds and the result has its bytes.
 fn are_usable(stream: &[u8], result: &[u8]) -> bool
@@ -44,23 +42,6 @@ fn finish(result: &mut [u8], answered: usize, read: usize)
     hazards::fields::put_u64(result, 8, read as u64);
 }
 
-// The refusal that ends a run at an input: 2 where it is no command, 3 where it is cut short; 0 where it is a whole command.
-fn end_number(input: &[u8]) -> u8
-    ensures { λ r. ⌜ r ≡ endNumber (now (input .entry)) ⌝ }
-{
-    if input.len() == 0 {
-        return crate::execute::CUT_SHORT;
-    }
-    let width = crate::commands::width(input[0]);
-    if width == 0 {
-        return crate::execute::NO_COMMAND;
-    }
-    if input.len() < width {
-        return crate::execute::CUT_SHORT;
-    }
-    0
-}
-
 // What ends the run before an input is executed: 17 where its answer has no room, or 2 or 3, which is answered and counted; else 0, and
 // nothing is written.
 fn end_run(input: &[u8], answers: &mut [u8], result: &mut [u8], answered: usize, read: usize) -> u8
@@ -73,7 +54,7 @@ fn end_run(input: &[u8], answers: &mut [u8], result: &mut [u8], answered: usize,
         finish(result, answered, read);
         return ANSWERS_FULL;
     }
-    let number = end_number(input);
+    let number = crate::commands::front_refusal(input);
     if number != 0 {
         put_answer(answers, place, no_event(number));
         finish(result, answered + 1, read);
@@ -136,7 +117,7 @@ fn undo_number(applied: usize) -> u8
     ensures { λ r. ⌜ r ≡ cond (eqb applied 0) nothingApplied 0 ⌝ }
 {
     if applied == 0 {
-        crate::replay::NOTHING_APPLIED
+        crate::refusals::NOTHING_APPLIED
     } else {
         0
     }

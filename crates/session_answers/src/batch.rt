@@ -10,7 +10,7 @@ fn count_refusals(answers: &[u8], answered: usize, number: u8, tally: Tally) -> 
     requires { ⌜ answered ≤ 128 ⌝ }
 {
     let mut after = tally;
-    if number >= engine::run::ANSWERS_FULL {
+    if number >= engine::refusals::ANSWERS_FULL {
         after = after.with_number(number);
     }
     let mut i: usize = 0;

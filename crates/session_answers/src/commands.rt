@@ -28,7 +28,7 @@ pub fn place_after(commands: &[u8], at: usize) -> usize {
 pub fn answered(result: &[u8], number: u8) -> usize
     ensures { λ r. ⌜ r ≤ 128 ⌝ }
 {
-    if number == engine::run::BAD_BUFFERS {
+    if number == engine::refusals::BAD_BUFFERS {
         return 0;
     }
     let count = u64_at(result, 0);

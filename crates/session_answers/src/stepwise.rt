@@ -59,7 +59,7 @@ pub fn play(
     number: u8,
     tally: Tally,
 ) -> Tally {
-    if number == engine::run::BAD_BUFFERS {
+    if number == engine::refusals::BAD_BUFFERS {
         return tally;
     }
     let mut space = [0x5Au8; 4096];

@@ -30,14 +30,14 @@ returns c =
     ap (stop 17 (a .answers .now)) (c .before .before .finish .ensures)
     ∙ stop-full (a .input .now) (a .answers .now) (a .result .now) (a .answered) (a .read) (omega arith)
 
-end-number-requires : tie.Need-end-number-requires
-end-number-requires c κs = search needs
+front-refusal-requires : tie.Need-front-refusal-requires
+front-refusal-requires c κs = search needs
 
 -- there is room for an answer
-abbrev start : tie.After-end-number → tie.Start
+abbrev start : tie.After-front-refusal → tie.Start
 start c = c .before .before .before .before .before
 
-room : (c : tie.After-end-number) → answerWidth * start c .args .answered + answerWidth ≤ length (start c .args .answers .now)
+room : (c : tie.After-front-refusal) → answerWidth * start c .args .answered + answerWidth ≤ length (start c .args .answers .now)
 room c = omega arith
 
 no-event-requires : tie.Need-no-event-requires
@@ -62,21 +62,21 @@ returns-2 : tie.Need-returns-2
 returns-2 c =
     let m = c .before .before .before .before .before .before .before .before .before .before in
     let a = start m .args in
-    let number : ℕ = m .end-number .result in
+    let number : ℕ = m .front-refusal .result in
     let put = c .before .before .before .before .before .before in
     let refusal = put .before .no-event .ensures in
     ap (stop number (put .put-answer .last .0)) (c .before .before .finish2 .ensures)
     ∙ ap (λ (x : List ℕ). stop number x (bytesOf 8 (a .answered + 1) ++ bytesOf 8 (a .read)))
     (put .put-answer .ensures ∙ ap (withAnswer (a .answers .now) (answerWidth * a .answered)) refusal)
-    ∙ stop-number (a .input .now) (a .answers .now) (a .result .now) (a .answered) (a .read) (room m) number (m .end-number .ensures)
+    ∙ stop-number (a .input .now) (a .answers .now) (a .result .now) (a .answered) (a .read) (room m) number (m .front-refusal .ensures)
     (c .before .before .before .before .before .before .before .before .before .if2 .taken)
 
 returns-3 : tie.Need-returns-3
 returns-3 c =
     let m = c .before in
     let a = start m .args in
-    stop-not (a .input .now) (a .answers .now) (a .result .now) (a .answered) (a .read) (room m) (m .end-number .result)
-    (m .end-number .ensures) (c .if2 .left)
+    stop-not (a .input .now) (a .answers .now) (a .result .now) (a .answered) (a .read) (room m) (m .front-refusal .result)
+    (m .front-refusal .ensures) (c .if2 .left)
 
 pub end-run-spec : {M : Type 1} → statement M
 end-run-spec =
@@ -87,7 +87,7 @@ end-run-spec =
     finish-requires
     same-length
     returns
-    end-number-requires
+    front-refusal-requires
     no-event-requires
     put-answer-requires
     add-finish

@@ -1,9 +1,9 @@
--- `run::end_number` meets its contract.
+-- `commands::front_refusal` meets its contract.
 use native.Mathlib.Omega.{arith}
 use borrow.Author.Needs.{needs}
 use Rattle.engine.proofs.RunStops.{end-empty, end-none, end-part, end-whole}
-use Rattle.engine.proofs.run.end_number.Statement.{statement}
-use Rattle.engine.proofs.run.end_number.Tie as tie
+use Rattle.engine.proofs.commands.front_refusal.Statement.{statement}
+use Rattle.engine.proofs.commands.front_refusal.Tie as tie
 
 returns : tie.Need-returns
 returns c = end-empty (c .before .before .args .input .now) (omega arith)
@@ -28,7 +28,7 @@ returns-4 c =
     let e = c .before .before .width .ensures in
     end-whole (c .before .before .before .before .before .before .args .input .now) (omega arith) (omega (arith, e)) (omega (arith, e))
 
-pub end-number-spec : {M : Type 1} → statement M
-end-number-spec =
+pub front-refusal-spec : {M : Type 1} → statement M
+front-refusal-spec =
     tie.close
     (tie.spec returns shared-slice-read-width width-requires returns-2 returns-3 returns-4)
