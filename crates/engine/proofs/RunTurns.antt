@@ -8,29 +8,23 @@ use native.Mathlib.Omega.{arith}
 use borrow.Author.Tests.{ltb-true, ltb-false, leb-true, leb-false, le-leb, lt-leb}
 use lib.Dec.{ltb, leb}
 use lib.ListN.{length, take, drop, replicate, length-drop, drop-of-length-le, length-replicate}
-use lib.Seq.{drop-drop, paste}
+use lib.Seq.{drop-drop, paste, length-paste}
 use Rattle.hazards.specs.Answers.{answerWidth, noEvent, withAnswer}
 use Rattle.hazards.specs.declared.answers.Answer.{Answer}
-use Rattle.hazards.proofs.Cases.{by-test}
 use Rattle.engine.specs.Commands as commands
 use Rattle.engine.specs.Commands.{widthOf, frontRefusal}
 use Rattle.engine.specs.Refusals.{noCommand, cutShort, answersFull}
 use Rattle.engine.specs.Opening.{openedState}
-use Rattle.engine.specs.State.{slotAt, withSlot}
 use Rattle.engine.specs.Engine.{Bytes, Engine, Performed, Outcome, code, cut, reject, carryOut, classify, rejected, performed}
 use Rattle.engine.specs.Engine.{unchanged, completed}
 use Rattle.engine.specs.Replay.{undo}
 use Rattle.engine.specs.Execute.{execute}
 use Rattle.engine.specs.Instance.{engineOf}
 use Rattle.engine.specs.Validation.{validState}
-use Rattle.engine.specs.ExecutionInternals.{onSlotOf}
-use Rattle.engine.specs.Execution.{performOn, target, perform}
+use Rattle.engine.specs.Execution.{perform}
 use Rattle.engine.specs.Run.{Ran, finished, endsRun, executed, runFrom, ran}
-use Rattle.engine.specs.RunInternals.{Stop, stop, stopAt, JournalAndAnswers, journalAndAnswers, answerAt, openedRun}
-use Rattle.engine.specs.Answers.{AfterInput, after, answerOf, returned}
-use Rattle.engine.specs.declared.execute.Executed.{Executed}
-use Rattle.engine.specs.declared.execution.SlotOutcome.{SlotOutcome}
-use Rattle.engine.specs.declared.state.ClockSlot.{ClockSlot}
+use Rattle.engine.specs.RunInternals.{Stop, stop, stopAt, openedRun}
+use Rattle.engine.specs.Answers.{AfterInput, after, answerOf}
 use Rattle.engine.specs.declared.state.EngineState.{EngineState}
 use Rattle.engine.proofs.SoundState.{SoundState}
 use Rattle.engine.proofs.CommandLists.{Whole}
@@ -38,15 +32,17 @@ use Rattle.engine.proofs.Asking.{asks-no-command, asks-part, asks-undo,
 use Rattle.engine.proofs.Asking.{execute-rejects, execute-undo, execute-refused, execute-performs}
 use Rattle.engine.proofs.SoundValid.{sound-state-valid}
 use Rattle.engine.proofs.JournalBytes.{restOf, partOf, part-all, part-of}
-use Rattle.engine.proofs.PerformedTargets.{same-past}
 use Rattle.engine.proofs.Replays.{cut-whole}
-use Rattle.engine.proofs.RunAnswers.{answer-refused, answer-copied}
 use Rattle.engine.proofs.RunNumbers.{performedReply, perform-goes, reply-goes, undo-goes}
 use Rattle.engine.proofs.RunStates.{Reached, reached-open, reached-next, reached-sound}
 use Rattle.engine.proofs.RunStops.{numbered, end-number, stop-way}
-use Rattle.engine.proofs.SlotLaws.{outcome-done, done-fits, rejects, performs, accepted-below}
+use Rattle.engine.proofs.EngineLaws.{engine-laws}
 
 -- ---- one turn of the definition
+
+-- what an input leaves: its answer, the state and the journal
+abbrev pub leaving : Answer → EngineState → Bytes → AfterInput
+leaving a s j = record { answer = a; state = s; journal = j }
 
 module _ (stream : Bytes) (s : EngineState) (j answers : Bytes) (count read : ℕ) (i : Bytes) (h : 0 < length i) (turns : ℕ) where
   abbrev place : ℕ
@@ -280,98 +276,66 @@ module _ (bytes stream : Bytes) (n size : ℕ) (all : Ran) where
         answer : Bytes
         answer = withAnswer answers (answerWidth * count) (answerOf (o .reply))
 
-    pub next-undo : code i ≡ commands.undo → (y : Executed) {k written : Bytes}
-        → returned y k ≡ after stream (length j) (undo (engineOf stream (length j)) s j)
-        → written ≡ withAnswer answers (answerWidth * count) (y .answer) → length k ≡ n → length written ≡ size
-        → Running k written result (y .state) (count + 1) (at + w)
-    next-undo u y {k} {written} e q lk lw =
-        let f : returned y k ≡ after stream n (undo E s j) =
+    pub next-undo : code i ≡ commands.undo → (a : Answer) (t : EngineState) {k written : Bytes}
+        → leaving a t k ≡ after stream (length j) (undo (engineOf stream (length j)) s j)
+        → written ≡ withAnswer answers (answerWidth * count) a → length k ≡ n → length written ≡ size
+        → Running k written result t (count + 1) (at + w)
+    next-undo u a t {k} {written} e q lk lw =
+        let f : leaving a t k ≡ after stream n (undo E s j) =
         e ∙ ap (λ (m : ℕ). after stream m (undo (engineOf stream m) s j)) (r .same-journal) in
-        let ek : k ≡ undo E s j .journal = ap (λ (a : AfterInput). a .journal) f in
-        let ea : y .answer ≡ answerOf (undo E s j .reply) = ap (λ (a : AfterInput). a .answer) f in
+        let ek : k ≡ undo E s j .journal = ap (λ (o : AfterInput). o .journal) f in
+        let ea : a ≡ answerOf (undo E s j .reply) = ap (λ (o : AfterInput). o .answer) f in
         let h =
         turned (undo E s j) (execute-undo E s j i (asks-undo E s i (valid r) i-pos (x .wide) (x .long) u))
         (reply-goes (undo E s j .reply) (undo-goes stream n s j))
         (q ∙ ap (withAnswer answers (answerWidth * count)) ea) (ap length (sym ek) ∙ lk) lw in
-        subst (λ (b : Bytes). Running b written result (y .state) (count + 1) (at + w)) (sym ek)
-        (subst (λ (t : EngineState). Running (undo E s j .journal) written result t (count + 1) (at + w))
-        (sym (ap (λ (a : AfterInput). a .state) f)) h)
+        subst (λ (b : Bytes). Running b written result t (count + 1) (at + w)) (sym ek)
+        (subst (λ (y : EngineState). Running (undo E s j .journal) written result y (count + 1) (at + w))
+        (sym (ap (λ (o : AfterInput). o .state) f)) h)
 
-    -- a command but UNDO, on the slot of its clock
-    module _ (u : code i ≡ commands.undo → ⊥) (o : SlotOutcome) (t : ℕ) (named : t ≡ target (s .shared) (partOf bytes at w))
-        (slot : ClockSlot) (there : t < 16 → slot ≡ slotAt s t)
-        (e : onSlotOf o ≡ performOn stream (length j) slot (s .shared) (partOf bytes at w)) where
+    -- a command but UNDO
+    module _ (u : code i ≡ commands.undo → ⊥) where
       abbrev c : Bytes
       c = partOf bytes at w
 
       is-cut : c ≡ cut E i
       is-cut = part-of bytes at w ∙ ap (λ (m : ℕ). take m i) ew
 
-      whole : Whole E c
-      whole = subst (Whole E) (sym is-cut) (cut-whole E i (x .wide) (x .long) u)
+      pub command-whole : Whole E c
+      command-whole = subst (Whole E) (sym is-cut) (cut-whole E i (x .wide) (x .long) u)
 
       asked : classify E s i ≡ carryOut c
       asked = asks-command E s i (valid r) i-pos (x .wide) (x .long) u ∙ ap carryOut (sym is-cut)
-
-      -- as on the slot of its clock; above the sixteen every slot does
-      on-slot : performOn stream n slot (s .shared) c ≡ performOn stream n (slotAt s t) (s .shared) c
-      on-slot =
-          by-test (ltb t 16) (λ b. ap (λ (y : ClockSlot). performOn stream n y (s .shared) c) (there (ltb-true t 16 b)))
-          (λ b.
-          same-past stream n s c (running-sound r) whole (subst (λ (k : ℕ). 16 ≤ k) named (ltb-false t 16 b)) slot (slotAt s t))
-
-      did : onSlotOf o ≡ performOn stream n (slotAt s t) (s .shared) c
-      did = e ∙ ap (λ (m : ℕ). performOn stream m slot (s .shared) c) (r .same-journal) ∙ on-slot
 
       goes-on : {d : Performed EngineState Answer} → perform stream n s c ≡ d → endsRun (answerOf (performedReply d) .number) ≡ false
       goes-on q =
           sym (ap (λ (d : Performed EngineState Answer). endsRun (answerOf (performedReply d) .number)) q)
           ∙ reply-goes (performedReply (perform stream n s c)) (perform-goes stream n s c)
 
-      -- an accepted command is about one of the sixteen, and has room in the journal
-      pub next-below : o .number ≡ 0 → t < 16
-      next-below z = accepted-below stream n s c o t named (slotAt s t) refl did z (running-sound r) whole
+      pub next-refused : (number : ℕ) → perform stream n s c ≡ rejected number → {written : Bytes}
+          → written ≡ withAnswer answers (answerWidth * count) (noEvent number) → length written ≡ size
+          → Running j written result s (count + 1) (at + w)
+      next-refused number d q lw =
+          turned (unchanged E s j number) (execute-refused E s j i c number asked d) (goes-on d) q (r .same-journal) lw
 
-      pub next-fits : o .number ≡ 0 → s .shared .«applied_length» + length c ≤ length j
-      next-fits z = done-fits stream (length j) slot (s .shared) c (o .slot) (o .shared) (o .answer) (outcome-done o e z)
+      module _ (t : EngineState) (a : Answer) (d : perform stream n s c ≡ performed t a) where
+        abbrev pub pasted : Bytes
+        pasted = paste j (s .shared .«applied_length») c (length c)
 
-      -- what the definition gives for it
-      pub input-performs : o .number ≡ 0 → execute E s j i ≡ record {
-        reply = completed (o .answer);
-        state = withSlot s t (o .slot) (o .shared);
-        journal = paste j (s .shared .«applied_length») c (length c);
-      }
-      input-performs z =
-          execute-performs E s j i c (withSlot s t (o .slot) (o .shared)) (o .answer) asked
-          (performs stream n s c o t named (slotAt s t) refl did z)
+        -- what the definition gives for it
+        pub input-performs : execute E s j i ≡ record { reply = completed a; state = t; journal = pasted }
+        input-performs = execute-performs E s j i c t a asked d
 
-      -- the journal and the answers after it
-      module _ {k written : Bytes}
-          (f : journalAndAnswers k written
-          ≡ answerAt (o .number) (o .answer) (s .shared .«applied_length») j answers (answerWidth * count) c)
-          (lk : length k ≡ n) (lw : length written ≡ size) where
-        pub next-refused : (o .number ≡ 0 → ⊥) → Running k written result s (count + 1) (at + w)
-        next-refused z =
-            let d : perform stream n s c ≡ rejected (o .number) = rejects stream n s c o t named (slotAt s t) refl did z in
-            let g = f ∙ answer-refused (o .number) (o .answer) (s .shared .«applied_length») j answers (answerWidth * count) c z in
-            let ek : k ≡ j = ap (λ (a : JournalAndAnswers). a .journal) g in
-            let h =
-            turned (unchanged E s j (o .number)) (execute-refused E s j i c (o .number) asked d) (goes-on d)
-            (ap (λ (a : JournalAndAnswers). a .answers) g) (r .same-journal) lw in
-            subst (λ (b : Bytes). Running b written result s (count + 1) (at + w)) (sym ek) h
+        pub pasted-length : length pasted ≡ n
+        pasted-length =
+            let fits = engine-laws stream n .fits s t c a d in
+            length-paste j (s .shared .«applied_length») c (length c) (omega (arith, r .same-journal, fits)) (omega arith) ∙ r .same-journal
 
-        pub next-performed : o .number ≡ 0 → Running k written result (withSlot s t (o .slot) (o .shared)) (count + 1) (at + w)
-        next-performed z =
-            let next : EngineState = withSlot s t (o .slot) (o .shared) in
-            let d : perform stream n s c ≡ performed next (o .answer) = performs stream n s c o t named (slotAt s t) refl did z in
-            let pasted : Bytes = paste j (s .shared .«applied_length») c (length c) in
-            let g = f ∙ answer-copied (o .number) (o .answer) (s .shared .«applied_length») j answers (answerWidth * count) c z in
-            let ek : k ≡ pasted = ap (λ (a : JournalAndAnswers). a .journal) g in
-            let h =
-            turned (record { reply = completed (o .answer); state = next; journal = pasted })
-            (input-performs z) (goes-on d) (ap (λ (a : JournalAndAnswers). a .answers) g)
-            (ap length (sym ek) ∙ lk) lw in
-            subst (λ (b : Bytes). Running b written result next (count + 1) (at + w)) (sym ek) h
+        pub next-performed : {k written : Bytes} → k ≡ pasted → written ≡ withAnswer answers (answerWidth * count) a
+            → length written ≡ size → Running k written result t (count + 1) (at + w)
+        next-performed {k} {written} ek q lw =
+            subst (λ (b : Bytes). Running b written result t (count + 1) (at + w)) (sym ek)
+            (turned (record { reply = completed a; state = t; journal = pasted }) input-performs (goes-on d) q pasted-length lw)
 
 -- at opening, with all places of the journal zero
 pub running-begins : (bytes stream : Bytes) (n : ℕ) (answers result : Bytes) {s : EngineState} → s ≡ openedState

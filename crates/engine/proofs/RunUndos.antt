@@ -1,6 +1,7 @@
 -- UNDO in a batch run changes the journal alone. The state is stale after it: it is replayed from the journal when a command needs it.
 use mathlib.Core.Path.{_≡_, refl, sym, ap, _∙_, subst}
 use mathlib.Core.Bool.{Bool, true, false, cond, true≢false}
+use mathlib.Core.Option.{Option, none, some}
 use Prim.Native.Nat.{ℕ, _+_, _*_, _<_, _^_}
 use native.Mathlib.Omega.{arith}
 use borrow.Author.Tests.{eqb-true, eqb-false}
@@ -14,15 +15,19 @@ use Rattle.engine.specs.Opening.{openedState}
 use Rattle.engine.specs.Engine.{Bytes, Engine, code}
 use Rattle.engine.specs.Replay.{cleared, undo}
 use Rattle.engine.specs.ReplayInternals.{ends, replayAll}
+use Rattle.engine.specs.ReplayRowsInternals.{endState}
 use Rattle.engine.specs.Instance.{engineOf}
-use Rattle.engine.specs.Answers.{after, returned}
+use Rattle.engine.specs.Answers.{after}
 use Rattle.engine.specs.Run.{Ran}
 use Rattle.engine.specs.RunInternals.{openedRun}
 use Rattle.engine.specs.declared.state.EngineState.{EngineState}
 use Rattle.engine.proofs.Asking.{undo-nothing}
-use Rattle.engine.proofs.ExecuteLaws.{onlyNumber, left-refused}
 use Rattle.engine.proofs.RunStates.{reached-undo, reached-replays, replay-nothing}
-use Rattle.engine.proofs.RunTurns.{Running, Input, running-begins, next-undo}
+use Rattle.engine.proofs.RunTurns.{leaving, Running, Input, running-begins, next-undo}
+
+by-some : (state s : EngineState) (ok : Bool) → _≡_ {A = Option EngineState} (cond ok (some state) none) (some s) → state ≡ s
+by-some state s true e = cc
+by-some state s false e = let z : _≡_ {A = ℕ} 0 1 = cc in absurd (omega arith)
 
 module _ (bytes stream : Bytes) (n size : ℕ) (all : Ran) where
   abbrev E : Engine
@@ -42,14 +47,13 @@ module _ (bytes stream : Bytes) (n size : ℕ) (all : Ran) where
 
   -- what the code replays is the state of the definition
   pub replayed-current : {j answers result : Bytes} {s : EngineState} {count at : ℕ} → Running bytes stream n size all j answers result s count at
-      → (applied : ℕ) → applied ≡ s .shared .«applied_length» → (state : EngineState)
-      → ((t before : EngineState) (last : ℕ) → replayAll (engineOf stream (length j)) (take applied j) ≡ ends t before last → state ≡ t)
-      → state ≡ s
-  replayed-current {j = j} {s = s} r applied counted state e =
+      → (applied : ℕ) → applied ≡ s .shared .«applied_length» → (state : EngineState) (ok : Bool)
+      → cond ok (some state) none ≡ endState stream n (replayAll E (take applied j)) → state ≡ s
+  replayed-current {j = j} {s = s} r applied counted state ok e =
       let own = reached-replays stream n s j (r .reached) in
-      e s (own .before) (own .last)
-      (subst (λ (m : ℕ). replayAll (engineOf stream m) (take applied j) ≡ ends s (own .before) (own .last)) (sym (r .same-journal))
-      (ap (λ (k : ℕ). replayAll E (take k j)) counted ∙ own .ending))
+      let all : replayAll E (take applied j) ≡ ends s (own .before) (own .last) =
+      ap (λ (k : ℕ). replayAll E (take k j)) counted ∙ own .ending in
+      by-some state s ok (e ∙ ap (endState stream n) all)
 
   module _ {j answers result : Bytes} {s : EngineState} {count at : ℕ} (x : Input bytes stream n size all j answers result s count at)
       (w : ℕ) (ew : w ≡ widthOf (code (drop at bytes))) (u : code (drop at bytes) ≡ commands.undo) (applied : ℕ)
@@ -67,10 +71,9 @@ module _ (bytes stream : Bytes) (n size : ℕ) (all : Ran) where
         record {
           current = s;
           running =
-              next-undo bytes stream n size all x w ew u (onlyNumber nothingApplied s)
-              (ap (returned (onlyNumber nothingApplied s)) ek
-              ∙ left-refused stream (length j) (onlyNumber nothingApplied s) s j (refl, refl)
-              (undo-nothing (engineOf stream (length j)) s j (omega (arith, counted, z))))
+              next-undo bytes stream n size all x w ew u (noEvent nothingApplied) s
+              (ap (leaving (noEvent nothingApplied) s) ek
+              ∙ sym (ap (after stream (length j)) (undo-nothing (engineOf stream (length j)) s j (omega (arith, counted, z)))))
               q lk lw;
           fresh = λ e. absurd (true≢false e);
           counted = er ∙ sym z ∙ counted;
@@ -87,8 +90,8 @@ module _ (bytes stream : Bytes) (n size : ℕ) (all : Ran) where
         record {
           current = own .before;
           running =
-              next-undo bytes stream n size all x w ew u (onlyNumber 0 (own .before))
-              (ap (returned (onlyNumber 0 (own .before))) ek
+              next-undo bytes stream n size all x w ew u (noEvent 0) (own .before)
+              (ap (leaving (noEvent 0) (own .before)) ek
               ∙ sym
               (ap (λ (m : ℕ). after stream m (undo (engineOf stream m) s j)) (x .running .same-journal)
               ∙ ap (after stream n) (own .outcome)))

@@ -1,4 +1,5 @@
 -- What the code's answers mean: a batch run in its parts: what ends it before an input, one command answered, and the run from opening.
+use mathlib.Core.Path.{_≡_}
 use mathlib.Core.Bool.{Bool, cond, _&&_}
 use mathlib.Core.List.{_++_}
 use Prim.Native.Nat.{ℕ, _+_, _*_}
@@ -14,6 +15,10 @@ use Rattle.engine.specs.Opening.{openedState}
 use Rattle.engine.specs.Commands as commands
 use Rattle.engine.specs.Engine.{Bytes, code}
 use Rattle.engine.specs.Run.{Ran, runFrom}
+use Rattle.engine.specs.Execution.{perform}
+use Rattle.engine.specs.StateRows.{sharedFrom, stateFrom, Performs}
+use Rattle.engine.specs.ExecutionRowsInternals.{TakenBack}
+use Rattle.clocks.specs.Layout.{WordRows, FloatRows}
 
 -- the number that ends a run, or 0, with the answers and the result
 pub record Stop : Type 0 where
@@ -52,14 +57,30 @@ answerAt number a free journal answers place c =
     cond (eqb number 0) (journalAndAnswers (paste journal free c (length c)) (withAnswer answers place a))
     (journalAndAnswers journal (withAnswer answers place (noEvent number)))
 
--- whether the next input is an UNDO that reverts a command that was accepted, and its answer has room
-abbrev pub isReverted : ℕ → Bytes → Bytes → ℕ → Bool
-isReverted number rest answers place =
-    eqb number 0 && (eqb (code rest) commands.undo && leb (place + (answerWidth + answerWidth)) (length answers))
+-- what a command but UNDO leaves: the state that it is defined to, and the journal and the answers by its answer
+pub record AnswersCommand (stream : Bytes) (w : WordRows) (f : FloatRows) (journal answers : Bytes) (place : ℕ) (c : Bytes)
+    (w′ : WordRows) (f′ : FloatRows) (journal′ answers′ : Bytes) (applied : ℕ) : Type 0 where
+  pub answer : Answer
+  pub performs : Performs w f (perform stream (length journal) (stateFrom w f) c) w′ f′ answer
+  pub written : journalAndAnswers journal′ answers′
+      ≡ answerAt (answer .number) answer (sharedFrom w .«applied_length») journal answers place c
+  pub counted : applied ≡ sharedFrom w′ .«applied_length»
+
+-- whether the next input is an UNDO whose answer has room beside the one at a place
+abbrev pub isUndone : Bytes → ℕ → ℕ → Bool
+isUndone rest room place = eqb (code rest) commands.undo && leb (place + (answerWidth + answerWidth)) room
 
 -- a command's answer, and that of the UNDO after it
 abbrev pub bothAnswered : Answer → Bytes → ℕ → Bytes
 bothAnswered a answers place = withAnswer (withAnswer answers place a) (place + answerWidth) (noEvent 0)
+
+-- what a command leaves that is taken back by the UNDO after it where it is accepted
+pub record AnswersUndone (stream : Bytes) (n : ℕ) (w : WordRows) (f : FloatRows) (answers : Bytes) (place : ℕ) (c : Bytes)
+    (w′ : WordRows) (f′ : FloatRows) (answers′ : Bytes) (accepted : Bool) : Type 0 where
+  pub answer : Answer
+  pub taken : TakenBack w f (perform stream n (stateFrom w f) c) w′ f′ answer
+  pub by-number : accepted ≡ eqb (answer .number) 0
+  pub written : answers′ ≡ cond accepted (bothAnswered answer answers place) (withAnswer answers place answer)
 
 -- the run from opening, with a journal of n bytes
 abbrev pub openedRun : Bytes → Bytes → ℕ → Bytes → Ran

@@ -44,12 +44,12 @@ fn no_last() -> LastCommand
 }
 
 // The state after commands, one after another from opening; false where one of them is refused or an UNDO.
-pub(crate) fn replay<'a>(
-    words: &'a mut [[u64; 8]],
-    floats: &'a mut [[f64; 8]],
-    stream: &'a [u8],
+pub(crate) fn replay(
+    words: &mut [[u64; 8]],
+    floats: &mut [[f64; 8]],
+    stream: &[u8],
     journal_length: usize,
-    bytes: &'a [u8],
+    bytes: &[u8],
 ) -> bool
     requires { ⌜ SizedState (now words) (now floats) × («journal_length» < 2 ^ 63) ⌝ }
     ensures { λ r. ⌜ (cond r (some (stateFrom (now (words .exit)) (now (floats .exit)))) none
@@ -75,14 +75,14 @@ pub(crate) fn replay<'a>(
 }
 
 // The same, with what the last command changes kept as it was before it.
-fn replay_to_last<'a>(
-    words: &'a mut [[u64; 8]],
-    floats: &'a mut [[f64; 8]],
-    kept: &'a mut [[u64; 8]],
-    kept_floats: &'a mut [[f64; 8]],
-    stream: &'a [u8],
+fn replay_to_last(
+    words: &mut [[u64; 8]],
+    floats: &mut [[f64; 8]],
+    kept: &mut [[u64; 8]],
+    kept_floats: &mut [[f64; 8]],
+    stream: &[u8],
     journal_length: usize,
-    bytes: &'a [u8],
+    bytes: &[u8],
 ) -> LastCommand
     requires { ⌜ SizedState (now words) (now floats) × SizedKept (now kept) (now «kept_floats») × («journal_length» < 2 ^ 63)
         × (0 < length (now bytes)) ⌝ }
@@ -113,11 +113,11 @@ fn replay_to_last<'a>(
 }
 
 // UNDO (document 01: strikes the last standing command), by a replay of the applied commands; refused by 12 or 13.
-pub(crate) fn undo<'a>(
-    words: &'a mut [[u64; 8]],
-    floats: &'a mut [[f64; 8]],
-    stream: &'a [u8],
-    journal: &'a mut [u8],
+pub(crate) fn undo(
+    words: &mut [[u64; 8]],
+    floats: &mut [[f64; 8]],
+    stream: &[u8],
+    journal: &mut [u8],
 ) -> Answer
     requires { ⌜ SizedState (now words) (now floats) × CodedState (now words) (now floats)
         × (sharedFrom (now words) .«applied_length» ≤ length (now journal)) ⌝ }

@@ -1,20 +1,28 @@
-// The batch run (document 01: run call): it opens an engine and answers command after command. The state stays in two locals.
+// The batch run (document 01: run call): it opens an engine and answers command after command. The state stays in two arrays of its own.
 ghost use mathlib.Core.Path.{_≡_};
 ghost use mathlib.Core.Bool.{cond, _&&_};
 ghost use mathlib.Core.List.{_++_};
-ghost use Prim.Native.Nat.{_+_, _*_, _%_, _≤_};
+ghost use Prim.Native.Nat.{_+_, _*_, _%_, _<_, _≤_};
 ghost use lib.Dec.{eqb};
 ghost use lib.ListN.{length, replicate};
 ghost use Rattle.hazards.specs.Fields.{bytesOf};
 ghost use Rattle.hazards.specs.Answers.{answerWidth};
 ghost use Rattle.engine.specs.Refusals.{nothingApplied};
 ghost use Rattle.engine.specs.Run.{runOf, ran};
-ghost use Rattle.engine.specs.RunInternals.{stop, stopAt, journalAndAnswers, answerAt, isReverted, bothAnswered};
+ghost use Rattle.engine.specs.Commands.{widthOf, byteAt};
+ghost use Rattle.engine.specs.StateRows.{sharedFrom};
+ghost use Rattle.engine.specs.ExecutionRowsInternals.{Ready};
+ghost use Rattle.engine.specs.RunInternals.{stop, stopAt, journalAndAnswers, answerAt, isUndone, AnswersCommand, AnswersUndone};
 ghost use Rattle.engine.specs.RunInternals.{openedRun};
 use crate::refusals::BAD_BUFFERS;
 use crate::refusals::ANSWERS_FULL;
-use crate::execution::perform_on;
-use crate::replay::replayed_state;
+use crate::execution_rows::perform;
+use crate::execution_rows::perform_reverted;
+use crate::replay_rows::replay;
+use crate::state_rows::APPLIED_LENGTH;
+use crate::state_rows::COUNTS;
+use crate::state_rows::STATE_FLOATS;
+use crate::state_rows::STATE_WORDS;
 use hazards::answers::ANSWER_WIDTH;
 use hazards::answers::Answer;
 use hazards::answers::no_event;
@@ -85,29 +93,61 @@ fn answer_at(
     put_answer(answers, place, answer);
 }
 
-// Answers an accepted command that the next input, an UNDO, reverts, and that UNDO: state and journal stay as they were, so nothing is
-// replayed. Tells whether there is such an UNDO whose answer has room; otherwise nothing is written.
-fn answer_reverted(
-    number: u8,
-    answer: Answer,
-    rest: &[u8],
+// A command but UNDO: performed, answered, and copied into the journal where it is accepted. The length of the applied commands after it.
+fn answer_command(
+    words: &mut [[u64; 8]],
+    floats: &mut [[f64; 8]],
+    stream: &[u8],
+    journal: &mut [u8],
     answers: &mut [u8],
     place: usize,
-) -> bool
-    requires { ⌜ place + answerWidth ≤ length (now answers) ⌝ }
-    ensures { λ r. ⌜ (r ≡ isReverted number (now (rest .entry)) (now (answers .entry)) place)
-        × (now (answers .exit) ≡ cond r (bothAnswered answer (now (answers .entry)) place) (now (answers .entry))) ⌝ }
+    command: &[u8],
+) -> usize
+    requires { ⌜ Ready (now words) (now floats) × (0 < widthOf (byteAt (now command) 0)) × (byteAt (now command) 0 ≡ 8 → ⊥)
+        × (sharedFrom (now words) .«applied_length» ≤ length (now journal)) ⌝ }
+    ensures { λ r. ⌜ AnswersCommand (now (stream .entry)) (now (words .entry)) (now (floats .entry)) (now (journal .entry))
+        (now (answers .entry)) place (now (command .entry)) (now (words .exit)) (now (floats .exit)) (now (journal .exit))
+        (now (answers .exit)) r ⌝ }
 {
-    if number != 0 {
-        return false;
-    }
+    let applied = words[COUNTS][APPLIED_LENGTH] as usize;
+    let answer = perform(words, floats, stream, journal.len(), command);
+    let number = answer.number;
+    answer_at(number, answer, applied, journal, answers, place, command);
+    words[COUNTS][APPLIED_LENGTH] as usize
+}
+
+// Whether the next input is an UNDO whose answer has room beside the command's.
+fn is_undone(rest: &[u8], answers: &[u8], place: usize) -> bool
+    requires { ⌜ place + answerWidth ≤ length (now answers) ⌝ }
+    ensures { λ r. ⌜ r ≡ isUndone (now (rest .entry)) (length (now (answers .entry))) place ⌝ }
+{
     if crate::commands::byte_at(rest, 0) != crate::commands::UNDO {
         return false;
     }
-    if answers.len() - place < TWO_ANSWERS {
+    answers.len() - place >= TWO_ANSWERS
+}
+
+// A command that the next input, an UNDO, reverts where it is accepted: both are answered then, and nothing is replayed, since state and
+// journal stay as they were. Tells whether it is accepted.
+fn answer_undone(
+    words: &mut [[u64; 8]],
+    floats: &mut [[f64; 8]],
+    stream: &[u8],
+    journal_length: usize,
+    answers: &mut [u8],
+    place: usize,
+    command: &[u8],
+) -> bool
+    requires { ⌜ Ready (now words) (now floats) × (0 < widthOf (byteAt (now command) 0)) × (byteAt (now command) 0 ≡ 8 → ⊥)
+        × (place + (answerWidth + answerWidth) ≤ length (now answers)) ⌝ }
+    ensures { λ r. ⌜ AnswersUndone (now (stream .entry)) «journal_length» (now (words .entry)) (now (floats .entry))
+        (now (answers .entry)) place (now (command .entry)) (now (words .exit)) (now (floats .exit)) (now (answers .exit)) r ⌝ }
+{
+    let answer = perform_reverted(words, floats, stream, journal_length, command);
+    put_answer(answers, place, answer);
+    if answer.number != 0 {
         return false;
     }
-    put_answer(answers, place, answer);
     put_answer(answers, place + ANSWER_WIDTH, no_event(0));
     true
 }
@@ -136,9 +176,10 @@ fn run_commands(
     ensures { λ r. ⌜ ran r (now (journal .exit)) (now (answers .exit)) (now (result .exit))
         ≡ openedRun (now (commands .entry)) (now (stream .entry)) (length (now (journal .entry))) (now (answers .entry)) ⌝ }
 {
-    let slot = crate::opening::empty_slot();
-    let mut slots = [slot; 16];
-    let mut shared = crate::opening::opened_shared();
+    let mut words: [[u64; 8]; STATE_WORDS] = [[0; 8]; STATE_WORDS];
+    let mut floats: [[f64; 8]; STATE_FLOATS] = [[0.0; 8]; STATE_FLOATS];
+    crate::opening_rows::open_state(&mut words, &mut floats);
+    let size = journal.len();
     let mut applied: usize = 0;
     let mut stale = false;
     let mut answered: usize = 0;
@@ -160,31 +201,26 @@ fn run_commands(
             continue;
         }
         if stale {
-            let replayed = replayed_state(stream, journal.len(), &journal[..applied]);
-            slots = replayed.slots;
-            shared = replayed.shared;
+            replay(&mut words, &mut floats, stream, size, &journal[..applied]);
             stale = false;
         }
         let command = &commands[start..at];
-        let target = crate::execution::target(shared, command);
-        // A clock above 15 is refused before its slot is looked at, so any slot does.
-        let near = if target < 16 { target } else { 15 };
-        let size = journal.len();
-        let outcome = perform_on(slots[near], shared, stream, size, command);
-        let refusal = outcome.number;
-        let answer = outcome.answer;
-        if answer_reverted(refusal, answer, &commands[at..], answers, place) {
-            at = at + 1;
-            answered = answered + 1;
+        if is_undone(&commands[at..], answers, place) {
+            if answer_undone(&mut words, &mut floats, stream, size, answers, place, command) {
+                at = at + 1;
+                answered = answered + 1;
+            }
             continue;
         }
-        answer_at(refusal, answer, applied, journal, answers, place, command);
-        if refusal == 0 {
-            let moved = outcome.slot;
-            slots[target] = moved;
-            shared = outcome.shared;
-            applied = shared.applied_length;
-        }
+        applied = answer_command(
+            &mut words,
+            &mut floats,
+            stream,
+            journal,
+            answers,
+            place,
+            command,
+        );
     }
     finish(result, answered, at);
     0
