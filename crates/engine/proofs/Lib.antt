@@ -50,6 +50,7 @@ pub mod StateParts
 pub mod CommandsInPlace
 pub mod SharedInPlace
 pub mod RescheduledInPlace
+pub mod ReadyStates
 -- demand 3: of any engine that meets the laws, then of this one
 pub mod DemandHalves
 pub mod Supplied
