@@ -51,6 +51,7 @@ pub mod CommandsInPlace
 pub mod SharedInPlace
 pub mod RescheduledInPlace
 pub mod PerformedInPlace
+pub mod ReadyStates
 -- demand 3: of any engine that meets the laws, then of this one
 pub mod DemandHalves
 pub mod Supplied
