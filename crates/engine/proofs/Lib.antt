@@ -73,6 +73,7 @@ pub mod RunAnswers
 pub mod RunTurns
 pub mod RunUndos
 pub mod RunReverts
+pub mod RunCommands
 -- the table of rows, and a list worked through
 pub mod Computed
 pub mod Rows
