@@ -4,6 +4,7 @@
 pub mod Conjunctions
 pub mod EveryPlace
 pub mod ListParts
+pub mod Overwritten
 pub mod NotItself
 pub mod ComparisonLaws
 pub mod JournalBytes
