@@ -51,6 +51,8 @@ pub mod StateParts
 pub mod CommandsInPlace
 pub mod SharedInPlace
 pub mod RescheduledInPlace
+pub mod OpenedRows
+pub mod KeptParts
 -- demand 3: of any engine that meets the laws, then of this one
 pub mod DemandHalves
 pub mod Supplied

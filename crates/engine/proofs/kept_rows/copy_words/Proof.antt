@@ -27,7 +27,7 @@ mul-t8 : tie.Need-mul-t8 Inv-loop μ-loop
 mul-t8 c = omega arith
 
 slice-set-from-to : tie.Need-slice-set-from-to Inv-loop μ-loop
-slice-set-from-to c = omega (arith, c .before .before .before .before .pre)
+slice-set-from-to c = omega (arith, c .before .before .before .pre)
 
 add-i : tie.Need-add-i Inv-loop μ-loop
 add-i c = omega arith
@@ -38,7 +38,7 @@ loop-less c = omega arith
 loop-again : tie.Need-loop-again Inv-loop μ-loop
 loop-again c =
     let l = c .before .before .loop in
-    let a = c .before .before .before .before .args in
+    let a = c .before .before .before .args in
     let from = a .from .now in (
       copy-next from (a .to .now) (l .to) (l .i) [] (omega arith) (omega arith) (l .inv .0),
       omega arith,
