@@ -53,6 +53,7 @@ pub mod SharedInPlace
 pub mod RescheduledInPlace
 pub mod OpenedRows
 pub mod KeptParts
+pub mod RevertedInPlace
 -- demand 3: of any engine that meets the laws, then of this one
 pub mod DemandHalves
 pub mod Supplied

@@ -6,7 +6,7 @@ use Prim.Native.Nat.{ℕ, _+_, _*_, _<_, _≤_}
 use native.Mathlib.Omega.{arith}
 use borrow.Author.Tests.{eqb-true, eqb-false}
 use lib.Dec.{eqb}
-use lib.Ieee.{toBits}
+use lib.Ieee.{toBits, le}
 use lib.ListN.{length, getD, set, take, drop, replicate, length-set, length-replicate, getD-replicate}
 use lib.Seq.{getD-set-same, getD-set-other, getD-take, getD-drop}
 use Rattle.hazards.specs.Floats.{zeroBits}
@@ -109,7 +109,7 @@ module _ (w : WordRows) (f : FloatRows) (e : w ≡ replicate 177 zeroWords) (o :
       (cleared-all (partAt 10 k w) (partAt 10 k w) (partAt 25 k f) (partAt 25 k f) (blank k hk) .clock)
 
   slot-empty : (k : ℕ) → k < 16 → slotFrom w f k ≡ emptySlot
-  unfolding slotOf clockFrom clockOf newClock
+  unfolding slotOf clockFrom clockOf newClock le
   slot-empty k hk = rw (clock-words k 0 hk (omega arith), clock-words k 1 hk (omega arith), clock-times k hk, no-channels k hk)
 
   shared-opened : sharedFrom w ≡ openedShared

@@ -1,22 +1,14 @@
+-- `kept_rows::keep` meets its contract.
 use borrow.Author.Needs.{needs}
+use Rattle.engine.proofs.KeptParts.{keeps-slot, keeps-shared, keeps-coded}
 use Rattle.engine.proofs.kept_rows.keep.Statement.{statement}
 use Rattle.engine.proofs.kept_rows.keep.Tie as tie
-use Rattle.engine.proofs.kept_rows.keep.Reads as reads
-use Rattle.engine.proofs.kept_rows.keep.Lts as lts
-use Rattle.engine.proofs.kept_rows.copy_floats.Reads as copy-floats-reads
-use Rattle.engine.proofs.kept_rows.copy_words.Reads as copy-words-reads
 
 mul-w : tie.Need-mul-w
 mul-w c = search needs
 
 mul-f : tie.Need-mul-f
 mul-f c = search needs
-
-add-copy-words : tie.Need-add-copy-words
-add-copy-words c = search needs
-
-mul-copy-words : tie.Need-mul-copy-words
-mul-copy-words c = search needs
 
 sub-copy-words : tie.Need-sub-copy-words
 sub-copy-words c = search needs
@@ -27,8 +19,11 @@ part-copy-words-start c = search needs
 part-copy-words-end : tie.Need-part-copy-words-end
 part-copy-words-end c = search needs
 
-copy-words-requires : tie.Need-copy-words-requires
-copy-words-requires c κs = ?
+add-copy-words : tie.Need-add-copy-words
+add-copy-words c = search needs
+
+mul-copy-words : tie.Need-mul-copy-words
+mul-copy-words c = search needs
 
 sub-copy-words-2 : tie.Need-sub-copy-words-2
 sub-copy-words-2 c = search needs
@@ -39,6 +34,9 @@ part-copy-words-start-2 c = search needs
 part-copy-words-end-2 : tie.Need-part-copy-words-end-2
 part-copy-words-end-2 c = search needs
 
+copy-words-requires : tie.Need-copy-words-requires
+copy-words-requires c κs = search needs
+
 sub-copy-words-3 : tie.Need-sub-copy-words-3
 sub-copy-words-3 c = search needs
 
@@ -47,6 +45,15 @@ part-copy-words-start-3 c = search needs
 
 part-copy-words-end-3 : tie.Need-part-copy-words-end-3
 part-copy-words-end-3 c = search needs
+
+sub-copy-words-4 : tie.Need-sub-copy-words-4
+sub-copy-words-4 c = search needs
+
+part-copy-words-start-4 : tie.Need-part-copy-words-start-4
+part-copy-words-start-4 c = search needs
+
+part-copy-words-end-4 : tie.Need-part-copy-words-end-4
+part-copy-words-end-4 c = search needs
 
 copy-words-requires-2 : tie.Need-copy-words-requires-2
 copy-words-requires-2 c κs = search needs
@@ -76,7 +83,24 @@ same-length-2 : tie.Need-same-length-2
 same-length-2 c = search needs
 
 returns : tie.Need-returns
-returns c = ?
+returns c =
+    let m = c .before .before .before .before .before .before .before .before .before .before .before .before in
+    let a = m .args in
+    let w = a .words .now in
+    let f = a .floats .now in
+    let k = a .clock in
+    let old = a .kept .now in
+    let here = c .before .before .before .before .before .before .before .before .before .copy-words in
+    let rest = c .before .before .before .before .before .copy-words2 in
+    let floats = c .before .copy-floats in
+    let n = m .pre .2 .words in (
+      keeps-slot w f k (m .pre .0) (m .pre .1) old n (here .last .0) (rest .last .0) (floats .last .0)
+          (here .ensures) (rest .ensures) (floats .ensures),
+      keeps-shared w f k (m .pre .0) (m .pre .1) old n (here .last .0) (rest .last .0) (floats .last .0)
+          (here .ensures) (rest .ensures) (floats .ensures),
+      keeps-coded w f k (m .pre .0) (m .pre .1) old n (here .last .0) (rest .last .0) (floats .last .0)
+          (here .ensures) (rest .ensures) (floats .ensures),
+    )
 
 pub keep-spec : {M : Type 1} → statement M
 keep-spec =
@@ -84,18 +108,21 @@ keep-spec =
     (tie.spec
     mul-w
     mul-f
-    add-copy-words
-    mul-copy-words
     sub-copy-words
     part-copy-words-start
     part-copy-words-end
-    copy-words-requires
+    add-copy-words
+    mul-copy-words
     sub-copy-words-2
     part-copy-words-start-2
     part-copy-words-end-2
+    copy-words-requires
     sub-copy-words-3
     part-copy-words-start-3
     part-copy-words-end-3
+    sub-copy-words-4
+    part-copy-words-start-4
+    part-copy-words-end-4
     copy-words-requires-2
     add-copy-floats
     mul-copy-floats

@@ -1,10 +1,8 @@
+-- `kept_rows::put_back` meets its contract.
 use borrow.Author.Needs.{needs}
+use Rattle.engine.proofs.KeptParts.{puts-back, puts-coded}
 use Rattle.engine.proofs.kept_rows.put_back.Statement.{statement}
 use Rattle.engine.proofs.kept_rows.put_back.Tie as tie
-use Rattle.engine.proofs.kept_rows.put_back.Reads as reads
-use Rattle.engine.proofs.kept_rows.put_back.Lts as lts
-use Rattle.engine.proofs.kept_rows.copy_floats.Reads as copy-floats-reads
-use Rattle.engine.proofs.kept_rows.copy_words.Reads as copy-words-reads
 
 mul-w : tie.Need-mul-w
 mul-w c = search needs
@@ -27,9 +25,6 @@ part-copy-words-start c = search needs
 part-copy-words-end : tie.Need-part-copy-words-end
 part-copy-words-end c = search needs
 
-copy-words-requires : tie.Need-copy-words-requires
-copy-words-requires c κs = ?
-
 sub-copy-words-2 : tie.Need-sub-copy-words-2
 sub-copy-words-2 c = search needs
 
@@ -39,6 +34,9 @@ part-copy-words-start-2 c = search needs
 part-copy-words-end-2 : tie.Need-part-copy-words-end-2
 part-copy-words-end-2 c = search needs
 
+copy-words-requires : tie.Need-copy-words-requires
+copy-words-requires c κs = search needs
+
 sub-copy-words-3 : tie.Need-sub-copy-words-3
 sub-copy-words-3 c = search needs
 
@@ -47,6 +45,15 @@ part-copy-words-start-3 c = search needs
 
 part-copy-words-end-3 : tie.Need-part-copy-words-end-3
 part-copy-words-end-3 c = search needs
+
+sub-copy-words-4 : tie.Need-sub-copy-words-4
+sub-copy-words-4 c = search needs
+
+part-copy-words-start-4 : tie.Need-part-copy-words-start-4
+part-copy-words-start-4 c = search needs
+
+part-copy-words-end-4 : tie.Need-part-copy-words-end-4
+part-copy-words-end-4 c = search needs
 
 copy-words-requires-2 : tie.Need-copy-words-requires-2
 copy-words-requires-2 c κs = search needs
@@ -76,7 +83,20 @@ same-length-2 : tie.Need-same-length-2
 same-length-2 c = search needs
 
 returns : tie.Need-returns
-returns c = ?
+returns c =
+    let m = c .before .before .before .before .before .before .before .before .before .before .before in
+    let a = m .args in
+    let w = a .words .now in
+    let f = a .floats .now in
+    let k = a .clock in
+    let here = c .before .before .before .before .before .before .before .before .copy-words in
+    let rest = c .before .before .before .before .copy-words2 in
+    let floats = c .before .copy-floats in (
+      puts-back w f k (m .pre .0) (m .pre .1) (a .kept .now) (a .kept-floats .now) (m .pre .2) (here .last .0) (rest .last .0)
+          (floats .last .0) (here .kept .0) (floats .kept .0) (here .ensures) (rest .ensures) (floats .ensures),
+      puts-coded w f k (m .pre .0) (m .pre .1) (a .kept .now) (a .kept-floats .now) (m .pre .2) (here .last .0) (rest .last .0)
+          (floats .last .0) (here .kept .0) (floats .kept .0) (here .ensures) (rest .ensures) (floats .ensures),
+    )
 
 pub put-back-spec : {M : Type 1} → statement M
 put-back-spec =
@@ -89,13 +109,16 @@ put-back-spec =
     sub-copy-words
     part-copy-words-start
     part-copy-words-end
-    copy-words-requires
     sub-copy-words-2
     part-copy-words-start-2
     part-copy-words-end-2
+    copy-words-requires
     sub-copy-words-3
     part-copy-words-start-3
     part-copy-words-end-3
+    sub-copy-words-4
+    part-copy-words-start-4
+    part-copy-words-end-4
     copy-words-requires-2
     add-copy-floats
     mul-copy-floats

@@ -3,6 +3,7 @@ use mathlib.Core.Path.{_≡_, refl, _∙_}
 use mathlib.Core.List.{_++_}
 use Prim.Native.Nat.{_≤_, _+_, _-_}
 use native.Mathlib.Omega.{arith}
+use lib.Ieee.{ofBits}
 use lib.ListN.{length, drop, replicate, length-set}
 use Rattle.hazards.specs.Floats.{z}
 use Rattle.engine.proofs.Overwritten.{fill-next, fill-all}
@@ -32,6 +33,7 @@ loop-less : tie.Need-loop-less Inv-loop μ-loop
 loop-less c = omega arith
 
 loop-again : tie.Need-loop-again Inv-loop μ-loop
+unfolding ofBits
 loop-again c =
     let l = c .before .loop in
     let floats = c .before .before .args .floats .now in (

@@ -2,6 +2,7 @@
 use mathlib.Core.Path.{_≡_, refl, _∙_}
 use Prim.Native.Nat.{_≤_, _+_, _*_, _-_}
 use native.Mathlib.Omega.{arith}
+use lib.Ieee.{ofBits}
 use lib.ListN.{length, length-set}
 use Rattle.engine.specs.OpeningRowsInternals.{openedTimes, OpenedFloats}
 use Rattle.engine.proofs.OpenedRows.{scales-none, scales-next}
@@ -36,6 +37,7 @@ loop-less : tie.Need-loop-less Inv-loop μ-loop
 loop-less c = omega arith
 
 loop-again : tie.Need-loop-again Inv-loop μ-loop
+unfolding ofBits
 loop-again c =
     let l = c .before .loop in (
       omega arith,
