@@ -51,6 +51,7 @@ pub mod StateParts
 pub mod CommandsInPlace
 pub mod SharedInPlace
 pub mod RescheduledInPlace
+pub mod SizedRows
 pub mod OpenedRows
 pub mod KeptParts
 pub mod RevertedInPlace
