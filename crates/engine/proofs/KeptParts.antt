@@ -5,7 +5,7 @@ use Prim.Native.Nat.{ℕ, _+_, _*_, _<_}
 use native.Mathlib.Omega.{arith}
 use lib.ListN.{length, getD, take, drop, length-drop}
 use lib.Seq.{getD-drop, take-all, length-take-le}
-use Rattle.clocks.specs.Layout.{WordRows, FloatRows, table, Coded}
+use Rattle.clocks.specs.Layout.{WordRows, FloatRows, Coded}
 use Rattle.clocks.proofs.Tables.{table-same}
 use Rattle.engine.specs.State.{slotAt, withSlot}
 use Rattle.engine.specs.StateRows.{partAt, slotOf, requestFrom, sharedFrom, stateFrom, SizedState, CodedShared, CodedState}

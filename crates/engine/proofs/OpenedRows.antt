@@ -1,13 +1,13 @@
 -- The rows of an opened state: zero, but for the scale of each clock.
 use mathlib.Core.Path.{_≡_, refl, _∙_, ap}
 use mathlib.Core.Bool.{true}
-use mathlib.Core.List.{List, []}
-use Prim.Native.Nat.{ℕ, _+_, _*_, _<_, _≤_}
+use mathlib.Core.List.{[]}
+use Prim.Native.Nat.{ℕ, _+_, _*_, _<_}
 use native.Mathlib.Omega.{arith}
 use borrow.Author.Tests.{eqb-true, eqb-false}
 use lib.Dec.{eqb}
 use lib.Ieee.{toBits, le}
-use lib.ListN.{length, getD, set, take, drop, replicate, length-set, length-replicate, getD-replicate}
+use lib.ListN.{length, getD, set, drop, replicate, length-set, length-replicate, getD-replicate}
 use lib.Seq.{getD-set-same, getD-set-other, getD-take, getD-drop}
 use Rattle.hazards.specs.Floats.{zeroBits}
 use Rattle.hazards.proofs.Cases.{by-test}
@@ -22,8 +22,6 @@ use Rattle.engine.specs.Opening.{openedShared, openedState}
 use Rattle.engine.specs.StateRows.{partAt, slotOf, slotFrom, requestFrom, sharedOf, sharedFrom, stateFrom, codedCounts, codedRequest}
 use Rattle.engine.specs.StateRows.{CodedState}
 use Rattle.engine.specs.OpeningRowsInternals.{openedTimes, OpenedFloats}
-use Rattle.engine.specs.declared.state.Request.{Request}
-use Rattle.engine.specs.declared.state.ClockSlot.{ClockSlot}
 
 -- ---- the scales put, one clock after another
 

@@ -1,6 +1,5 @@
 -- A command that is taken back at once, in place: the clock that it changed and the shared state are put back.
-use mathlib.Core.Path.{_≡_, refl, sym, _∙_, ap, subst}
-use mathlib.Core.Bool.{cond}
+use mathlib.Core.Path.{_≡_, refl, _∙_, ap, subst}
 use mathlib.Core.List.{List}
 use mathlib.Core.Option.{some}
 use Prim.Native.Nat.{ℕ, _<_}
@@ -15,7 +14,7 @@ use Rattle.engine.specs.State.{slotAt, withSlot, queuedRequests}
 use Rattle.engine.specs.Execution.{OnSlot, refused, done, target, stored, performOn, perform}
 use Rattle.engine.specs.StateRows.{sharedFrom, stateFrom, CodedState, performedOf, Performs}
 use Rattle.engine.specs.KeptRows.{keptSlot, keptShared, CodedKept}
-use Rattle.engine.specs.ExecutionRowsInternals.{Ready, TakenBack}
+use Rattle.engine.specs.ExecutionRowsInternals.{TakenBack}
 use Rattle.engine.specs.declared.state.ClockSlot.{ClockSlot}
 use Rattle.engine.specs.declared.state.Request.{Request}
 use Rattle.engine.specs.declared.state.SharedState.{SharedState}
@@ -87,8 +86,8 @@ module _ (w : WordRows) (f : FloatRows) (o : Performed EngineState Answer) (w₁
         coded = did .coded;
       }
 
-  module _ (k : ℕ) (kept : WordRows) (y : FloatRows) (slot-kept : keptSlot kept y ≡ slotAt s k) (shared-kept : keptShared kept ≡ sharedFrom w)
-      (coded-kept : CodedState w f → CodedKept kept y) (w₂ : WordRows) (f₂ : FloatRows)
+  module _ (k : ℕ) (kept : WordRows) (y : FloatRows) (slot-kept : keptSlot kept y ≡ slotAt s k)
+      (shared-kept : keptShared kept ≡ sharedFrom w) (coded-kept : CodedState w f → CodedKept kept y) (w₂ : WordRows) (f₂ : FloatRows)
       (back : stateFrom w₂ f₂ ≡ withSlot s₁ k (keptSlot kept y) (keptShared kept))
       (coded-back : CodedState w₁ f₁ → CodedKept kept y → CodedState w₂ f₂) where
     same-again : (i : ℕ) → k ≡ i → ChangesOne s i s₁ → stateFrom w₂ f₂ ≡ s

@@ -3,7 +3,7 @@ use mathlib.Core.Path.{_≡_, refl, sym, _∙_, ap}
 use mathlib.Core.List.{List, _++_}
 use Prim.Native.Nat.{ℕ, _≤_, _-_}
 use native.Mathlib.Omega.{arith}
-use lib.ListN.{length, getD, take, drop, set, length-set}
+use lib.ListN.{length, getD, take, drop, length-set}
 use lib.Seq.{take-length}
 use Rattle.engine.proofs.Overwritten.{copy-next}
 use Rattle.engine.proofs.PartLaws.{copied-whole, copied-nothing}

@@ -1,7 +1,6 @@
 -- `opening_rows::open` meets its contract: the sizes first, then the rows and the journal.
 use mathlib.Core.Path.{refl, sym, _∙_}
 use mathlib.Core.Bool.{true≢false}
-use native.Mathlib.Omega.{arith}
 use borrow.Author.Needs.{needs}
 use Rattle.engine.proofs.RunOpening.{journal-opened}
 use Rattle.engine.proofs.SizedRows.{sizes-there, words-amiss, floats-amiss}
@@ -41,13 +40,14 @@ same-length-3 c = search needs
 
 returns-3 : tie.Need-returns-3
 returns-3 c =
-    let a = c .before .before .before .before .before .before .before .before .before .before .before .before .args in
-    let opened = c .before .before .before .before .before .before .open-state .ensures in
-    let yes = sizes-there (a .words .now) (a .floats .now) (c .before .before .before .before .before .before .before .before .before .before .if1 .left) (c .before .before .before .before .before .before .before .before .before .if2 .left) in (
+    let call = c .before .before .before .before .before .before in
+    let tested = call .before .before .before in
+    let a = tested .before .before .before .args in
+    let yes = sizes-there (a .words .now) (a .floats .now) (tested .before .if1 .left) (tested .if2 .left) in (
       λ h. record {
         accepted = refl;
-        state = opened .0;
-        coded = opened .1;
+        state = call .open-state .ensures .0;
+        coded = call .open-state .ensures .1;
         journal = c .before .before .clear .ensures ∙ journal-opened (a .journal .now);
       },
       λ h. absurd (true≢false (sym yes ∙ h)),

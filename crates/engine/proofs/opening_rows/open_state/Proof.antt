@@ -2,7 +2,7 @@
 use mathlib.Core.Path.{_≡_, _∙_, ap}
 use Prim.Native.Nat.{ℕ}
 use borrow.Author.Needs.{needs}
-use lib.ListN.{length, replicate}
+use lib.ListN.{replicate}
 use Rattle.clocks.proofs.ClearedRows.{zeroWords, zeroFloats}
 use Rattle.engine.proofs.OpenedRows.{rows-opened, rows-coded}
 use Rattle.engine.proofs.opening_rows.open_state.Statement.{statement}
