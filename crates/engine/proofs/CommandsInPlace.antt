@@ -60,10 +60,10 @@ wordsLent k = 10 * k + 10 - 10 * k
 abbrev pub floatsLent : ℕ → ℕ
 floatsLent k = 25 * k + 25 - 25 * k
 
-words-lent : (k : ℕ) → wordsLent k ≡ 10
+pub words-lent : (k : ℕ) → wordsLent k ≡ 10
 words-lent k = omega arith
 
-floats-lent : (k : ℕ) → floatsLent k ≡ 25
+pub floats-lent : (k : ℕ) → floatsLent k ≡ 25
 floats-lent k = omega arith
 
 -- the rows of clock k were lent, and z and y came back

@@ -6,9 +6,9 @@ use mathlib.Core.Path.{_≡_, refl, sym, ap, _∙_}
 use mathlib.Core.List.{List, [], _∷_, _++_, append-assoc, append-nil}
 use lib.ListN.{length-drop, drop-of-length-le, length, getD, take, drop, set, replicate, length-append, length-replicate}
 use lib.ListN.{replicate-append-replicate, length-set}
-use native.Mathlib.Numerals.{add-one}
-use lib.Seq.{take-all, paste, take-at, drop-at, take-length, drop-append-add, drop-cons, set-at, append-snoc, take-suc, length-take-le}
+use lib.Seq.{take-all, paste, take-at, drop-at, take-length, drop-append-add, length-take-le}
 use lib.Seq.{drop-drop, getD-drop}
+use Rattle.engine.proofs.Overwritten.{fill-next}
 use Rattle.engine.specs.Engine.{Bytes, concat, init, code}
 
 pub drop-replicate : (k m : ℕ) (a : ℕ) → drop k (replicate m a) ≡ replicate (m - k) a
@@ -59,28 +59,6 @@ blank-zeros p d e m h =
     ∙ append-assoc p (replicate (length d) 0) (replicate m 0)
     ∙ ap (λ (l : Bytes). p ++ l) (replicate-append-replicate (length d) m 0)
 
--- a store behind the bytes p that replaced the front of d
-pub front-set : (p d : Bytes) (i v : ℕ) → length p ≡ i → i < length d → set (p ++ drop i d) i v ≡ p ++ (v ∷ []) ++ drop (i + 1) d
-front-set p d i v e h =
-    ap (λ (l : Bytes). set (p ++ l) i v) (drop-cons d i 0 h)
-    ∙ set-at p (getD d i 0) (drop (suc i) d) v i e
-    ∙ sym (append-snoc p v (drop (suc i) d))
-    ∙ ap (λ (k : ℕ). p ++ (v ∷ []) ++ drop k d) (sym (add-one i))
-
-pub copy-suc : (s d : Bytes) (i : ℕ) → i < length s → i < length d
-    → set (take i s ++ drop i d) i (getD s i 0) ≡ take (i + 1) s ++ drop (i + 1) d
-copy-suc s d i hs hd =
-    front-set (take i s) d i (getD s i 0) (length-take-le i s (omega arith)) hd
-    ∙ ap (λ (l : Bytes). l ++ drop (i + 1) d) (sym (take-suc s i 0 hs) ∙ ap (λ (k : ℕ). take k s) (sym (add-one i)))
-
--- one zero more over the front of d
-pub zero-next : (d x : Bytes) (i k : ℕ) → k ≡ i + 1 → i < length d → x ≡ replicate i 0 ++ drop i d → set x i 0 ≡ replicate k 0 ++ drop k d
-zero-next d x i k e h q =
-    ap (λ (l : Bytes). set l i 0) q
-    ∙ front-set (replicate i 0) d i 0 (length-replicate i 0) h
-    ∙ ap (λ (l : Bytes). l ++ drop (i + 1) d) (replicate-append-replicate i 1 0)
-    ∙ ap (λ (m : ℕ). replicate m 0 ++ drop m d) (sym e)
-
 -- zero stored at place i, then at each of the n places behind it
 unfoldable pub zerosStored : Bytes → ℕ → ℕ → Bytes
 zerosStored x i zero = set x i 0
@@ -95,9 +73,9 @@ stored-length x i (suc n) = length-set (zerosStored x i n) (i + suc n) 0 ∙ sto
 pub zeros-next : (d x : Bytes) (i n k : ℕ) → k ≡ i + n + 1 → i + n < length d → x ≡ replicate i 0 ++ drop i d
     → zerosStored x i n ≡ replicate k 0 ++ drop k d
 unfolding zerosStored
-zeros-next d x i zero k e h q = zero-next d x i k (omega arith) (omega arith) q
+zeros-next d x i zero k e h q = fill-next 0 d x i k (omega arith) (omega arith) q
 zeros-next d x i (suc n) k e h q =
-    zero-next d (zerosStored x i n) (i + suc n) k e h (zeros-next d x i n (i + suc n) (omega arith) (omega arith) q)
+    fill-next 0 d (zerosStored x i n) (i + suc n) k e h (zeros-next d x i n (i + suc n) (omega arith) (omega arith) q)
 
 -- zeros over the front of d up to e: the first k are there, the rest is a part of its own
 pub zeros-joined : (d x z : Bytes) (k e : ℕ) → k ≤ e → e ≤ length d → x ≡ replicate k 0 ++ drop k d

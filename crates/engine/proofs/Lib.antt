@@ -4,6 +4,7 @@
 pub mod Conjunctions
 pub mod EveryPlace
 pub mod ListParts
+pub mod Overwritten
 pub mod NotItself
 pub mod ComparisonLaws
 pub mod JournalBytes
@@ -52,6 +53,10 @@ pub mod SharedInPlace
 pub mod RescheduledInPlace
 pub mod PerformedInPlace
 pub mod ReadyStates
+pub mod SizedRows
+pub mod OpenedRows
+pub mod KeptParts
+pub mod RevertedInPlace
 -- demand 3: of any engine that meets the laws, then of this one
 pub mod DemandHalves
 pub mod Supplied

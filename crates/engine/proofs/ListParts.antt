@@ -3,7 +3,7 @@ use mathlib.Core.Path.{_≡_, sym, _∙_, ap}
 use mathlib.Core.List.{List, _++_}
 use Prim.Native.Nat.{ℕ, _+_, _-_, _≤_}
 use native.Mathlib.Omega.{arith}
-use lib.ListN.{length, take, drop, take-append-drop, length-drop}
+use lib.ListN.{length, take, drop, take-append-drop, length-append, length-drop}
 use lib.Seq.{length-take-le, take-at, drop-at, take-append-le, drop-append-le, drop-append-add, drop-drop}
 
 -- what lies within the first a is not changed by cutting there
@@ -23,6 +23,11 @@ put l z a m = take a l ++ (z ++ drop m (drop a l))
 module _ {A : Type 0} (l z : List A) (a m : ℕ) (many : length z ≡ m) (fits : a + m ≤ length l) where
   before-length : length (take a l) ≡ a
   before-length = length-take-le a l (omega arith)
+
+  pub put-length : length (put l z a m) ≡ length l
+  put-length =
+      length-append (take a l) (z ++ drop m (drop a l))
+      ∙ omega (arith, before-length, many, length-append z (drop m (drop a l)), length-drop m (drop a l), length-drop a l)
 
   from-here : drop a (put l z a m) ≡ z ++ drop m (drop a l)
   from-here = drop-at (take a l) (z ++ drop m (drop a l)) a before-length

@@ -35,16 +35,22 @@ use Rattle.engine.proofs.SoundQueues.{request-of}
 use Rattle.engine.proofs.CommandLaws.{no-width}
 use Rattle.engine.proofs.ExecutionCases.{target-named}
 
+-- a code that has a width and is none of the others is DELIVER's
+only-wide : (stream : List ℕ) (n : ℕ) (old : ClockSlot) (p : SharedState) (c : List ℕ) → NoOther stream n old p c
+    → 0 < widthOf (code c) → (code c ≡ commands.undo → ⊥) → (code c ≡ commands.deliver → ⊥) → ⊥
+only-wide stream n old p c k wide no-undo other =
+    let w =
+    no-width (code c) (k .not-create) (k .not-set) (k .not-remove) (k .not-reschedule) (k .not-pause) (k .not-resume) other
+    no-undo in
+    omega arith
+
 -- a whole command that is none of the others is DELIVER
 pub only-deliver : (stream : List ℕ) (n : ℕ) (old : ClockSlot) (p : SharedState) (c : List ℕ) → NoOther stream n old p c
     → Whole (engineOf stream n) c → (code c ≡ commands.deliver → ⊥) → ⊥
 only-deliver stream n old p c k whole other =
-    let w =
-    no-width (code c) (k .not-create) (k .not-set) (k .not-remove) (k .not-reschedule) (k .not-pause) (k .not-resume) other
-    (whole .other) in
     let l : length c ≡ widthOf (code c) = whole .len in
     let h = whole .pos in
-    omega arith
+    only-wide stream n old p c k (omega arith) (whole .other) other
 
 pub target-delivered : (p : SharedState) (c : List ℕ) (r : Request) → code c ≡ commands.deliver
     → nextRequest (queuedRequests p) ≡ some r → target p c ≡ r .clock
@@ -119,19 +125,42 @@ module _ (stream : List ℕ) (n : ℕ) (s : EngineState) (c : List ℕ) where
   named : (code c ≡ commands.deliver → ⊥) → clockOf c < 16 → target p c < 16
   named h below = subst (λ (i : ℕ). i < 16) (target-named p c h) below
 
+  next-target : code c ≡ commands.deliver → (r : Request) → nextRequest (queuedRequests p) ≡ some r → r .clock < 16 → target p c < 16
+  next-target d r e h = subst (λ (i : ℕ). i < 16) (sym (target-delivered p c r d e)) h
+
+  -- an accepted command is about one of the sixteen, where the next request is
+  pub accepted-target : ((r : Request) → nextRequest (queuedRequests p) ≡ some r → r .clock < 16) → 0 < widthOf (code c)
+      → (code c ≡ commands.undo → ⊥) → (slot : ClockSlot) (p′ : SharedState) (a : Answer)
+      → performOn stream n (slotAt s (target p c)) p c ≡ done slot p′ a → target p c < 16
+  accepted-target next wide no-undo slot p′ a did =
+      performed-way stream n old p c (λ slot p′ a. target p c < 16)
+      (λ k f h room. named (λ d. omega arith) (create-accepted c f .clock))
+      (λ k f h room. named (λ d. omega arith) (set-accepted c f .clock))
+      (λ k f h room. named (λ d. omega arith) (cause-accepted c f))
+      (λ k f h room. named (λ d. omega arith) (reschedule-accepted c f .clock))
+      (λ k f h room. named (λ d. omega arith) (pause-accepted c f .clock))
+      (λ k f h room. named (λ d. omega arith) (reschedule-accepted c f .clock))
+      (λ k r e room.
+      by-test (eqb (code c) commands.deliver)
+      (λ d. next-target (eqb-true _ _ d) r e (next r e))
+      (λ d. absurd (only-wide stream n old p c k wide no-undo (eqb-false _ _ d)))) slot p′ a did
+    where
+      old : ClockSlot
+      old = slotAt s (target p c)
+
   -- a request that is queued is about one of the sixteen
-  next-below : SoundState stream n s → code c ≡ commands.deliver → (r : Request) → nextRequest (queuedRequests p) ≡ some r → target p c < 16
-  next-below g d r e =
+  queued-below : SoundState stream n s → (r : Request) → nextRequest (queuedRequests p) ≡ some r → r .clock < 16
+  queued-below g r e =
       let best = subst (λ (o : Option Request). Best o (λ y. In y (queuedRequests p))) e (next-best (queuedRequests p)) in
       let within : In r (queuedRequests p) = best .0 in
-      subst (λ (i : ℕ). i < 16) (sym (target-delivered p c r d e)) (request-of (g .queue) r within .clock)
+      request-of (g .queue) r within .clock
 
   deliver-below : SoundState stream n s → code c ≡ commands.deliver → target p c < 16
   deliver-below g d = go (nextRequest (queuedRequests p)) refl
     where
       go : (o : Option Request) → nextRequest (queuedRequests p) ≡ o → target p c < 16
       go none e = subst (λ (i : ℕ). i < 16) (sym (target-nothing p c d e)) (omega arith)
-      go (some r) e = next-below g d r e
+      go (some r) e = next-target d r e (queued-below g r e)
 
   -- a command about no clock of the sixteen does the same on every slot
   pub same-past : SoundState stream n s → Whole (engineOf stream n) c → 16 ≤ target p c → (a b : ClockSlot)
@@ -142,18 +171,7 @@ module _ (stream : List ℕ) (n : ℕ) (s : EngineState) (c : List ℕ) where
 
   pub target-below : SoundState stream n s → Whole (engineOf stream n) c → (slot : ClockSlot) (p′ : SharedState) (a : Answer)
       → performOn stream n (slotAt s (target p c)) p c ≡ done slot p′ a → target p c < 16
-  target-below g whole slot p′ a did =
-      performed-way stream n old p c (λ slot p′ a. target p c < 16)
-      (λ k f h room. named (λ d. omega arith) (create-accepted c f .clock))
-      (λ k f h room. named (λ d. omega arith) (set-accepted c f .clock))
-      (λ k f h room. named (λ d. omega arith) (cause-accepted c f))
-      (λ k f h room. named (λ d. omega arith) (reschedule-accepted c f .clock))
-      (λ k f h room. named (λ d. omega arith) (pause-accepted c f .clock))
-      (λ k f h room. named (λ d. omega arith) (reschedule-accepted c f .clock))
-      (λ k r e room.
-      by-test (eqb (code c) commands.deliver)
-      (λ d. next-below g (eqb-true _ _ d) r e)
-      (λ d. absurd (only-deliver stream n old p c k whole (eqb-false _ _ d)))) slot p′ a did
-    where
-      old : ClockSlot
-      old = slotAt s (target p c)
+  target-below g whole =
+      let l : length c ≡ widthOf (code c) = whole .len in
+      let h = whole .pos in
+      accepted-target (queued-below g) (omega arith) (whole .other)

@@ -111,21 +111,28 @@ module _ (w z : WordRows) (f y : FloatRows) (k : ℕ) (hk : k < 16) (sized : Siz
 
 -- ---- the shared state
 
-module _ (w w′ : WordRows) (f : FloatRows) (sized : length w ≡ 177) (sized′ : length w′ ≡ 177) (p : SharedState)
-    (left : LeavesShared w w′ p) where
+module _ (w w′ : WordRows) (f : FloatRows) (sized : length w ≡ 177) (sized′ : length w′ ≡ 177) (same : take 160 w′ ≡ take 160 w) where
   part-same : (i : ℕ) → i < 16 → partAt 10 i w′ ≡ partAt 10 i w
   part-same i h =
       sym (within-first w′ 160 (10 * i) 10 (omega arith) (omega arith))
-      ∙ (ap (λ (l : WordRows). partAt 10 i l) (left .clocks) ∙ within-first w 160 (10 * i) 10 (omega arith) (omega arith))
+      ∙ (ap (λ (l : WordRows). partAt 10 i l) same ∙ within-first w 160 (10 * i) 10 (omega arith) (omega arith))
 
-  pub shared-put : stateFrom w′ f ≡ record { slots = stateFrom w f .slots; shared = p }
+  pub clocks-kept : (p : SharedState) → sharedFrom w′ ≡ p → stateFrom w′ f ≡ record { slots = stateFrom w f .slots; shared = p }
   unfolding stateFrom
-  shared-put =
+  clocks-kept p e =
       let slots = table-same 16 (λ i. slotFrom w f i) (λ i. slotFrom w′ f i) (λ i h. rw (part-same i h)) in
-      λ i. record { slots = slots i; shared = left .shared i }
+      λ i. record { slots = slots i; shared = e i }
+
+  pub clocks-coded : CodedShared w′ → CodedState w f → CodedState w′ f
+  clocks-coded shared h = record {
+    clocks = λ i l. rw (part-same i l) (h .clocks i l);
+    shared = shared;
+  }
+
+module _ (w w′ : WordRows) (f : FloatRows) (sized : length w ≡ 177) (sized′ : length w′ ≡ 177) (p : SharedState)
+    (left : LeavesShared w w′ p) where
+  pub shared-put : stateFrom w′ f ≡ record { slots = stateFrom w f .slots; shared = p }
+  shared-put = clocks-kept w w′ f sized sized′ (left .clocks) p (left .shared)
 
   pub shared-coded : CodedState w f → CodedState w′ f
-  shared-coded h = record {
-    clocks = λ i l. rw (part-same i l) (h .clocks i l);
-    shared = left .coded (h .shared);
-  }
+  shared-coded h = clocks-coded w w′ f sized sized′ (left .clocks) (left .coded (h .shared)) h

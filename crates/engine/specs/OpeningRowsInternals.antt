@@ -12,7 +12,8 @@ use Rattle.clocks.specs.Layout.{FloatRows}
 abbrev pub openedTimes : List Float
 openedTimes = one ∷ replicate 7 z
 
-pub record OpenedFloats (f : FloatRows) : Type 0 where
+-- the first n clocks have theirs
+pub record OpenedFloats (n : ℕ) (f : FloatRows) : Type 0 where
   pub rows : length f ≡ 400
-  pub times : (k : ℕ) → k < 16 → getD f (25 * k) [] ≡ openedTimes
-  pub zeros : (k j : ℕ) → k < 16 → j < 24 → getD f (25 * k + (1 + j)) [] ≡ replicate 8 z
+  pub times : (k : ℕ) → k < n → getD f (25 * k) [] ≡ openedTimes
+  pub zeros : (k r : ℕ) → k < 16 → 0 < r → r < 25 → getD f (25 * k + r) [] ≡ replicate 8 z

@@ -605,17 +605,28 @@ pub(crate) fn perform(
     }
 }
 
-// The clock that a command is about, for DELIVER that of the next request. It is 15 where it is none of the sixteen: the command is refused
-// then.
+// The clock that a command is about, for DELIVER that of the next request.
+fn target(words: &[[u64; 8]], command: &[u8]) -> usize
+    requires { ⌜ length (now words) ≡ 177 ⌝ }
+    ensures { λ r. ⌜ r ≡ target (sharedFrom (now (words .entry))) (now (command .entry)) ⌝ }
+{
+    if byte_at(command, 0) == DELIVER {
+        let next = crate::queue_rows::next_request(words);
+        if next.found {
+            return next.request.clock;
+        }
+        return 0;
+    }
+    byte_at(command, CLOCK_FIELD) as usize
+}
+
+// The same among the sixteen: 15 where it is none of them, and the command is refused then.
 pub(crate) fn near_target(words: &[[u64; 8]], command: &[u8]) -> usize
     requires { ⌜ length (now words) ≡ 177 ⌝ }
     ensures { λ r. ⌜ (r < 16) × (target (sharedFrom (now (words .entry))) (now (command .entry)) < 16
         → r ≡ target (sharedFrom (now (words .entry))) (now (command .entry))) ⌝ }
 {
-    let mut clock = byte_at(command, CLOCK_FIELD) as usize;
-    if byte_at(command, 0) == DELIVER {
-        clock = crate::queue_rows::next_request(words).request.clock;
-    }
+    let clock = target(words, command);
     if clock < 16 { clock } else { 15 }
 }
 

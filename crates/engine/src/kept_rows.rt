@@ -52,8 +52,11 @@ pub(crate) fn keep<'a, 'b>(
 {
     let w = CLOCK_WORDS * clock;
     let f = CLOCK_FLOATS * clock;
-    copy_words(&mut kept[..CLOCK_WORDS], &words[w..w + CLOCK_WORDS]);
-    copy_words(&mut kept[CLOCK_WORDS..], &words[COUNTS..STATE_WORDS]);
+    copy_words(&mut kept[0..CLOCK_WORDS], &words[w..w + CLOCK_WORDS]);
+    copy_words(
+        &mut kept[CLOCK_WORDS..KEPT_WORDS],
+        &words[COUNTS..STATE_WORDS],
+    );
     copy_floats(kept_floats, &floats[f..f + CLOCK_FLOATS]);
 }
 
@@ -74,7 +77,10 @@ pub(crate) fn put_back<'a, 'b>(
 {
     let w = CLOCK_WORDS * clock;
     let f = CLOCK_FLOATS * clock;
-    copy_words(&mut words[w..w + CLOCK_WORDS], &kept[..CLOCK_WORDS]);
-    copy_words(&mut words[COUNTS..STATE_WORDS], &kept[CLOCK_WORDS..]);
+    copy_words(&mut words[w..w + CLOCK_WORDS], &kept[0..CLOCK_WORDS]);
+    copy_words(
+        &mut words[COUNTS..STATE_WORDS],
+        &kept[CLOCK_WORDS..KEPT_WORDS],
+    );
     copy_floats(&mut floats[f..f + CLOCK_FLOATS], kept_floats);
 }

@@ -37,7 +37,7 @@ fn clear_floats(floats: &mut [[f64; 8]])
 // The scale of a clock that is not there is 1.
 fn put_scales(floats: &mut [[f64; 8]])
     requires { ⌜ now floats ≡ replicate 400 (replicate 8 z) ⌝ }
-    ensures { λ _. ⌜ OpenedFloats (now (floats .exit)) ⌝ }
+    ensures { λ _. ⌜ OpenedFloats 16 (now (floats .exit)) ⌝ }
 {
     let mut k: usize = 0;
     while k < CLOCKS {

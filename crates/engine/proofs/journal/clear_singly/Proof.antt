@@ -1,10 +1,10 @@
 -- `journal::clear_singly` meets its contract: at each turn the bytes before the place are zero, and the rest are as they were.
-use mathlib.Core.Path.{_≡_, refl, _∙_, ap}
-use mathlib.Core.List.{List, _++_, append-nil}
-use Prim.Native.Nat.{ℕ, _≤_, _+_, _-_}
+use mathlib.Core.Path.{_≡_, refl, _∙_}
+use mathlib.Core.List.{_++_}
+use Prim.Native.Nat.{_≤_, _+_, _-_}
 use native.Mathlib.Omega.{arith}
-use lib.ListN.{length, drop, replicate, length-set, drop-of-length-le}
-use Rattle.engine.proofs.JournalBytes.{zero-next}
+use lib.ListN.{length, drop, replicate, length-set}
+use Rattle.engine.proofs.Overwritten.{fill-next, fill-all}
 use Rattle.engine.proofs.journal.clear_singly.Statement.{statement}
 use Rattle.engine.proofs.journal.clear_singly.Tie as tie
 
@@ -30,7 +30,7 @@ loop-again : tie.Need-loop-again Inv-loop μ-loop
 loop-again c =
     let l = c .before .loop in
     let bytes = c .before .before .args .bytes .now in (
-      zero-next bytes (l .bytes) (l .at) (l .at + 1) refl (omega arith) (l .inv .0),
+      fill-next 0 bytes (l .bytes) (l .at) (l .at + 1) refl (omega arith) (l .inv .0),
       omega arith,
       length-set (l .bytes) (l .at) 0 ∙ l .inv .2,
     )
@@ -42,11 +42,7 @@ returns : tie.Need-returns Inv-loop μ-loop
 returns c =
     let l = c .before .loop in
     let bytes = c .before .before .args .bytes .now in
-    let e : l .at ≡ length bytes = omega arith in
-    l .inv .0
-    ∙ ap (λ (k : ℕ). replicate k 0 ++ drop k bytes) e
-    ∙ ap (λ (x : List ℕ). replicate (length bytes) 0 ++ x) (drop-of-length-le bytes {i = length bytes} (omega arith))
-    ∙ append-nil (replicate (length bytes) 0)
+    fill-all 0 bytes (l .bytes) (l .at) (omega arith) (l .inv .0)
 
 pub clear-singly-spec : {M : Type 1} → statement M
 clear-singly-spec =

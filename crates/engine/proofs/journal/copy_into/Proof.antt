@@ -3,9 +3,9 @@ use mathlib.Core.Path.{_≡_, refl, sym, _∙_, ap}
 use mathlib.Core.List.{List, _++_}
 use Prim.Native.Nat.{ℕ, _≤_, _-_}
 use native.Mathlib.Omega.{arith}
-use lib.ListN.{length, getD, take, drop, set, length-set}
+use lib.ListN.{length, getD, take, drop, length-set}
 use lib.Seq.{take-length}
-use Rattle.engine.proofs.JournalBytes.{copy-suc}
+use Rattle.engine.proofs.Overwritten.{copy-next}
 use Rattle.engine.proofs.PartLaws.{copied-whole, copied-nothing}
 use Rattle.engine.proofs.journal.copy_into.Statement.{statement}
 use Rattle.engine.proofs.journal.copy_into.Tie as tie
@@ -39,8 +39,7 @@ loop-again c =
     let l = c .before .before .loop in
     let a = c .before .before .before .before .args in
     let command = a .command .now in (
-      ap (λ (x : List ℕ). set x (l .i) (getD command (l .i) 0)) (l .inv .0)
-          ∙ copy-suc command (a .free .now) (l .i) (omega arith) (omega arith),
+      copy-next command (a .free .now) (l .free) (l .i) 0 (omega arith) (omega arith) (l .inv .0),
       omega arith,
       length-set (l .free) (l .i) (getD command (l .i) 0) ∙ l .inv .2,
     )

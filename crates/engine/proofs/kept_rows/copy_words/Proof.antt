@@ -1,55 +1,58 @@
-use borrow.Author.Needs.{needs}
+-- `kept_rows::copy_words` meets its contract: at each turn the first i rows are those of `from`, and the rest are as they were.
+use mathlib.Core.Path.{_≡_, refl, _∙_}
+use mathlib.Core.List.{[], _++_}
+use Prim.Native.Nat.{_≤_, _-_}
 use native.Mathlib.Omega.{arith}
+use lib.ListN.{length, getD, take, drop, length-set}
+use Rattle.engine.proofs.Overwritten.{copy-next, copy-all}
 use Rattle.engine.proofs.kept_rows.copy_words.Statement.{statement}
 use Rattle.engine.proofs.kept_rows.copy_words.Tie as tie
-use Rattle.engine.proofs.kept_rows.copy_words.Reads as reads
-use Rattle.engine.proofs.kept_rows.copy_words.Lts as lts
 
 abbrev Inv-loop : tie.InvT-loop
-Inv-loop to₀ from i₀ to i = ?
+Inv-loop to₀ from i₀ to i = (to ≡ take i from ++ drop i to₀) × (i ≤ length from) × (length to ≡ length to₀)
 
 abbrev μ-loop : tie.MeasureT-loop
-μ-loop to₀ from i₀ to i = ?
+μ-loop to₀ from i₀ to i = length from - i
 
--- src/kept_rows.rt:22:5
 loop-holds : tie.Need-loop-holds Inv-loop μ-loop
-loop-holds c = ?
+loop-holds c = (refl, omega arith, refl)
 
--- src/kept_rows.rt:23:17
 mul-to : tie.Need-mul-to Inv-loop μ-loop
 mul-to c = omega arith
 
--- src/kept_rows.rt:23:17
 shared-slice-copy-out-to : tie.Need-shared-slice-copy-out-to Inv-loop μ-loop
-shared-slice-copy-out-to c = ?
+shared-slice-copy-out-to c = omega arith
 
--- src/kept_rows.rt:23:9
 mul-t8 : tie.Need-mul-t8 Inv-loop μ-loop
 mul-t8 c = omega arith
 
--- src/kept_rows.rt:23:9
 slice-set-from-to : tie.Need-slice-set-from-to Inv-loop μ-loop
-slice-set-from-to c = ?
+slice-set-from-to c = omega (arith, c .before .before .before .pre)
 
--- src/kept_rows.rt:24:9
 add-i : tie.Need-add-i Inv-loop μ-loop
 add-i c = omega arith
 
--- src/kept_rows.rt:22:5
 loop-less : tie.Need-loop-less Inv-loop μ-loop
 loop-less c = omega arith
 
--- src/kept_rows.rt:22:5
 loop-again : tie.Need-loop-again Inv-loop μ-loop
-loop-again c = ?
+loop-again c =
+    let l = c .before .before .loop in
+    let a = c .before .before .before .args in
+    let from = a .from .now in (
+      copy-next from (a .to .now) (l .to) (l .i) [] (omega arith) (omega arith) (l .inv .0),
+      omega arith,
+      length-set (l .to) (l .i) (getD from (l .i) []) ∙ l .inv .2,
+    )
 
--- src/kept_rows.rt:17:1
 same-length : tie.Need-same-length Inv-loop μ-loop
-same-length c = ?
+same-length c = omega arith
 
--- src/kept_rows.rt:17:1
 returns : tie.Need-returns Inv-loop μ-loop
-returns c = ?
+returns c =
+    let l = c .before .loop in
+    let m = c .before .before in
+    copy-all (m .args .from .now) (m .args .to .now) (l .to) (l .i) (omega arith) (m .pre) (l .inv .0)
 
 pub copy-words-spec : {M : Type 1} → statement M
 copy-words-spec =

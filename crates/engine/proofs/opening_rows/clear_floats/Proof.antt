@@ -1,47 +1,55 @@
-use borrow.Author.Needs.{needs}
+-- `opening_rows::clear_floats` meets its contract: at each turn the first i rows are zero, and the rest are as they were.
+use mathlib.Core.Path.{_≡_, refl, _∙_}
+use mathlib.Core.List.{_++_}
+use Prim.Native.Nat.{_≤_, _+_, _-_}
 use native.Mathlib.Omega.{arith}
+use lib.Ieee.{ofBits}
+use lib.ListN.{length, drop, replicate, length-set}
+use Rattle.hazards.specs.Floats.{z}
+use Rattle.engine.proofs.Overwritten.{fill-next, fill-all}
 use Rattle.engine.proofs.opening_rows.clear_floats.Statement.{statement}
 use Rattle.engine.proofs.opening_rows.clear_floats.Tie as tie
-use Rattle.engine.proofs.opening_rows.clear_floats.Reads as reads
-use Rattle.engine.proofs.opening_rows.clear_floats.Lts as lts
 
 abbrev Inv-loop : tie.InvT-loop
-Inv-loop floats₀ i₀ floats i = ?
+Inv-loop floats₀ i₀ floats i =
+    (floats ≡ replicate i (replicate 8 z) ++ drop i floats₀) × (i ≤ length floats₀) × (length floats ≡ length floats₀)
 
 abbrev μ-loop : tie.MeasureT-loop
-μ-loop floats₀ i₀ floats i = ?
+μ-loop floats₀ i₀ floats i = length floats₀ - i
 
--- src/opening_rows.rt:31:5
 loop-holds : tie.Need-loop-holds Inv-loop μ-loop
-loop-holds c = ?
+loop-holds c = (refl, omega arith, refl)
 
--- src/opening_rows.rt:32:9
 mul-t3 : tie.Need-mul-t3 Inv-loop μ-loop
 mul-t3 c = omega arith
 
--- src/opening_rows.rt:32:9
 slice-set-from-floats : tie.Need-slice-set-from-floats Inv-loop μ-loop
-slice-set-from-floats c = ?
+slice-set-from-floats c = omega arith
 
--- src/opening_rows.rt:33:9
 add-i : tie.Need-add-i Inv-loop μ-loop
 add-i c = omega arith
 
--- src/opening_rows.rt:31:5
 loop-less : tie.Need-loop-less Inv-loop μ-loop
 loop-less c = omega arith
 
--- src/opening_rows.rt:31:5
 loop-again : tie.Need-loop-again Inv-loop μ-loop
-loop-again c = ?
+unfolding ofBits
+loop-again c =
+    let l = c .before .loop in
+    let floats = c .before .before .args .floats .now in (
+      fill-next (replicate 8 z) floats (l .floats) (l .i) (l .i + 1) refl (omega arith) (l .inv .0),
+      omega arith,
+      length-set (l .floats) (l .i) (replicate 8 z) ∙ l .inv .2,
+    )
 
--- src/opening_rows.rt:27:1
 same-length : tie.Need-same-length Inv-loop μ-loop
-same-length c = ?
+same-length c = omega arith
 
--- src/opening_rows.rt:27:1
 returns : tie.Need-returns Inv-loop μ-loop
-returns c = ?
+returns c =
+    let l = c .before .loop in
+    let floats = c .before .before .args .floats .now in
+    fill-all (replicate 8 z) floats (l .floats) (l .i) (omega arith) (l .inv .0)
 
 pub clear-floats-spec : {M : Type 1} → statement M
 clear-floats-spec =
