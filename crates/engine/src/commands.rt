@@ -168,27 +168,6 @@ pub fn setting_of(command: &[u8]) -> CauseSetting
     }
 }
 
-// The clock that a CREATE makes.
-pub fn created_clock(command: &[u8]) -> SurvivalClock
-    ensures { λ r. ⌜ r ≡ createdClock (now (command .entry)) ⌝ }
-{
-    let entity = EntityId {
-        index: u64_at(command, ENTITY_INDEX_FIELD),
-        generation: u32_at(command, GENERATION_FIELD),
-    };
-    let policy = policy_of(byte_at(command, POLICY_FIELD));
-    let tie = hazards::ties::tie_breaker(byte_at(command, TIE_FIELD));
-    let has = byte_at(command, HAS_ENTITY_FIELD) == 1;
-    SurvivalClock::new(
-        u64_at(command, PROCESS_FIELD),
-        has,
-        entity,
-        policy,
-        tie,
-        f64_at(command, SCALE_FIELD),
-    )
-}
-
 // The censor of a RESCHEDULE or RESUME.
 pub fn censor_of(command: &[u8]) -> Censor
     ensures { λ r. ⌜ r ≡ censorOf (now (command .entry)) ⌝ }
