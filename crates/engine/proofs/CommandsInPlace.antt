@@ -11,7 +11,7 @@ use lib.Seq.{set-set, getD-take, getD-drop}
 use Rattle.hazards.specs.Answers.{noEvent}
 use Rattle.hazards.specs.declared.answers.Answer.{Answer}
 use Rattle.clocks.specs.Layout.{WordRows, FloatRows, flagFrom, presentIn, clockFrom, Coded, Leaves}
-use Rattle.clocks.specs.declared.clocks.SurvivalClock.{SurvivalClock}
+use Rattle.clocks.specs.Clocks.{SurvivalClock}
 use Rattle.hazards.specs.declared.refusals.Faults.{Faults}
 use Rattle.engine.specs.Commands as commands
 use Rattle.engine.specs.Commands.{widthOf, byteAt, clockOf}
@@ -22,9 +22,9 @@ use Rattle.engine.specs.Execution.{OnSlot, refused, done, holding, store
 use Rattle.engine.specs.Execution.{target, performOn, perform}
 use Rattle.engine.specs.StateRows.{partAt, slotOf, slotFrom, sharedFrom, stateFrom, CodedState, SizedState, LeavesShared, LeavesClock}
 use Rattle.engine.specs.StateRows.{performedOf, Performs}
-use Rattle.engine.specs.declared.state.ClockSlot.{ClockSlot}
-use Rattle.engine.specs.declared.state.SharedState.{SharedState}
-use Rattle.engine.specs.declared.state.EngineState.{EngineState}
+use Rattle.engine.specs.State.{ClockSlot}
+use Rattle.engine.specs.State.{SharedState}
+use Rattle.engine.specs.State.{EngineState}
 use Rattle.hazards.proofs.Cases.{by-test}
 use Rattle.engine.proofs.CommandLaws.{no-width}
 use Rattle.engine.proofs.ExecutionCases.{refusalOf, not-done, there, there-present, target-named, target-deliver}

@@ -6,15 +6,15 @@ use Prim.Native.Nat.{ℕ, _+_, _≤_}
 use lib.ListN.{length}
 use Rattle.hazards.specs.declared.answers.Answer.{Answer}
 use Rattle.clocks.specs.declared.clocks.ScheduledEvent.{ScheduledEvent}
-use Rattle.clocks.specs.declared.scheduling.Rescheduled.{Rescheduled}
+use Rattle.clocks.specs.Scheduling.{Rescheduled}
 use Rattle.engine.specs.Opening.{openedState}
 use Rattle.engine.specs.State.{slotAt, withAppliedBytes}
 use Rattle.engine.specs.Engine.{performed}
 use Rattle.engine.specs.Execution.{withdraw, enqueue, target, perform}
 use Rattle.engine.specs.Instance.{engineOf}
-use Rattle.engine.specs.declared.state.ClockSlot.{ClockSlot}
-use Rattle.engine.specs.declared.state.SharedState.{SharedState}
-use Rattle.engine.specs.declared.state.EngineState.{EngineState}
+use Rattle.engine.specs.State.{ClockSlot}
+use Rattle.engine.specs.State.{SharedState}
+use Rattle.engine.specs.State.{EngineState}
 use Rattle.engine.proofs.Supplied.{Laws}
 use Rattle.engine.proofs.SharedLaws.{withdraw-elsewhere, enqueue-elsewhere}
 use Rattle.engine.proofs.PerformedWays.{Room, rescheduling, resuming, pausing, performed-way, done-on}

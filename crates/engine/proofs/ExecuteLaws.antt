@@ -29,9 +29,9 @@ use Rattle.engine.specs.Answers.{after, returned}
 use Rattle.engine.specs.declared.execute.Executed.{Executed}
 use Rattle.engine.specs.declared.execution.SlotOutcome.{SlotOutcome}
 use Rattle.engine.specs.declared.replay.Replay.{Replay}
-use Rattle.engine.specs.declared.state.ClockSlot.{ClockSlot}
-use Rattle.engine.specs.declared.state.SharedState.{SharedState}
-use Rattle.engine.specs.declared.state.EngineState.{EngineState}
+use Rattle.engine.specs.State.{ClockSlot}
+use Rattle.engine.specs.State.{SharedState}
+use Rattle.engine.specs.State.{EngineState}
 use Rattle.engine.proofs.Asking.{undo-reverts}
 use Rattle.engine.proofs.JournalBytes.{restOf, zeroed-part, pasted-part}
 use Rattle.engine.proofs.PartLaws.{copied-whole, cleared-whole}

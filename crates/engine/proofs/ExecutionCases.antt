@@ -19,12 +19,12 @@ use Rattle.clocks.specs.Clocks.{removeChannel}
 use Rattle.clocks.specs.Scheduling as scheduling
 use Rattle.clocks.specs.Setting.{setChannel}
 use Rattle.clocks.specs.declared.clocks.ScheduledEvent.{ScheduledEvent}
-use Rattle.clocks.specs.declared.clocks.SurvivalClock.{SurvivalClock}
+use Rattle.clocks.specs.Clocks.{SurvivalClock}
 use Rattle.clocks.specs.declared.scheduling.Censor.{Censor}
-use Rattle.clocks.specs.declared.scheduling.Dispatched.{Dispatched}
-use Rattle.clocks.specs.declared.scheduling.Paused.{Paused}
-use Rattle.clocks.specs.declared.scheduling.Rescheduled.{Rescheduled}
-use Rattle.clocks.specs.declared.setting.ChannelSet.{ChannelSet}
+use Rattle.clocks.specs.Scheduling.{Dispatched}
+use Rattle.clocks.specs.Scheduling.{Paused}
+use Rattle.clocks.specs.Scheduling.{Rescheduled}
+use Rattle.clocks.specs.Setting.{ChannelSet}
 use Rattle.engine.specs.Commands as commands
 use Rattle.engine.specs.Refusals.{clockPresent, clockAbsent, queueEmpty, journalFull}
 use Rattle.engine.specs.Queue.{nextRequest, without, isQueued}
@@ -39,8 +39,8 @@ use Rattle.engine.specs.Commands.{createdClock, settingOf, nowOf, censor
 use Rattle.engine.specs.ExecutionInternals.{onSlotOf, Countable}
 use Rattle.engine.specs.declared.execution.SlotOutcome.{SlotOutcome}
 use Rattle.engine.specs.declared.queue.Pick.{Pick}
-use Rattle.engine.specs.declared.state.ClockSlot.{ClockSlot}
-use Rattle.engine.specs.declared.state.SharedState.{SharedState}
+use Rattle.engine.specs.State.{ClockSlot}
+use Rattle.engine.specs.State.{SharedState}
 use Rattle.engine.specs.declared.state.Request.{Request}
 use Rattle.engine.proofs.QueueLaws.{without-length}
 

@@ -10,8 +10,8 @@ use Rattle.clocks.proofs.Tables.{table-same}
 use Rattle.engine.specs.State.{slotAt, withSlot}
 use Rattle.engine.specs.StateRows.{partAt, slotOf, requestFrom, sharedFrom, stateFrom, SizedState, CodedShared, CodedState}
 use Rattle.engine.specs.KeptRows.{keptSlot, keptShared, SizedKept, CodedKept}
-use Rattle.engine.specs.declared.state.ClockSlot.{ClockSlot}
-use Rattle.engine.specs.declared.state.EngineState.{EngineState}
+use Rattle.engine.specs.State.{ClockSlot}
+use Rattle.engine.specs.State.{EngineState}
 use Rattle.engine.proofs.ListParts.{put, put-length, part-here, part-before}
 use Rattle.engine.proofs.StateParts.{slot-at, clocks-kept, clocks-coded}
 use Rattle.engine.proofs.CommandsInPlace.{wordsLent, floatsLent, words-lent, floats-lent, slot-left, slot-left-coded}

@@ -14,14 +14,14 @@ use Rattle.hazards.proofs.Cases.{by-test}
 use Rattle.clocks.specs.Channels.{emptyChannel}
 use Rattle.clocks.specs.Clocks.{newClock}
 use Rattle.clocks.specs.Layout.{WordRows, FloatRows, table, clockOf, clockFrom, codedSettings, codedSchedule, codedTimes}
-use Rattle.clocks.specs.declared.clocks.SurvivalClock.{SurvivalClock}
+use Rattle.clocks.specs.Clocks.{SurvivalClock}
 use Rattle.clocks.proofs.ClearedRows.{zeroWords, zeroFloats, Cleared, coded-there, cleared-all}
 use Rattle.clocks.proofs.Tables.{table-same}
 use Rattle.engine.specs.State.{emptyRequest, emptySlot}
 use Rattle.engine.specs.Opening.{openedShared, openedState}
 use Rattle.engine.specs.StateRows.{partAt, slotOf, slotFrom, requestFrom, sharedOf, sharedFrom, stateFrom, codedCounts, codedRequest}
 use Rattle.engine.specs.StateRows.{CodedState}
-use Rattle.engine.specs.OpeningRowsInternals.{openedTimes, OpenedFloats}
+use Rattle.engine.specs.OpeningInternals.{openedTimes, OpenedFloats}
 
 -- ---- the scales put, one clock after another
 

@@ -10,7 +10,7 @@ use Rattle.clocks.specs.Layout.{WordRows, FloatRows}
 use Rattle.engine.specs.Engine.{Performed, rejected, performed}
 use Rattle.engine.specs.Execution.{perform}
 use Rattle.engine.specs.StateRows.{performedOf, sharedFrom, stateFrom, Performs}
-use Rattle.engine.specs.declared.state.EngineState.{EngineState}
+use Rattle.engine.specs.State.{EngineState}
 use Rattle.engine.proofs.EngineLaws.{engine-laws}
 
 module _ (t : EngineState) (a : Answer) {o : Performed EngineState Answer} (e : performedOf t a ≡ o) where

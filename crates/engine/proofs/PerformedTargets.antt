@@ -21,10 +21,10 @@ use Rattle.engine.specs.Engine.{code}
 use Rattle.engine.specs.Execution.{OnSlot, done, performCreate, performSet, performRemove, performReschedule, performPause}
 use Rattle.engine.specs.Execution.{performResume, performOn, target}
 use Rattle.engine.specs.Instance.{engineOf}
-use Rattle.engine.specs.declared.state.ClockSlot.{ClockSlot}
-use Rattle.engine.specs.declared.state.SharedState.{SharedState}
+use Rattle.engine.specs.State.{ClockSlot}
+use Rattle.engine.specs.State.{SharedState}
 use Rattle.engine.specs.declared.state.Request.{Request}
-use Rattle.engine.specs.declared.state.EngineState.{EngineState}
+use Rattle.engine.specs.State.{EngineState}
 use Rattle.engine.proofs.SoundState.{SoundState}
 use Rattle.engine.proofs.CommandLists.{Whole}
 use Rattle.engine.proofs.RequestLists.{In}

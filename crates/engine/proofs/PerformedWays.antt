@@ -15,9 +15,9 @@ use Rattle.hazards.specs.declared.answers.Answer.{Answer}
 use Rattle.clocks.specs.Clocks.{removeChannel}
 use Rattle.clocks.specs.Setting.{setChannel}
 use Rattle.clocks.specs.Scheduling as scheduling
-use Rattle.clocks.specs.declared.scheduling.Rescheduled.{Rescheduled}
-use Rattle.clocks.specs.declared.scheduling.Paused.{Paused}
-use Rattle.clocks.specs.declared.setting.ChannelSet.{ChannelSet}
+use Rattle.clocks.specs.Scheduling.{Rescheduled}
+use Rattle.clocks.specs.Scheduling.{Paused}
+use Rattle.clocks.specs.Setting.{ChannelSet}
 use Rattle.engine.specs.Commands as commands
 use Rattle.engine.specs.Queue.{nextRequest, without}
 use Rattle.engine.specs.State.{slotAt, withSlot, queuedRequests, withQueue, withPosition, withAppliedBytes}
@@ -28,10 +28,10 @@ use Rattle.engine.specs.Execution.{performReschedule, performPause, perf
 use Rattle.engine.specs.Execution.{stored, perform}
 use Rattle.engine.specs.Commands.{byteAt, nowOf, censorOf, settingOf, createdClock, createFaults, setFaults, causeFaults}
 use Rattle.engine.specs.Commands.{rescheduleFaults, pauseFaults}
-use Rattle.engine.specs.declared.state.ClockSlot.{ClockSlot}
-use Rattle.engine.specs.declared.state.SharedState.{SharedState}
+use Rattle.engine.specs.State.{ClockSlot}
+use Rattle.engine.specs.State.{SharedState}
 use Rattle.engine.specs.declared.state.Request.{Request}
-use Rattle.engine.specs.declared.state.EngineState.{EngineState}
+use Rattle.engine.specs.State.{EngineState}
 
 -- ---- what is done was not refused
 

@@ -19,7 +19,7 @@ use Rattle.engine.specs.Queue.{requestTicks, comesFirst, earlierOf, next
 use Rattle.engine.specs.State.{emptyRequest, queuedRequests, withQueue}
 use Rattle.engine.specs.QueueInternals.{pickOf}
 use Rattle.engine.specs.declared.queue.Pick.{Pick}
-use Rattle.engine.specs.declared.state.SharedState.{SharedState}
+use Rattle.engine.specs.State.{SharedState}
 use Rattle.engine.specs.declared.state.Request.{Request}
 
 -- ---- ticks in two words

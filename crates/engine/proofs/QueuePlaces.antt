@@ -12,8 +12,8 @@ use Rattle.hazards.proofs.Cases.{by-test}
 use Rattle.engine.specs.Queue.{keepIf, without, countFor}
 use Rattle.engine.specs.State.{emptyRequest, queuedRequests, withQueue, withRequest}
 use Rattle.engine.specs.Execution.{isWithdrawn, withdraw}
-use Rattle.engine.specs.declared.state.ClockSlot.{ClockSlot}
-use Rattle.engine.specs.declared.state.SharedState.{SharedState}
+use Rattle.engine.specs.State.{ClockSlot}
+use Rattle.engine.specs.State.{SharedState}
 use Rattle.engine.specs.declared.state.Request.{Request}
 use Rattle.engine.proofs.RequestLists.{notFor}
 use Rattle.engine.proofs.SoundState.{namesRequest, SoundQueue}

@@ -11,7 +11,7 @@ use Rattle.clocks.specs.Layout.{WordRows}
 use Rattle.engine.specs.Queue.{without}
 use Rattle.engine.specs.State.{emptyRequest, queuedRequests, withQueue, withRequest}
 use Rattle.engine.specs.StateRows.{requestFrom, queueFrom, sharedOf, sharedFrom, codedRequest, LeavesShared}
-use Rattle.engine.specs.QueueRowsInternals.{KeepsRest, MovedUp, ClearedFrom}
+use Rattle.engine.specs.QueueInternals.{KeepsRest, MovedUp, ClearedFrom}
 use Rattle.engine.specs.declared.state.Request.{Request}
 use Rattle.engine.proofs.QueueLaws.{without-kept, without-left}
 use Rattle.engine.proofs.RequestRows.{countAt, requestIn, index-in, queue-sixteen, request-in, row-first, row-all}

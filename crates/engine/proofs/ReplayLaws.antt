@@ -28,9 +28,9 @@ use Rattle.engine.specs.ReplayInternals.{commandAt, widthAfter, ReplayEn
 use Rattle.engine.specs.declared.replay.FrontCommand.{FrontCommand}
 use Rattle.engine.specs.declared.replay.Replay.{Replay}
 use Rattle.engine.specs.declared.execution.SlotOutcome.{SlotOutcome}
-use Rattle.engine.specs.declared.state.ClockSlot.{ClockSlot}
-use Rattle.engine.specs.declared.state.SharedState.{SharedState}
-use Rattle.engine.specs.declared.state.EngineState.{EngineState}
+use Rattle.engine.specs.State.{ClockSlot}
+use Rattle.engine.specs.State.{SharedState}
+use Rattle.engine.specs.State.{EngineState}
 use Rattle.engine.proofs.SoundState.{SoundState}
 use Rattle.engine.proofs.CommandLists.{Whole}
 use Rattle.engine.proofs.Asking.{asks-no-command, asks-part, asks-undo, asks-command, replay-fails, replay-turn}

@@ -17,9 +17,9 @@ use Rattle.clocks.proofs.Tables.{length-table, getD-table, table-set, table-sam
 use Rattle.engine.specs.State.{emptyRequest, queuedRequests}
 use Rattle.engine.specs.StateRows.{requestFrom, queueFrom, sharedOf, sharedFrom, codedCounts, codedRequest}
 use Rattle.engine.specs.StateRows.{CodedShared, LeavesShared}
-use Rattle.engine.specs.QueueRowsInternals.{KeepsRest}
+use Rattle.engine.specs.QueueInternals.{KeepsRest}
 use Rattle.engine.specs.declared.state.Request.{Request}
-use Rattle.engine.specs.declared.state.SharedState.{SharedState}
+use Rattle.engine.specs.State.{SharedState}
 use Rattle.engine.proofs.QueueLaws.{queued-next, queued-back, queued-end, queued-first, queued-all}
 
 -- ---- one row

@@ -14,11 +14,11 @@ use Rattle.engine.specs.State.{slotAt, withSlot, queuedRequests}
 use Rattle.engine.specs.Execution.{OnSlot, refused, done, target, stored, performOn, perform}
 use Rattle.engine.specs.StateRows.{sharedFrom, stateFrom, CodedState, performedOf, Performs}
 use Rattle.engine.specs.KeptRows.{keptSlot, keptShared, CodedKept}
-use Rattle.engine.specs.ExecutionRowsInternals.{TakenBack}
-use Rattle.engine.specs.declared.state.ClockSlot.{ClockSlot}
+use Rattle.engine.specs.ExecutionInternals.{TakenBack}
+use Rattle.engine.specs.State.{ClockSlot}
 use Rattle.engine.specs.declared.state.Request.{Request}
-use Rattle.engine.specs.declared.state.SharedState.{SharedState}
-use Rattle.engine.specs.declared.state.EngineState.{EngineState}
+use Rattle.engine.specs.State.{SharedState}
+use Rattle.engine.specs.State.{EngineState}
 use Rattle.engine.proofs.PerformedTargets.{accepted-target}
 use Rattle.engine.proofs.SlotLaws.{put-back}
 

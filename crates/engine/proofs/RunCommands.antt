@@ -17,7 +17,7 @@ use Rattle.engine.specs.Execution.{perform}
 use Rattle.engine.specs.StateRows.{sharedFrom, stateFrom}
 use Rattle.engine.specs.Run.{Ran}
 use Rattle.engine.specs.RunInternals.{JournalAndAnswers, isUndone, bothAnswered, AnswersCommand, AnswersUndone}
-use Rattle.engine.specs.declared.state.EngineState.{EngineState}
+use Rattle.engine.specs.State.{EngineState}
 use Rattle.engine.proofs.JournalBytes.{restOf, partOf}
 use Rattle.engine.proofs.PerformedInPlace.{is-performed, is-rejected, shared-read}
 use Rattle.engine.proofs.RunAnswers.{answer-refused, answer-copied}

@@ -15,8 +15,8 @@ use Rattle.hazards.specs.declared.answers.Answer.{Answer}
 use Rattle.hazards.proofs.DrawLaws.{drawNumber, each-way}
 use Rattle.clocks.specs.Setting.{setChannel}
 use Rattle.clocks.specs.declared.setting.CauseSetting.{CauseSetting}
-use Rattle.clocks.specs.declared.setting.ChannelSet.{ChannelSet}
-use Rattle.clocks.specs.declared.clocks.SurvivalClock.{SurvivalClock}
+use Rattle.clocks.specs.Setting.{ChannelSet}
+use Rattle.clocks.specs.Clocks.{SurvivalClock}
 use Rattle.clocks.proofs.SettingOutcomes.{set-way}
 use Rattle.engine.specs.Commands as commands
 use Rattle.engine.specs.Commands.{widthOf, byteAt, settingOf, createFaults, setFaults, causeFaults, rescheduleFaults, pauseFaults}
@@ -37,10 +37,10 @@ use Rattle.engine.specs.Execution.{performRemove, performReschedule, per
 use Rattle.engine.specs.Execution.{performOn, target, stored, perform}
 use Rattle.engine.specs.Run.{endsRun}
 use Rattle.engine.specs.Answers.{answerOf}
-use Rattle.engine.specs.declared.state.ClockSlot.{ClockSlot}
-use Rattle.engine.specs.declared.state.SharedState.{SharedState}
+use Rattle.engine.specs.State.{ClockSlot}
+use Rattle.engine.specs.State.{SharedState}
 use Rattle.engine.specs.declared.state.Request.{Request}
-use Rattle.engine.specs.declared.state.EngineState.{EngineState}
+use Rattle.engine.specs.State.{EngineState}
 
 abbrev Goes : ℕ → Type 0
 Goes number = endsRun number ≡ false

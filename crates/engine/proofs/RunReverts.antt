@@ -19,7 +19,7 @@ use Rattle.engine.specs.Answers.{after}
 use Rattle.engine.specs.Instance.{engineOf}
 use Rattle.engine.specs.Run.{Ran}
 use Rattle.engine.specs.RunInternals.{isUndone, bothAnswered}
-use Rattle.engine.specs.declared.state.EngineState.{EngineState}
+use Rattle.engine.specs.State.{EngineState}
 use Rattle.engine.proofs.JournalBytes.{restOf, partOf, part-all}
 use Rattle.engine.proofs.RunAnswers.{answer-length}
 use Rattle.engine.proofs.RunStates.{reached-back}

@@ -11,7 +11,7 @@ use Rattle.engine.specs.ReplayInternals.{ends, replayAll}
 use Rattle.engine.specs.Sessions.{Session, appliedAfter, feed, feedAll, newSession}
 use Rattle.engine.specs.Instance.{engineOf}
 use Rattle.hazards.specs.declared.answers.Answer.{Answer}
-use Rattle.engine.specs.declared.state.EngineState.{EngineState}
+use Rattle.engine.specs.State.{EngineState}
 use Rattle.engine.proofs.SoundState.{SoundState}
 use Rattle.engine.proofs.Applied.{Inv, inv-open, inv-all, AppliedReplay, applied-replay, rest-counted, reverts, taken-back}
 use Rattle.engine.proofs.ComparisonLaws.{state-same}

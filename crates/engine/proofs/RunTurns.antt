@@ -25,7 +25,7 @@ use Rattle.engine.specs.Execution.{perform}
 use Rattle.engine.specs.Run.{Ran, finished, endsRun, executed, runFrom, ran}
 use Rattle.engine.specs.RunInternals.{Stop, stop, stopAt, openedRun}
 use Rattle.engine.specs.Answers.{AfterInput, after, answerOf}
-use Rattle.engine.specs.declared.state.EngineState.{EngineState}
+use Rattle.engine.specs.State.{EngineState}
 use Rattle.engine.proofs.SoundState.{SoundState}
 use Rattle.engine.proofs.CommandLists.{Whole}
 use Rattle.engine.proofs.Asking.{asks-no-command, asks-part, asks-undo, asks-command}

@@ -15,12 +15,12 @@ use Rattle.engine.specs.Opening.{openedState}
 use Rattle.engine.specs.Engine.{Bytes, Engine, code}
 use Rattle.engine.specs.Replay.{cleared, undo}
 use Rattle.engine.specs.ReplayInternals.{ends, replayAll}
-use Rattle.engine.specs.ReplayRowsInternals.{endState}
+use Rattle.engine.specs.ReplayInternals.{endState}
 use Rattle.engine.specs.Instance.{engineOf}
 use Rattle.engine.specs.Answers.{after}
 use Rattle.engine.specs.Run.{Ran}
 use Rattle.engine.specs.RunInternals.{openedRun}
-use Rattle.engine.specs.declared.state.EngineState.{EngineState}
+use Rattle.engine.specs.State.{EngineState}
 use Rattle.engine.proofs.Asking.{undo-nothing}
 use Rattle.engine.proofs.RunStates.{reached-undo, reached-replays, replay-nothing}
 use Rattle.engine.proofs.RunTurns.{leaving, Running, Input, running-begins, next-undo}

@@ -2,7 +2,7 @@
 use mathlib.Core.Path.{_≡_, refl, _∙_}
 use Rattle.clocks.specs.Layout.{WordRows}
 use Rattle.engine.specs.StateRows.{sharedFrom, LeavesShared}
-use Rattle.engine.specs.declared.state.SharedState.{SharedState}
+use Rattle.engine.specs.State.{SharedState}
 
 pub shared-none : (w : WordRows) {p : SharedState} → sharedFrom w ≡ p → LeavesShared w w p
 shared-none w e = record { shared = e; clocks = refl; coded = λ h. h }

@@ -3,10 +3,10 @@ use mathlib.Core.Path.{_≡_, refl}
 use mathlib.Core.List.{List}
 use Prim.Native.Nat.{ℕ}
 use Rattle.clocks.specs.declared.clocks.ScheduledEvent.{ScheduledEvent}
-use Rattle.clocks.specs.declared.scheduling.Rescheduled.{Rescheduled}
+use Rattle.clocks.specs.Scheduling.{Rescheduled}
 use Rattle.hazards.proofs.Cases.{by-test}
 use Rattle.engine.specs.Execution.{isWithdrawn, withdraw, enqueue}
-use Rattle.engine.specs.declared.state.SharedState.{SharedState}
+use Rattle.engine.specs.State.{SharedState}
 
 -- the same but for queue and request count
 pub record Elsewhere (p p′ : SharedState) : Type 0 where

@@ -8,7 +8,7 @@ use Rattle.hazards.proofs.Cases.{both-true}
 use Rattle.clocks.specs.Layout.{WordRows, FloatRows}
 use Rattle.clocks.proofs.EveryBelow.{and-false}
 use Rattle.engine.specs.StateRows.{SizedState}
-use Rattle.engine.specs.ExecuteRows.{hasSizes}
+use Rattle.engine.specs.InPlace.{hasSizes}
 
 module _ (w : WordRows) (f : FloatRows) where
   pub sizes-there : length w ≡ 177 → length f ≡ 400 → hasSizes w f ≡ true

@@ -12,9 +12,9 @@ use Rattle.engine.specs.Execution.{OnSlot, refused, done, performOn, tar
 use Rattle.engine.specs.ExecutionInternals.{onSlotOf}
 use Rattle.engine.specs.Instance.{engineOf}
 use Rattle.engine.specs.declared.execution.SlotOutcome.{SlotOutcome}
-use Rattle.engine.specs.declared.state.ClockSlot.{ClockSlot}
-use Rattle.engine.specs.declared.state.SharedState.{SharedState}
-use Rattle.engine.specs.declared.state.EngineState.{EngineState}
+use Rattle.engine.specs.State.{ClockSlot}
+use Rattle.engine.specs.State.{SharedState}
+use Rattle.engine.specs.State.{EngineState}
 use Rattle.engine.proofs.SoundState.{SoundState}
 use Rattle.engine.proofs.CommandLists.{Whole}
 use Rattle.engine.proofs.PerformedWays.{performed-way}

@@ -12,10 +12,10 @@ use Rattle.engine.specs.Queue.{nextRequest, without}
 use Rattle.engine.specs.State.{slotAt, withSlot, queuedRequests, withQueue, withAppliedBytes}
 use Rattle.engine.specs.Execution.{holding}
 use Rattle.engine.specs.Instance.{engineOf, ledgerFieldsOf}
-use Rattle.engine.specs.declared.state.ClockSlot.{ClockSlot}
-use Rattle.engine.specs.declared.state.SharedState.{SharedState}
+use Rattle.engine.specs.State.{ClockSlot}
+use Rattle.engine.specs.State.{SharedState}
 use Rattle.engine.specs.declared.state.Request.{Request}
-use Rattle.engine.specs.declared.state.EngineState.{EngineState}
+use Rattle.engine.specs.State.{EngineState}
 use Rattle.engine.proofs.SoundState.{SoundQueue, SoundState}
 use Rattle.engine.proofs.Supplied.{queueingOf, Delivers}
 use Rattle.engine.proofs.RequestLists.{In, notFor}

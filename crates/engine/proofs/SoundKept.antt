@@ -24,9 +24,9 @@ use Rattle.engine.specs.Engine.{code, performed}
 use Rattle.engine.specs.Execution.{done, performOn, target, perform}
 use Rattle.engine.specs.Commands.{clockOf, nowOf, censorOf, settingOf, createdClock}
 use Rattle.engine.specs.Instance.{engineOf, ledgerFieldsOf}
-use Rattle.engine.specs.declared.state.ClockSlot.{ClockSlot}
-use Rattle.engine.specs.declared.state.SharedState.{SharedState}
-use Rattle.engine.specs.declared.state.EngineState.{EngineState}
+use Rattle.engine.specs.State.{ClockSlot}
+use Rattle.engine.specs.State.{SharedState}
+use Rattle.engine.specs.State.{EngineState}
 use Rattle.engine.proofs.SoundState.{SoundState}
 use Rattle.engine.proofs.Supplied.{queueingOf, Sound, Queues, QueueLaws}
 use Rattle.engine.proofs.CommandLists.{Whole}

@@ -9,11 +9,11 @@ use borrow.Author.Tests.{eqb-true, eqb-false, eq-eqb, ne-eqb}
 use lib.Dec.{eqb}
 use lib.ListN.{length, length-append}
 use Rattle.clocks.specs.declared.clocks.ScheduledEvent.{ScheduledEvent}
-use Rattle.clocks.specs.declared.clocks.Winner.{Winner}
+use Rattle.clocks.specs.Clocks.{Winner}
 use Rattle.hazards.proofs.Cases.{by-test}
 use Rattle.engine.specs.Queue.{keepIf, without, countFor}
 use Rattle.engine.specs.State.{emptySlot}
-use Rattle.engine.specs.declared.state.ClockSlot.{ClockSlot}
+use Rattle.engine.specs.State.{ClockSlot}
 use Rattle.engine.specs.declared.state.Request.{Request}
 use Rattle.engine.proofs.SoundState.{namesRequest, SoundRequest, SoundQueue}
 use Rattle.engine.proofs.RequestLists.{In, isFor, in-keep, keep-sat, keep-append, keep-cons-true, keep-cons-false, keep-same, notFor}

@@ -9,9 +9,9 @@ use lib.Seq.{getD-set-same, getD-set-other}
 use Rattle.hazards.specs.Draws.{streamLength}
 use Rattle.hazards.specs.declared.answers.Answer.{Answer}
 use Rattle.clocks.specs.Clocks.{notScheduled}
-use Rattle.clocks.specs.declared.clocks.SurvivalClock.{SurvivalClock}
+use Rattle.clocks.specs.Clocks.{SurvivalClock}
 use Rattle.clocks.specs.declared.clocks.ScheduledEvent.{ScheduledEvent}
-use Rattle.clocks.specs.declared.scheduling.Rescheduled.{Rescheduled}
+use Rattle.clocks.specs.Scheduling.{Rescheduled}
 use Rattle.clocks.proofs.Sound.{SoundClock}
 use Rattle.hazards.proofs.Cases.{by-test}
 use Rattle.clocks.proofs.EachLaws.{each-set, each-at}
@@ -21,10 +21,10 @@ use Rattle.engine.specs.State.{emptySlot, slotAt, withSlot, queuedReques
 use Rattle.engine.specs.Commands.{clockOf, priorityOf}
 use Rattle.engine.specs.Execution.{holding, acknowledged, isWithdrawn, withdraw, requestOf, enqueue, eventAnswer, withdrawnAnswer}
 use Rattle.engine.specs.Instance.{engineOf, ledgerFieldsOf}
-use Rattle.engine.specs.declared.state.ClockSlot.{ClockSlot}
-use Rattle.engine.specs.declared.state.SharedState.{SharedState}
+use Rattle.engine.specs.State.{ClockSlot}
+use Rattle.engine.specs.State.{SharedState}
 use Rattle.engine.specs.declared.state.Request.{Request}
-use Rattle.engine.specs.declared.state.EngineState.{EngineState}
+use Rattle.engine.specs.State.{EngineState}
 use Rattle.engine.proofs.Supplied.{queueingOf, Queues, queueAfter}
 use Rattle.engine.proofs.RequestLists.{notFor}
 use Rattle.engine.proofs.SoundState.{SoundSlot, SoundRequest, SoundQueue, SoundState}

@@ -10,15 +10,15 @@ use lib.ListN.{length, getD, set, take, drop, length-append, length-take, length
 use lib.Seq.{getD-drop, set-set, getD-set-same}
 use Rattle.hazards.proofs.Cases.{by-test}
 use Rattle.clocks.specs.Layout.{WordRows, FloatRows, table, presentIn, clockFrom, Coded, Leaves}
-use Rattle.clocks.specs.declared.clocks.SurvivalClock.{SurvivalClock}
+use Rattle.clocks.specs.Clocks.{SurvivalClock}
 use Rattle.clocks.proofs.Tables.{length-table, getD-table, table-set, table-same}
 use Rattle.engine.specs.State.{emptySlot, slotAt, withSlot}
 use Rattle.engine.specs.Execution.{holding}
 use Rattle.engine.specs.StateRows.{partAt, slotOf, slotFrom, requestFrom, queueFrom, sharedOf, sharedFrom, stateFrom}
 use Rattle.engine.specs.StateRows.{CodedShared, CodedState, SizedState, LeavesShared}
-use Rattle.engine.specs.declared.state.ClockSlot.{ClockSlot}
-use Rattle.engine.specs.declared.state.SharedState.{SharedState}
-use Rattle.engine.specs.declared.state.EngineState.{EngineState}
+use Rattle.engine.specs.State.{ClockSlot}
+use Rattle.engine.specs.State.{SharedState}
+use Rattle.engine.specs.State.{EngineState}
 use Rattle.engine.proofs.ListParts.{within-first, put, part-here, part-before, part-after, rest-after}
 
 -- ---- the rows after the clocks

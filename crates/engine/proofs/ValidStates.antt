@@ -17,7 +17,7 @@ use Rattle.clocks.proofs.Tables.{length-table, getD-table}
 use Rattle.engine.specs.State.{emptySlot, queuedRequests}
 use Rattle.engine.specs.StateRows.{partAt, slotOf, slotFrom, requestFrom, queueFrom, sharedOf, sharedFrom, stateFrom, SizedState}
 use Rattle.engine.specs.Validation.{validSlot, validRequest, distinct, validQueue, validShared, validState}
-use Rattle.engine.specs.declared.state.EngineState.{EngineState}
+use Rattle.engine.specs.State.{EngineState}
 use Rattle.engine.specs.declared.state.Request.{Request}
 
 -- ---- a clock's part of the rows

@@ -17,12 +17,12 @@ use Rattle.clocks.specs.Clocks.{usedChannels}
 use Rattle.clocks.specs.Validation.{isFinite, validChannel, ascendingFrom, validClock}
 use Rattle.clocks.specs.declared.channels.HazardChannelState.{HazardChannelState}
 use Rattle.clocks.specs.declared.clocks.HazardInterruptionPolicy.the-variants.{Restart}
-use Rattle.clocks.specs.declared.clocks.SurvivalClock.{SurvivalClock}
+use Rattle.clocks.specs.Clocks.{SurvivalClock}
 use Rattle.engine.specs.State.{emptySlot, queuedRequests}
 use Rattle.engine.specs.Validation.{validSlot, validRequest, distinct, validQueue}
 use Rattle.engine.specs.declared.state.Request.{Request}
-use Rattle.engine.specs.declared.state.ClockSlot.{ClockSlot}
-use Rattle.engine.specs.declared.state.EngineState.{EngineState}
+use Rattle.engine.specs.State.{ClockSlot}
+use Rattle.engine.specs.State.{EngineState}
 use Rattle.engine.proofs.Conjunctions.{and-false}
 
 -- ---- lists

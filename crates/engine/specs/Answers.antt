@@ -8,7 +8,7 @@ use Rattle.hazards.specs.declared.answers.Answer.{Answer}
 use Rattle.engine.specs.Engine.{Bytes, Reply, refusal, reverted, completed, Outcome}
 use Rattle.engine.specs.Instance.{engineOf}
 use Rattle.engine.specs.declared.execute.Executed.{Executed}
-use Rattle.engine.specs.declared.state.EngineState.{EngineState}
+use Rattle.engine.specs.State.{EngineState}
 
 -- a refusal has its number and zero elsewhere, an accepted UNDO is all zero
 abbrev pub answerOf : Reply Answer → Answer

@@ -18,13 +18,13 @@ unfoldable pub use Rattle.clocks.specs.Layout.{everyBelow}
 use Rattle.clocks.specs.declared.channels.HazardChannelState.{HazardChannelState}
 use Rattle.clocks.specs.declared.clocks.EntityId.{EntityId}
 use Rattle.clocks.specs.declared.clocks.ScheduledEvent.{ScheduledEvent}
-use Rattle.clocks.specs.declared.clocks.Winner.{Winner}
-use Rattle.clocks.specs.declared.clocks.SurvivalClock.{SurvivalClock}
+use Rattle.clocks.specs.Clocks.{Winner}
+use Rattle.clocks.specs.Clocks.{SurvivalClock}
 use Rattle.engine.specs.State.{emptySlot, emptyRequest}
-use Rattle.engine.specs.declared.state.ClockSlot.{ClockSlot}
+use Rattle.engine.specs.State.{ClockSlot}
 use Rattle.engine.specs.declared.state.Request.{Request}
-use Rattle.engine.specs.declared.state.SharedState.{SharedState}
-use Rattle.engine.specs.declared.state.EngineState.{EngineState}
+use Rattle.engine.specs.State.{SharedState}
+use Rattle.engine.specs.State.{EngineState}
 
 -- ---- single values
 

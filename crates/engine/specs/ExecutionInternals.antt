@@ -5,7 +5,7 @@ use Prim.Native.Nat.{_≤_, _<_, _^_}
 use lib.Dec.{eqb}
 use Rattle.engine.specs.Execution.{OnSlot, refused, done}
 use Rattle.engine.specs.declared.execution.SlotOutcome.{SlotOutcome}
-use Rattle.engine.specs.declared.state.SharedState.{SharedState}
+use Rattle.engine.specs.State.{SharedState}
 
 abbrev pub onSlotOf : SlotOutcome → OnSlot
 onSlotOf o = cond (eqb (o .number) 0) (done (o .slot) (o .shared) (o .answer)) (refused (o .number))

@@ -7,7 +7,7 @@ use Prim.Native.Nat.{ℕ, _<_}
 use Rattle.hazards.specs.Answers.{noEvent}
 use Rattle.hazards.specs.declared.answers.Answer.{Answer}
 use Rattle.clocks.specs.Layout.{WordRows, FloatRows}
-use Rattle.clocks.specs.declared.schedule_rows.QueueChange.{QueueChange}
+use Rattle.clocks.specs.declared.scheduling.QueueChange.{QueueChange}
 use Rattle.engine.specs.Execution.{withdraw, requestOf}
 use Rattle.engine.specs.Queue.{nextRequest}
 use Rattle.engine.specs.State.{slotAt, queuedRequests, withRequest}
@@ -15,8 +15,8 @@ use Rattle.engine.specs.Engine.{Performed}
 use Rattle.engine.specs.StateRows.{sharedFrom, stateFrom, SizedState, CodedState, performedOf}
 use Rattle.engine.specs.ExecutionInternals.{Countable}
 use Rattle.engine.specs.declared.state.Request.{Request}
-use Rattle.engine.specs.declared.state.SharedState.{SharedState}
-use Rattle.engine.specs.declared.state.EngineState.{EngineState}
+use Rattle.engine.specs.State.{SharedState}
+use Rattle.engine.specs.State.{EngineState}
 
 -- the shared state once a rescheduled clock's old event is withdrawn and its new one queued
 abbrev pub requeued : SharedState → List ℕ → QueueChange → SharedState

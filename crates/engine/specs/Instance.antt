@@ -10,7 +10,7 @@ use Rattle.engine.specs.Engine.{Bytes, Engine}
 use Rattle.engine.specs.Sessions.{Session}
 use Rattle.engine.specs.Execution.{perform}
 use Rattle.engine.specs.Ledger.{LedgerFields}
-use Rattle.engine.specs.declared.state.EngineState.{EngineState}
+use Rattle.engine.specs.State.{EngineState}
 
 abbrev pub engineOf : List ℕ → ℕ → Engine
 engineOf stream n = record {

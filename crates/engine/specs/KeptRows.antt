@@ -7,8 +7,8 @@ use Prim.Native.Nat.{ℕ, _+_, _<_}
 use lib.ListN.{length, getD, take}
 use Rattle.clocks.specs.Layout.{WordRows, FloatRows, table, Coded}
 use Rattle.engine.specs.StateRows.{slotOf, requestFrom, sharedOf, codedCounts, codedRequest}
-use Rattle.engine.specs.declared.state.ClockSlot.{ClockSlot}
-use Rattle.engine.specs.declared.state.SharedState.{SharedState}
+use Rattle.engine.specs.State.{ClockSlot}
+use Rattle.engine.specs.State.{SharedState}
 
 -- ---- what they are read as
 

@@ -1,7 +1,7 @@
 -- Document 01, "Clocks" and "Journal and undo": the state at opening, in which nothing exists.
 use lib.ListN.{replicate}
-use Rattle.engine.specs.declared.state.SharedState.{SharedState}
-use Rattle.engine.specs.declared.state.EngineState.{EngineState}
+use Rattle.engine.specs.State.{SharedState}
+use Rattle.engine.specs.State.{EngineState}
 use Rattle.engine.specs.State.{emptyRequest, emptySlot}
 
 abbrev pub openedShared : SharedState

@@ -16,8 +16,8 @@ use Rattle.engine.specs.Execution.{target}
 use Rattle.engine.specs.Instance.{engineOf}
 use Rattle.engine.specs.declared.replay.FrontCommand.{FrontCommand}
 use Rattle.engine.specs.declared.replay.Replay.{Replay}
-use Rattle.engine.specs.declared.state.SharedState.{SharedState}
-use Rattle.engine.specs.declared.state.EngineState.{EngineState}
+use Rattle.engine.specs.State.{SharedState}
+use Rattle.engine.specs.State.{EngineState}
 
 -- ---- the replay of applied bytes by one scan, over any engine: what UNDO needs of them
 

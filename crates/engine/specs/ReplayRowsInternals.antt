@@ -9,8 +9,8 @@ use Rattle.engine.specs.State.{withSlot}
 use Rattle.engine.specs.StateRows.{stateFrom}
 use Rattle.engine.specs.KeptRows.{keptSlot, keptShared}
 use Rattle.engine.specs.ReplayInternals.{ReplayEnd, fails, ends}
-use Rattle.engine.specs.declared.replay_rows.LastCommand.{LastCommand}
-use Rattle.engine.specs.declared.state.EngineState.{EngineState}
+use Rattle.engine.specs.declared.replay.LastCommand.{LastCommand}
+use Rattle.engine.specs.State.{EngineState}
 
 -- the state after all commands, if the replay does not fail
 abbrev pub endState : (stream : List ℕ) (n : ℕ) → ReplayEnd (engineOf stream n) → Option EngineState

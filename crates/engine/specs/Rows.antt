@@ -33,7 +33,7 @@ use Rattle.engine.specs.Sessions.{Session}
 use Rattle.engine.specs.Instance.{engineOf}
 use Rattle.engine.specs.Demand3 as demand
 use Rattle.engine.specs.Answers.{answerOf}
-use Rattle.engine.specs.declared.state.EngineState.{EngineState}
+use Rattle.engine.specs.State.{EngineState}
 
 -- ---- floats: fin false m e is m times 2^e, and negsuc 0 is -1
 

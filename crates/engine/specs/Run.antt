@@ -13,7 +13,7 @@ use Rattle.engine.specs.Engine.{Bytes, isWhole}
 use Rattle.engine.specs.Execute.{execute}
 use Rattle.engine.specs.Instance.{engineOf}
 use Rattle.engine.specs.Answers.{AfterInput, after}
-use Rattle.engine.specs.declared.state.EngineState.{EngineState}
+use Rattle.engine.specs.State.{EngineState}
 
 -- the number that a run returns, and the buffers as it leaves them
 pub record Ran : Type 0 where

@@ -17,7 +17,7 @@ use Rattle.engine.specs.Engine.{Bytes, code}
 use Rattle.engine.specs.Run.{Ran, runFrom}
 use Rattle.engine.specs.Execution.{perform}
 use Rattle.engine.specs.StateRows.{sharedFrom, stateFrom, Performs}
-use Rattle.engine.specs.ExecutionRowsInternals.{TakenBack}
+use Rattle.engine.specs.ExecutionInternals.{TakenBack}
 use Rattle.clocks.specs.Layout.{WordRows, FloatRows}
 
 -- the number that ends a run, or 0, with the answers and the result

@@ -8,11 +8,11 @@ use Rattle.hazards.specs.Floats.{z}
 use Rattle.hazards.specs.declared.ties.TieBreaker.the-variants.{LowestCauseId}
 use Rattle.clocks.specs.Clocks.{newClock}
 use Rattle.clocks.specs.declared.clocks.HazardInterruptionPolicy.the-variants.{Restart}
-use Rattle.clocks.specs.declared.clocks.SurvivalClock.{SurvivalClock}
-use Rattle.engine.specs.declared.state.ClockSlot.{ClockSlot}
+use Rattle.clocks.specs.Clocks.{SurvivalClock}
+use Rattle.engine.specs.State.{ClockSlot}
 use Rattle.engine.specs.declared.state.Request.{Request}
-use Rattle.engine.specs.declared.state.SharedState.{SharedState}
-use Rattle.engine.specs.declared.state.EngineState.{EngineState}
+use Rattle.engine.specs.State.{SharedState}
+use Rattle.engine.specs.State.{EngineState}
 
 -- what an unused place holds
 abbrev pub emptyClock : SurvivalClock

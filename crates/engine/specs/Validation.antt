@@ -10,10 +10,10 @@ use Rattle.hazards.specs.Draws.{streamLength}
 use Rattle.clocks.specs.Validation.{validClock}
 use Rattle.engine.specs.State.{slotAt, queuedRequests}
 use Rattle.engine.specs.Queue.{isQueued}
-use Rattle.engine.specs.declared.state.ClockSlot.{ClockSlot}
+use Rattle.engine.specs.State.{ClockSlot}
 use Rattle.engine.specs.declared.state.Request.{Request}
-use Rattle.engine.specs.declared.state.SharedState.{SharedState}
-use Rattle.engine.specs.declared.state.EngineState.{EngineState}
+use Rattle.engine.specs.State.{SharedState}
+use Rattle.engine.specs.State.{EngineState}
 
 unfoldable pub validSlot : ClockSlot → Bool
 validSlot slot = cond (slot .present) (validClock (slot .clock)) true

@@ -5,7 +5,7 @@ ghost use lib.ListN.{length, getD};
 ghost use mathlib.Core.List.{[]};
 ghost use Rattle.engine.specs.Comparison.{sameState};
 ghost use Rattle.engine.specs.StateRows.{stateFrom, SizedState, CodedState};
-ghost use Rattle.engine.specs.ComparisonRowsInternals.{sameWordRow, sameFloatRow, sameWords, sameFloats};
+ghost use Rattle.engine.specs.ComparisonInternals.{sameWordRow, sameFloatRow, sameWords, sameFloats};
 use crate::comparison::same_float;
 
 fn same_word_row<'a, 'b>(a: &'a [u64; 8], b: &'b [u64; 8]) -> bool

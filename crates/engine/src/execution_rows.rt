@@ -8,8 +8,8 @@ ghost use lib.ListN.{length};
 ghost use Rattle.hazards.specs.Refusals.{numberOf};
 ghost use Rattle.clocks.specs.Clocks.{removeChannel};
 ghost use Rattle.clocks.specs.Setting.{setChannel};
-ghost use Rattle.clocks.specs.SettingRows.{takesCause, channelDraw};
-ghost use Rattle.clocks.specs.ScheduleRows.{queueChange};
+ghost use Rattle.clocks.specs.Setting.{takesCause, channelDraw};
+ghost use Rattle.clocks.specs.Scheduling.{queueChange};
 ghost use Rattle.clocks.specs.Scheduling as scheduling;
 ghost use Rattle.clocks.specs.Layout.{FloatRows, Sized, Coded, clockFrom, presentIn};
 ghost use Rattle.engine.specs.Commands.{widthOf, byteAt, clockOf, createdClock};
@@ -21,7 +21,7 @@ ghost use Rattle.engine.specs.Execution.{performReschedule, performPause
 ghost use Rattle.engine.specs.Execution.{requestOf, eventAnswer, clockOfRequest, target};
 ghost use Rattle.engine.specs.StateRows.{sharedFrom, stateFrom, CodedState, SizedState, LeavesShared, LeavesClock, Performs};
 ghost use Rattle.engine.specs.ExecutionInternals.{Countable};
-ghost use Rattle.engine.specs.ExecutionRowsInternals.{Ready, TakenBack, requeued};
+ghost use Rattle.engine.specs.ExecutionInternals.{Ready, TakenBack, requeued};
 use crate::commands::CAUSE_FIELD;
 use crate::commands::CLOCK_FIELD;
 use crate::commands::CREATE;
@@ -59,11 +59,11 @@ use clocks::clocks::policy_of;
 use clocks::layout::CLOCK_FLOATS;
 use clocks::layout::CLOCK_WORDS;
 use clocks::layout::PRESENT;
-use clocks::schedule_rows::QueueChange;
+use clocks::scheduling::QueueChange;
 use clocks::scheduling::Censor;
 use clocks::scheduling::RealizedEvent;
 use clocks::setting::CauseSetting;
-use clocks::setting_rows::ChannelDraw;
+use clocks::setting::ChannelDraw;
 use hazards::answers::Answer;
 use hazards::answers::no_event;
 use hazards::fields::f64_at;
@@ -109,7 +109,7 @@ fn count_applied(words: &mut [[u64; 8]], width: usize)
     ensures { λ _. ⌜ LeavesShared (now (words .entry)) (now (words .exit)) (withAppliedBytes width (sharedFrom (now (words .entry)))) ⌝ }
 {
     let row = words[COUNTS];
-    crate::queue_rows::put_counts(
+    crate::queue::put_counts(
         words,
         row[QUEUED] as usize,
         row[REQUEST_COUNT],
@@ -131,7 +131,7 @@ fn create_clock(words: &mut [[u64; 8]], floats: &mut [[f64; 8]], command: &[u8])
     let policy = policy_of(byte_at(command, POLICY_FIELD));
     let tie = hazards::ties::tie_breaker(byte_at(command, TIE_FIELD));
     let has = byte_at(command, HAS_ENTITY_FIELD) == 1;
-    clocks::clock_rows::create(
+    clocks::clocks::create(
         words,
         floats,
         u64_at(command, PROCESS_FIELD),
@@ -149,7 +149,7 @@ fn put_position(words: &mut [[u64; 8]], position: usize)
     ensures { λ _. ⌜ LeavesShared (now (words .entry)) (now (words .exit)) (withPosition (sharedFrom (now (words .entry))) position) ⌝ }
 {
     let row = words[COUNTS];
-    crate::queue_rows::put_counts(
+    crate::queue::put_counts(
         words,
         row[QUEUED] as usize,
         row[REQUEST_COUNT],
@@ -213,7 +213,7 @@ fn remove_in(words: &mut [[u64; 8]], floats: &mut [[f64; 8]], clock: usize, caus
 {
     let w = CLOCK_WORDS * clock;
     let f = CLOCK_FLOATS * clock;
-    clocks::clock_rows::remove_channel(
+    clocks::clocks::remove_channel(
         &mut words[w..w + CLOCK_WORDS],
         &mut floats[f..f + CLOCK_FLOATS],
         cause,
@@ -254,7 +254,7 @@ fn takes_cause(words: &[[u64; 8]], clock: usize, cause: u32) -> bool
         → r ≡ takesCause (slotAt (stateFrom (now (words .entry)) floats) clock .clock) cause) ⌝ }
 {
     let w = CLOCK_WORDS * clock;
-    clocks::setting_rows::takes_cause(&words[w..w + CLOCK_WORDS], cause)
+    clocks::setting::takes_cause(&words[w..w + CLOCK_WORDS], cause)
 }
 
 // set_channel on the rows of a clock; its refusal changes nothing.
@@ -276,7 +276,7 @@ fn set_in(
     let w = CLOCK_WORDS * clock;
     let f = CLOCK_FLOATS * clock;
     let position = words[COUNTS][POSITION] as usize;
-    clocks::setting_rows::set_channel(
+    clocks::setting::set_channel(
         &mut words[w..w + CLOCK_WORDS],
         &mut floats[f..f + CLOCK_FLOATS],
         setting,
@@ -331,10 +331,10 @@ fn withdraw(words: &mut [[u64; 8]], event: ScheduledEvent) -> bool
     if !event.present {
         return false;
     }
-    if !crate::queue_rows::is_queued(words, event.index) {
+    if !crate::queue::is_queued(words, event.index) {
         return false;
     }
-    crate::queue_rows::take_out(words, event.index);
+    crate::queue::take_out(words, event.index);
     true
 }
 
@@ -352,7 +352,7 @@ fn pause_in(
 {
     let w = CLOCK_WORDS * clock;
     let f = CLOCK_FLOATS * clock;
-    clocks::schedule_rows::pause(
+    clocks::scheduling::pause(
         &mut words[w..w + CLOCK_WORDS],
         &mut floats[f..f + CLOCK_FLOATS],
         time,
@@ -407,7 +407,7 @@ fn enqueue(words: &mut [[u64; 8]], command: &[u8], change: QueueChange)
         priority: hazards::fields::i32_at(command, PRIORITY_FIELD),
         index: words[COUNTS][REQUEST_COUNT],
     };
-    crate::queue_rows::put_in(words, request);
+    crate::queue::put_in(words, request);
 }
 
 // A rescheduled clock's old event is withdrawn and its new one queued; the command counts as applied.
@@ -445,7 +445,7 @@ fn reschedule_in(
     let w = CLOCK_WORDS * clock;
     let f = CLOCK_FLOATS * clock;
     let index = words[COUNTS][REQUEST_COUNT];
-    clocks::schedule_rows::reschedule(
+    clocks::scheduling::reschedule(
         &mut words[w..w + CLOCK_WORDS],
         &mut floats[f..f + CLOCK_FLOATS],
         time,
@@ -499,7 +499,7 @@ fn resume_in(
     let w = CLOCK_WORDS * clock;
     let f = CLOCK_FLOATS * clock;
     let index = words[COUNTS][REQUEST_COUNT];
-    clocks::schedule_rows::resume(
+    clocks::scheduling::resume(
         &mut words[w..w + CLOCK_WORDS],
         &mut floats[f..f + CLOCK_FLOATS],
         time,
@@ -544,7 +544,7 @@ fn dispatch_in(words: &mut [[u64; 8]], floats: &mut [[f64; 8]], clock: usize) ->
 {
     let w = CLOCK_WORDS * clock;
     let f = CLOCK_FLOATS * clock;
-    clocks::schedule_rows::on_event_dispatched(
+    clocks::scheduling::on_event_dispatched(
         &mut words[w..w + CLOCK_WORDS],
         &mut floats[f..f + CLOCK_FLOATS],
     )
@@ -566,7 +566,7 @@ fn perform_deliver(
         (sharedFrom (now (words .entry))) (now (command .entry))))
         (now (words .exit)) (now (floats .exit)) r ⌝ }
 {
-    let next = crate::queue_rows::next_request(words);
+    let next = crate::queue::next_request(words);
     if !next.found {
         return no_event(QUEUE_EMPTY);
     }
@@ -575,7 +575,7 @@ fn perform_deliver(
     }
     let request = next.request;
     let event = dispatch_in(words, floats, request.clock);
-    crate::queue_rows::take_out(words, request.index);
+    crate::queue::take_out(words, request.index);
     count_applied(words, command.len());
     event_answer(event, false, request.ticks)
 }
@@ -611,7 +611,7 @@ fn target(words: &[[u64; 8]], command: &[u8]) -> usize
     ensures { λ r. ⌜ r ≡ target (sharedFrom (now (words .entry))) (now (command .entry)) ⌝ }
 {
     if byte_at(command, 0) == DELIVER {
-        let next = crate::queue_rows::next_request(words);
+        let next = crate::queue::next_request(words);
         if next.found {
             return next.request.clock;
         }

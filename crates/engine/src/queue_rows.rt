@@ -6,7 +6,7 @@ ghost use Rattle.engine.specs.Queue.{nextRequest, isQueued, without};
 ghost use Rattle.engine.specs.State.{queuedRequests, withQueue, withRequest};
 ghost use Rattle.engine.specs.StateRows.{sharedFrom, LeavesShared};
 ghost use Rattle.engine.specs.QueueInternals.{pickOf};
-ghost use Rattle.engine.specs.QueueRowsInternals.{MovedUp, ClearedFrom};
+ghost use Rattle.engine.specs.QueueInternals.{MovedUp, ClearedFrom};
 use crate::queue::Pick;
 use crate::queue::earlier_of;
 use crate::queue::empty_request;

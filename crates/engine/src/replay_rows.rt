@@ -10,9 +10,9 @@ ghost use Rattle.engine.specs.Answers.{after};
 ghost use Rattle.engine.specs.ReplayInternals.{replayAll};
 ghost use Rattle.engine.specs.StateRows.{sharedFrom, stateFrom, SizedState, CodedState};
 ghost use Rattle.engine.specs.KeptRows.{SizedKept, CodedKept};
-ghost use Rattle.engine.specs.ExecuteRows.{Executes};
-ghost use Rattle.engine.specs.ReplayRowsInternals.{endState, keptEnd};
-use crate::execution_rows::perform;
+ghost use Rattle.engine.specs.InPlace.{Executes};
+ghost use Rattle.engine.specs.ReplayInternals.{endState, keptEnd};
+use crate::execution::perform;
 use crate::kept_rows::KEPT_WORDS;
 use crate::refusals::NOTHING_APPLIED;
 use crate::refusals::REPLAY_FAILS;
@@ -57,7 +57,7 @@ pub(crate) fn replay(
         (replayAll (engineOf (now (stream .entry)) «journal_length») (now (bytes .entry))))
         × CodedState (now (words .exit)) (now (floats .exit)) ⌝ }
 {
-    crate::opening_rows::open_state(words, floats);
+    crate::opening::open_state(words, floats);
     let mut at: usize = 0;
     while at < bytes.len() {
         let width = command_width(&bytes[at..]);
@@ -99,7 +99,7 @@ fn replay_to_last(
     if command_width(command) != command.len() {
         return no_last();
     }
-    let clock = crate::execution_rows::near_target(words, command);
+    let clock = crate::execution::near_target(words, command);
     crate::kept_rows::keep(words, floats, clock, kept, kept_floats);
     let answer = perform(words, floats, stream, journal_length, command);
     if answer.number != 0 {
@@ -147,7 +147,7 @@ pub(crate) fn undo(
     if !last.ok {
         return no_event(REPLAY_FAILS);
     }
-    if !crate::comparison_rows::same_state(&replayed, &replayed_floats, words, floats) {
+    if !crate::comparison::same_state(&replayed, &replayed_floats, words, floats) {
         return no_event(REPLAY_FAILS);
     }
     crate::kept_rows::put_back(words, floats, last.clock, &kept, &kept_floats);

@@ -11,14 +11,14 @@ ghost use Rattle.engine.specs.Refusals.{nothingApplied};
 ghost use Rattle.engine.specs.Run.{runOf, ran};
 ghost use Rattle.engine.specs.Commands.{widthOf, byteAt};
 ghost use Rattle.engine.specs.StateRows.{sharedFrom};
-ghost use Rattle.engine.specs.ExecutionRowsInternals.{Ready};
+ghost use Rattle.engine.specs.ExecutionInternals.{Ready};
 ghost use Rattle.engine.specs.RunInternals.{stop, stopAt, journalAndAnswers, answerAt, isUndone, AnswersCommand, AnswersUndone};
 ghost use Rattle.engine.specs.RunInternals.{openedRun};
 use crate::refusals::BAD_BUFFERS;
 use crate::refusals::ANSWERS_FULL;
-use crate::execution_rows::perform;
-use crate::execution_rows::perform_reverted;
-use crate::replay_rows::replay;
+use crate::execution::perform;
+use crate::execution::perform_reverted;
+use crate::replay::replay;
 use crate::state_rows::APPLIED_LENGTH;
 use crate::state_rows::COUNTS;
 use crate::state_rows::STATE_FLOATS;
@@ -178,7 +178,7 @@ fn run_commands(
 {
     let mut words: [[u64; 8]; STATE_WORDS] = [[0; 8]; STATE_WORDS];
     let mut floats: [[f64; 8]; STATE_FLOATS] = [[0.0; 8]; STATE_FLOATS];
-    crate::opening_rows::open_state(&mut words, &mut floats);
+    crate::opening::open_state(&mut words, &mut floats);
     let size = journal.len();
     let mut applied: usize = 0;
     let mut stale = false;

@@ -10,7 +10,7 @@ use Rattle.engine.specs.Commands.{widthOf}
 use Rattle.engine.specs.Engine.{code}
 use Rattle.engine.specs.ReplayInternals.{ends, replayAll}
 use Rattle.engine.specs.Instance.{engineOf}
-use Rattle.engine.specs.declared.state.EngineState.{EngineState}
+use Rattle.engine.specs.State.{EngineState}
 use Rattle.engine.proofs.JournalBytes.{code-at}
 use Rattle.engine.proofs.ReplaySteps.{Rest, rest-begins, rest-front, rest-goes-on, rest-ends}
 use Rattle.engine.proofs.replay.last_command.Statement.{statement}

@@ -16,10 +16,10 @@ use Rattle.engine.specs.Commands.{widthOf, byteAt}
 use Rattle.engine.specs.Engine.{code}
 use Rattle.engine.specs.Instance.{engineOf}
 use Rattle.engine.specs.StateRows.{stateFrom, SizedState}
-use Rattle.engine.specs.ExecutionRowsInternals.{Ready}
+use Rattle.engine.specs.ExecutionInternals.{Ready}
 use Rattle.engine.specs.Run.{ran}
 use Rattle.engine.specs.RunInternals.{isUndone, openedRun}
-use Rattle.engine.specs.declared.state.EngineState.{EngineState}
+use Rattle.engine.specs.State.{EngineState}
 use Rattle.engine.proofs.CommandLists.{Whole}
 use Rattle.engine.proofs.JournalBytes.{restOf, partOf, code-at}
 use Rattle.engine.proofs.PerformedInPlace.{shared-read}

@@ -1,0 +1,49 @@
+-- `execution::count_applied` meets its contract.
+use native.Mathlib.Omega.{arith}
+use Rattle.engine.specs.StateRows.{sharedOf, sharedFrom}
+use borrow.Author.Needs.{needs}
+use Rattle.engine.proofs.execution.count_applied.Statement.{statement}
+use Rattle.engine.proofs.execution.count_applied.Tie as tie
+
+slice-copy-out-row : tie.Need-slice-copy-out-row
+slice-copy-out-row c = search needs
+
+array-read-put-counts : tie.Need-array-read-put-counts
+array-read-put-counts c = search needs
+
+array-read-put-counts-2 : tie.Need-array-read-put-counts-2
+array-read-put-counts-2 c = search needs
+
+array-read-put-counts-3 : tie.Need-array-read-put-counts-3
+array-read-put-counts-3 c = search needs
+
+array-read-put-counts-4 : tie.Need-array-read-put-counts-4
+array-read-put-counts-4 c = search needs
+
+add-put-counts : tie.Need-add-put-counts
+unfolding sharedFrom sharedOf
+add-put-counts c = let m = c .before .before in omega (arith, m .pre .1)
+
+put-counts-requires : tie.Need-put-counts-requires
+put-counts-requires c κs = search needs
+
+same-length : tie.Need-same-length
+same-length c = search needs
+
+returns : tie.Need-returns
+unfolding sharedFrom sharedOf
+returns c = c .before .put-counts .ensures
+
+pub count-applied-spec : {M : Type 1} → statement M
+count-applied-spec =
+    tie.close
+    (tie.spec
+    slice-copy-out-row
+    array-read-put-counts
+    array-read-put-counts-2
+    array-read-put-counts-3
+    array-read-put-counts-4
+    add-put-counts
+    put-counts-requires
+    same-length
+    returns)
