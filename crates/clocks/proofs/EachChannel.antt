@@ -12,9 +12,8 @@ use lib.Seq.{drop-cons, take-suc, take-all, append-snoc, length-front, length-ta
 use Rattle.hazards.specs.Floats.{notBelowZero}
 use Rattle.hazards.specs.Rates.{cumulativeHazard}
 use Rattle.clocks.specs.Channels.{withAccumulated, settledHazard, settled, onUsed}
-use Rattle.clocks.specs.Clocks.{withChannels}
+use Rattle.clocks.specs.Clocks.{withChannels, SurvivalClock}
 use Rattle.clocks.specs.declared.channels.HazardChannelState.{HazardChannelState}
-use Rattle.clocks.specs.declared.clocks.SurvivalClock.{SurvivalClock}
 
 pub each-none : (f : HazardChannelState → HazardChannelState) (cs : List HazardChannelState) → onUsed f 0 cs ≡ cs
 unfolding onUsed

@@ -9,11 +9,10 @@ use lib.Dec.{eqb}
 use lib.Ieee.{Float}
 use lib.ListN.{length, getD, set}
 use Rattle.hazards.proofs.Cases.{by-test}
-use Rattle.clocks.specs.Clocks.{withChannels}
+use Rattle.clocks.specs.Clocks.{withChannels, SurvivalClock}
 use Rattle.clocks.specs.Layout.{WordRows, FloatRows, table, channelAt, channelsFrom, clockOf, clockFrom, presentIn}
 use Rattle.clocks.specs.Layout.{codedChannel, Coded, Leaves}
 use Rattle.clocks.specs.declared.channels.HazardChannelState.{HazardChannelState}
-use Rattle.clocks.specs.declared.clocks.SurvivalClock.{SurvivalClock}
 use Rattle.clocks.proofs.Tables.{length-table, getD-table, table-set}
 
 pub channels-eight : (w : WordRows) (f : FloatRows) → length (clockFrom w f .channels) ≡ 8
