@@ -10,7 +10,7 @@ use Rattle.hazards.specs.Floats.{isThreshold}
 use Rattle.hazards.specs.Checks.{rangeFault, intervalsFault}
 use Rattle.hazards.proofs.Bounds.{Upto, largest}
 use Rattle.clocks.specs.Channels.{emptyChannel}
-use Rattle.clocks.specs.Clocks.{usedChannels, SurvivalClock}
+use Rattle.clocks.specs.Clocks.{SurvivalClock, usedChannels}
 use Rattle.clocks.specs.Validation.{isFinite, ascendingFrom}
 use Rattle.clocks.specs.declared.channels.HazardChannelState.{HazardChannelState}
 

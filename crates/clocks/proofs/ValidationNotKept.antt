@@ -14,7 +14,7 @@ use Rattle.hazards.specs.Checks.{rangeFault, intervalsFault}
 use Rattle.hazards.specs.declared.rates.HazardRate.the-variants.{Constant}
 use Rattle.hazards.specs.declared.ties.TieBreaker.the-variants.{LowestCauseId}
 use Rattle.clocks.specs.Channels.{emptyIntervals, emptyChannel, settledHazard, onUsed}
-use Rattle.clocks.specs.Clocks.{notScheduled, noWinner, one, SurvivalClock}
+use Rattle.clocks.specs.Clocks.{SurvivalClock, notScheduled, noWinner, one}
 use Rattle.clocks.specs.Scheduling.{pause}
 use Rattle.clocks.specs.Validation.{isFinite, validChannel, ascendingFrom, validClock}
 use Rattle.clocks.specs.declared.channels.HazardChannelState.{HazardChannelState}

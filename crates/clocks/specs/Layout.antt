@@ -17,7 +17,7 @@ use lib.ListN.{length, getD}
 use Rattle.hazards.specs.Floats.{zeroBits}
 use Rattle.hazards.specs.Rates.{rateOfKind}
 use Rattle.hazards.specs.Ties.{tieBreakerOf}
-use Rattle.clocks.specs.Clocks.{policyOf, SurvivalClock}
+use Rattle.clocks.specs.Clocks.{SurvivalClock, policyOf}
 use Rattle.clocks.specs.declared.channels.HazardChannelState.{HazardChannelState}
 
 abbrev pub WordRows : Type 0

@@ -7,7 +7,7 @@ use lib.Dec.{leb}
 use lib.Ieee.{Float, inf, lt}
 use Rattle.hazards.specs.Lists.{all}
 use Rattle.hazards.specs.Checks.{rangeFault, intervalsFault}
-use Rattle.clocks.specs.Clocks.{usedChannels, SurvivalClock}
+use Rattle.clocks.specs.Clocks.{SurvivalClock, usedChannels}
 use Rattle.clocks.specs.declared.channels.HazardChannelState.{HazardChannelState}
 
 -- neither infinite nor a NaN

@@ -4,7 +4,7 @@ use mathlib.Core.Bool.{false}
 use native.Mathlib.Omega.{arith}
 use borrow.Author.Tests.{eq-eqb, ne-eqb}
 use borrow.Author.Needs.{needs}
-use Rattle.clocks.specs.Clocks.{notScheduled, withSchedule, SurvivalClock}
+use Rattle.clocks.specs.Clocks.{SurvivalClock, notScheduled, withSchedule}
 use Rattle.clocks.specs.Layout.{clockOf, clockFrom}
 use Rattle.clocks.proofs.ScheduleStores.{paused-stored}
 use Rattle.clocks.proofs.RowLaws.{leaves-then, leaves-none, leaves-as}
