@@ -1,20 +1,16 @@
 -- A change made to each used channel in turn.
-use mathlib.Core.Path.{_≡_, refl, sym, _∙_}
+use mathlib.Core.Path.{_≡_, refl, sym}
 use mathlib.Core.List.{List, map, map-append}
 use Prim.Native.Nat.{ℕ, suc, _+_, _<_, min}
 use mathlib.Core.Logic.{⊎-elim}
 use native.Mathlib.Nat.{eq-or-lt-of-le}
 use native.Mathlib.Numerals.{add-one}
 use native.Mathlib.Omega.{arith}
-use lib.Ieee.{Float, binary64, add, sub}
 use lib.ListN.{length, getD, set, take, drop, length-map, drop-of-length-le}
-use lib.Seq.{drop-cons, take-suc, take-all, append-snoc, length-front, length-take-le, getD-at, set-at, set-set, getD-set-same}
-use Rattle.hazards.specs.Floats.{notBelowZero}
-use Rattle.hazards.specs.Rates.{cumulativeHazard}
-use Rattle.clocks.specs.Channels.{withAccumulated, settledHazard, settled, onUsed}
-use Rattle.clocks.specs.Clocks.{withChannels}
+use lib.Seq.{drop-cons, take-suc, take-all, append-snoc, length-front, length-take-le, getD-at, set-at}
+use Rattle.clocks.specs.Channels.{onUsed}
+use Rattle.clocks.specs.Clocks.{SurvivalClock, withChannels}
 use Rattle.clocks.specs.declared.channels.HazardChannelState.{HazardChannelState}
-use Rattle.clocks.specs.declared.clocks.SurvivalClock.{SurvivalClock}
 
 pub each-none : (f : HazardChannelState → HazardChannelState) (cs : List HazardChannelState) → onUsed f 0 cs ≡ cs
 unfolding onUsed
@@ -65,24 +61,9 @@ each-length f i cs = length-front cs (map f (take i cs)) i (simp length-map)
 -- a clock in whose channels the first i are changed
 module _ (f : HazardChannelState → HazardChannelState) (k clock : SurvivalClock) (i : ℕ) (d : HazardChannelState)
     (eight : length (k .channels) ≡ 8) where
-  pub each-eight : clock ≡ withChannels k (onUsed f i (k .channels)) (k .«channel_count») → length (clock .channels) ≡ 8
-  each-eight e = rw e (each-length f i (k .channels) ∙ eight)
-
   pub each-turn : i < 8 → clock ≡ withChannels k (onUsed f i (k .channels)) (k .«channel_count»)
       → withChannels clock (set (clock .channels) i (f (getD (clock .channels) i d))) (clock .«channel_count»)
       ≡ withChannels k (onUsed f (i + 1) (k .channels)) (k .«channel_count»)
   each-turn h e =
       let lt : i < length (k .channels) = rw eight h in
       rw (e, each-at f (k .channels) i d lt, each-more f (k .channels) i d lt)
-
--- a channel settled by two stores, of its accumulated hazard and of its interval's start
-module _ (now : Float) (cs : List HazardChannelState) (i : ℕ) (d : HazardChannelState) {total : Float} (lt : i < length cs)
-    (sum : total ≡ add binary64 (getD cs i d .«accumulated_hazard») (cumulativeHazard (getD cs i d .hazard) (getD cs i d .intervals)
-    (notBelowZero (sub binary64 now (getD cs i d .«interval_start_time»))))) where
-  abbrev stored : List HazardChannelState
-  stored = set cs i (withAccumulated (getD cs i d) total (getD cs i d .«interval_start_time»))
-
-  pub two-stores : set stored i (withAccumulated (getD stored i d) (getD stored i d .«accumulated_hazard») now)
-      ≡ set cs i (settled now (getD cs i d))
-  unfolding settledHazard
-  two-stores = rw (getD-set-same cs i _ d lt, set-set, sum)

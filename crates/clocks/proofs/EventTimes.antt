@@ -25,10 +25,9 @@ use Rattle.hazards.proofs.Limits.{largest-stays, time-lands, later-lands}
 use Rattle.hazards.proofs.Largest.{later-upto}
 use Rattle.hazards.proofs.WaitBounds.{invert-held}
 use Rattle.clocks.specs.Channels.{channelCandidate}
-use Rattle.clocks.specs.Clocks.{clockCandidates, earliestEvent}
+use Rattle.clocks.specs.Clocks.{SurvivalClock, clockCandidates, earliestEvent}
 use Rattle.clocks.specs.Scheduling.{finalEvent, onEventDispatched}
 use Rattle.clocks.specs.declared.channels.HazardChannelState.{HazardChannelState}
-use Rattle.clocks.specs.declared.clocks.SurvivalClock.{SurvivalClock}
 use Rattle.clocks.specs.declared.scheduling.Censor.{Censor}
 use Rattle.clocks.proofs.Sound.{Each, none, next, SoundClock}
 use Rattle.hazards.proofs.Cases.{by-test}

@@ -8,15 +8,14 @@ use lib.Ieee.{Float}
 use Rattle.hazards.specs.declared.ties.TieBreaker.{TieBreaker}
 use Rattle.clocks.specs.Channels.{settled, restarted, onUsed, placeOfCause}
 use Rattle.clocks.specs.Clocks.{notScheduled, noWinner, newClock, usedChannels, withChannels, withSchedule, removeChannel}
+use Rattle.clocks.specs.Clocks.{SurvivalClock}
 use Rattle.clocks.specs.Setting.{setChannel}
-use Rattle.clocks.specs.Scheduling.{scheduledFor, reschedule, pause, resume, onEventDispatched}
+use Rattle.clocks.specs.Scheduling.{Rescheduled, scheduledFor, reschedule, pause, resume, onEventDispatched}
 use Rattle.clocks.specs.declared.channels.HazardChannelState.{HazardChannelState}
 use Rattle.clocks.specs.declared.clocks.EntityId.{EntityId}
 use Rattle.clocks.specs.declared.clocks.HazardInterruptionPolicy.{HazardInterruptionPolicy}
-use Rattle.clocks.specs.declared.clocks.SurvivalClock.{SurvivalClock}
 use Rattle.clocks.specs.declared.scheduling.Censor.{Censor}
 use Rattle.clocks.specs.declared.scheduling.RealizedEvent.{RealizedEvent}
-use Rattle.clocks.specs.declared.scheduling.Rescheduled.{Rescheduled}
 use Rattle.clocks.specs.declared.setting.CauseSetting.{CauseSetting}
 use Rattle.hazards.proofs.Cases.{by-test}
 use Rattle.clocks.proofs.Places.{by-place}

@@ -1,19 +1,17 @@
 -- What a change of rows leaves of a clock in lent memory, and one call in place after another.
-use mathlib.Core.Path.{_≡_, refl, sym, _∙_, ap}
-use mathlib.Core.Bool.{Bool, true}
-use mathlib.Core.List.{List, []}
+use mathlib.Core.Path.{_≡_, refl, _∙_}
+use mathlib.Core.Bool.{true}
+use mathlib.Core.List.{[]}
 use Prim.Native.Nat.{ℕ, _+_, _*_, _<_, _≤_}
 use native.Mathlib.Omega.{arith}
 use borrow.Author.Tests.{eqb-true, eqb-false}
 use lib.Dec.{eqb}
-use lib.Ieee.{Float}
 use lib.ListN.{length, getD, set}
 use Rattle.hazards.proofs.Cases.{by-test}
-use Rattle.clocks.specs.Clocks.{withChannels}
-use Rattle.clocks.specs.Layout.{WordRows, FloatRows, table, channelAt, channelsFrom, clockOf, clockFrom, presentIn}
+use Rattle.clocks.specs.Clocks.{SurvivalClock, withChannels}
+use Rattle.clocks.specs.Layout.{WordRows, FloatRows, channelAt, clockOf, clockFrom}
 use Rattle.clocks.specs.Layout.{codedChannel, Coded, Leaves}
 use Rattle.clocks.specs.declared.channels.HazardChannelState.{HazardChannelState}
-use Rattle.clocks.specs.declared.clocks.SurvivalClock.{SurvivalClock}
 use Rattle.clocks.proofs.Tables.{length-table, getD-table, table-set}
 
 pub channels-eight : (w : WordRows) (f : FloatRows) → length (clockFrom w f .channels) ≡ 8

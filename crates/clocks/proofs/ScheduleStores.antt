@@ -12,10 +12,9 @@ use lib.ListN.{getD, set}
 use lib.Seq.{getD-set-same, getD-set-other}
 use Rattle.hazards.proofs.Cases.{both-true}
 use Rattle.hazards.specs.Floats.{z}
-use Rattle.clocks.specs.Clocks.{notScheduled, noWinner, withSchedule}
+use Rattle.clocks.specs.Clocks.{SurvivalClock, notScheduled, noWinner, withSchedule}
 use Rattle.clocks.specs.Layout.{WordRows, FloatRows, channelAt, channelsFrom, clockOf, clockFrom, Sized, Leaves, Coded}
 use Rattle.clocks.specs.Layout.{isFlag, isU32, codedSchedule, codedTimes}
-use Rattle.clocks.specs.declared.clocks.SurvivalClock.{SurvivalClock}
 use Rattle.clocks.proofs.RowLaws.{leaves-as}
 use Rattle.clocks.proofs.Tables.{table-same}
 

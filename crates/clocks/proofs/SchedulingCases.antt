@@ -10,14 +10,12 @@ use Rattle.hazards.specs.declared.ties.Candidate.{Candidate}
 use Rattle.hazards.specs.declared.ties.Earliest.the-variants.{Nothing, Found}
 use Rattle.clocks.specs.Ticks.{ticksAt}
 use Rattle.clocks.specs.Channels.{settled, onUsed}
-use Rattle.clocks.specs.Clocks.{notScheduled, noWinner, withChannels, withSchedule}
-use Rattle.clocks.specs.Scheduling.{notRealized, realized, finalEvent, scheduledFor, pause, onEventDispatched}
+use Rattle.clocks.specs.Clocks.{SurvivalClock, notScheduled, noWinner, withChannels, withSchedule}
+use Rattle.clocks.specs.Scheduling.{Dispatched, notRealized, realized, finalEvent, scheduledFor, pause, onEventDispatched}
+use Rattle.clocks.specs.Scheduling.{Rescheduled}
 use Rattle.clocks.specs.declared.clocks.ScheduledEvent.{ScheduledEvent}
-use Rattle.clocks.specs.declared.clocks.SurvivalClock.{SurvivalClock}
 use Rattle.clocks.specs.declared.scheduling.Censor.{Censor}
-use Rattle.clocks.specs.declared.scheduling.Dispatched.{Dispatched}
 use Rattle.clocks.specs.declared.scheduling.RealizedEvent.{RealizedEvent}
-use Rattle.clocks.specs.declared.scheduling.Rescheduled.{Rescheduled}
 
 -- ---- without a candidate
 module _ (now : Float) (censor : Censor) where

@@ -11,11 +11,10 @@ use Rattle.hazards.specs.Refusals.{tooManyCauses}
 use Rattle.hazards.specs.Draws.{drawAt}
 use Rattle.hazards.specs.declared.draws.DrawAndPosition.{DrawAndPosition}
 use Rattle.clocks.specs.Channels.{emptyChannel, settledHazard, placeOfCause, placeForNew, insertAt}
-use Rattle.clocks.specs.Clocks.{usedChannels, withChannels}
+use Rattle.clocks.specs.Clocks.{SurvivalClock, usedChannels, withChannels}
 use Rattle.clocks.specs.Setting.{channelOf, drawsAgain, notSet, afterDraw, setAgain, setNew, setChannel}
 use Rattle.clocks.specs.declared.channels.HazardChannelState.{HazardChannelState}
 use Rattle.clocks.specs.declared.channels.CausePlace.the-variants.{At, Absent}
-use Rattle.clocks.specs.declared.clocks.SurvivalClock.{SurvivalClock}
 use Rattle.clocks.specs.declared.setting.CauseSetting.{CauseSetting}
 use Rattle.clocks.proofs.UsedChannels.{getD-any}
 

@@ -11,17 +11,14 @@ use Rattle.hazards.specs.Floats.{z}
 use Rattle.hazards.specs.Draws.{drawAt}
 use Rattle.hazards.specs.declared.draws.DrawAndPosition.{DrawAndPosition}
 use Rattle.clocks.specs.Channels.{settledHazard, placeOfCause}
-use Rattle.clocks.specs.Clocks.{policyOf, usedChannels}
+use Rattle.clocks.specs.Clocks.{SurvivalClock, policyOf, usedChannels}
 use Rattle.clocks.specs.Layout.{WordRows, FloatRows, byteFrom, channelAt, clockFrom, Leaves}
-use Rattle.clocks.specs.Setting.{channelOf, drawsAgain, setAgain}
-use Rattle.clocks.specs.SettingRows.{takesCause, channelDraw}
+use Rattle.clocks.specs.Setting.{ChannelSet, channelOf, drawsAgain, setAgain, takesCause, channelDraw}
 use Rattle.clocks.specs.declared.channels.CausePlace.the-variants.{At, Absent}
 use Rattle.clocks.specs.declared.channels.HazardChannelState.{HazardChannelState}
 use Rattle.clocks.specs.declared.clocks.HazardInterruptionPolicy.{HazardInterruptionPolicy}
-use Rattle.clocks.specs.declared.clocks.SurvivalClock.{SurvivalClock}
 use Rattle.clocks.specs.declared.setting.CauseSetting.{CauseSetting}
-use Rattle.clocks.specs.declared.setting.ChannelSet.{ChannelSet}
-use Rattle.clocks.specs.declared.setting_rows.ChannelDraw.{ChannelDraw}
+use Rattle.clocks.specs.declared.setting.ChannelDraw.{ChannelDraw}
 use Rattle.clocks.proofs.OwnRows.{policy-in}
 use Rattle.clocks.proofs.RowLaws.{withChannelAt, channels-eight, channel-in, leaves-none, leaves-as}
 use Rattle.clocks.proofs.SettingCases.{again-kept, again-refused, again-drawn}

@@ -10,10 +10,9 @@ use Rattle.hazards.specs.Floats.{isThreshold}
 use Rattle.hazards.specs.Checks.{rangeFault, intervalsFault}
 use Rattle.hazards.proofs.Bounds.{Upto, largest}
 use Rattle.clocks.specs.Channels.{emptyChannel}
-use Rattle.clocks.specs.Clocks.{usedChannels}
+use Rattle.clocks.specs.Clocks.{SurvivalClock, usedChannels}
 use Rattle.clocks.specs.Validation.{isFinite, ascendingFrom}
 use Rattle.clocks.specs.declared.channels.HazardChannelState.{HazardChannelState}
-use Rattle.clocks.specs.declared.clocks.SurvivalClock.{SurvivalClock}
 
 -- P of each of these
 pub data Each {A : Type 0} (P : A → Type 0) : List A → Type 0 where

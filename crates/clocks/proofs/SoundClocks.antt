@@ -8,12 +8,10 @@ use lib.ListN.{length, take, drop}
 use lib.Ieee.{Float}
 use Rattle.hazards.proofs.Bounds.{Upto, largest}
 use Rattle.clocks.specs.Channels.{onUsed}
-use Rattle.clocks.specs.Clocks.{withChannels, withSchedule}
+use Rattle.clocks.specs.Clocks.{SurvivalClock, Winner, withChannels, withSchedule}
 use Rattle.clocks.specs.Validation.{ascendingFrom}
 use Rattle.clocks.specs.declared.channels.HazardChannelState.{HazardChannelState}
 use Rattle.clocks.specs.declared.clocks.ScheduledEvent.{ScheduledEvent}
-use Rattle.clocks.specs.declared.clocks.SurvivalClock.{SurvivalClock}
-use Rattle.clocks.specs.declared.clocks.Winner.{Winner}
 use Rattle.clocks.proofs.Sound.{Each, SoundChannel, SoundClock}
 use Rattle.clocks.proofs.AscendingCauses.{map-ascend}
 use Rattle.clocks.proofs.ChangedPlaces.{empties, changed-used, changed-unused}

@@ -12,12 +12,11 @@ use Rattle.hazards.specs.declared.ties.TieBreaker.{TieBreaker}
 use Rattle.hazards.proofs.Upto.{zero-upto}
 use Rattle.hazards.proofs.Limits.{time-upto}
 use Rattle.clocks.specs.Channels.{settled, restarted, placeOfCause}
-use Rattle.clocks.specs.Clocks.{notScheduled, noWinner, newClock, usedChannels, removeChannel, earliestEvent, one}
+use Rattle.clocks.specs.Clocks.{SurvivalClock, notScheduled, noWinner, newClock, usedChannels, removeChannel, earliestEvent, one}
 use Rattle.clocks.specs.Scheduling.{finalEvent, scheduledFor, reschedule, pause, resume, onEventDispatched}
 use Rattle.clocks.specs.Validation.{isFinite, ascendingFrom}
 use Rattle.clocks.specs.declared.clocks.EntityId.{EntityId}
 use Rattle.clocks.specs.declared.clocks.HazardInterruptionPolicy.{HazardInterruptionPolicy}
-use Rattle.clocks.specs.declared.clocks.SurvivalClock.{SurvivalClock}
 use Rattle.clocks.specs.declared.scheduling.Censor.{Censor}
 use Rattle.clocks.specs.declared.scheduling.RealizedEvent.{RealizedEvent}
 use Rattle.clocks.proofs.Sound.{none, SoundClock}

@@ -5,10 +5,9 @@ use native.Mathlib.Omega.{arith}
 use lib.ListN.{getD, set, length-take, length-set}
 use lib.Seq.{take-set-lt, drop-set-lt, getD-take}
 use Rattle.clocks.specs.Channels.{emptyChannel, placeOfCause, placeForNew, insertAt, removeAt}
-use Rattle.clocks.specs.Clocks.{usedChannels, withChannels}
+use Rattle.clocks.specs.Clocks.{SurvivalClock, usedChannels, withChannels}
 use Rattle.clocks.specs.declared.channels.HazardChannelState.{HazardChannelState}
 use Rattle.clocks.specs.declared.channels.CausePlace.the-variants.{At, Absent}
-use Rattle.clocks.specs.declared.clocks.SurvivalClock.{SurvivalClock}
 use Rattle.clocks.proofs.Sound.{next, SoundChannel, SoundClock}
 use Rattle.clocks.proofs.AscendingCauses.{inserted-ascend, set-ascend, removed-ascend}
 use Rattle.clocks.proofs.ChangedPlaces.{inserted-places, inserted-used, inserted-unused}

@@ -15,11 +15,10 @@ use Rattle.hazards.proofs.Upto.{zero-upto}
 use Rattle.hazards.proofs.Limits.{time-upto}
 use Rattle.hazards.proofs.DrawLaws.{accepted-threshold}
 use Rattle.clocks.specs.Channels.{emptyChannel, settledHazard, placeOfCause}
-use Rattle.clocks.specs.Clocks.{usedChannels}
+use Rattle.clocks.specs.Clocks.{SurvivalClock, usedChannels}
 use Rattle.clocks.specs.Setting.{channelOf, drawsAgain, setAgain, setNew, setChannel}
 use Rattle.clocks.specs.declared.channels.HazardChannelState.{HazardChannelState}
 use Rattle.clocks.specs.declared.channels.CausePlace.the-variants.{At, Absent}
-use Rattle.clocks.specs.declared.clocks.SurvivalClock.{SurvivalClock}
 use Rattle.clocks.specs.declared.setting.CauseSetting.{CauseSetting}
 use Rattle.clocks.proofs.Sound.{SoundChannel, SoundClock}
 use Rattle.hazards.proofs.Cases.{by-test}

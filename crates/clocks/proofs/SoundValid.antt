@@ -12,10 +12,9 @@ use Rattle.hazards.specs.Floats.{isThreshold}
 use Rattle.hazards.specs.Lists.{all}
 use Rattle.hazards.proofs.Bounds.{Upto}
 use Rattle.hazards.proofs.Upto.{for-fin}
-use Rattle.clocks.specs.Clocks.{usedChannels}
+use Rattle.clocks.specs.Clocks.{SurvivalClock, usedChannels}
 use Rattle.clocks.specs.Validation.{isFinite, validChannel, ascendingFrom, validClock}
 use Rattle.clocks.specs.declared.channels.HazardChannelState.{HazardChannelState}
-use Rattle.clocks.specs.declared.clocks.SurvivalClock.{SurvivalClock}
 use Rattle.clocks.proofs.Sound.{Each, none, next, SoundChannel, SoundClock}
 use Rattle.hazards.proofs.Cases.{by-test}
 

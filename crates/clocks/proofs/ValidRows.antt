@@ -9,11 +9,10 @@ use lib.Dec.{ltb, leb, leb·suc-suc}
 use lib.Ieee.{nan}
 use lib.ListN.{getD}
 use Rattle.hazards.specs.Lists.{all}
-use Rattle.clocks.specs.Clocks.{usedChannels}
+use Rattle.clocks.specs.Clocks.{SurvivalClock, usedChannels}
 use Rattle.clocks.specs.Layout.{WordRows, FloatRows, flagFrom, clockOf, clockFrom}
 use Rattle.clocks.specs.Validation.{isFinite, validChannel, ascendingFrom, validClock}
 use Rattle.clocks.specs.declared.channels.HazardChannelState.{HazardChannelState}
-use Rattle.clocks.specs.declared.clocks.SurvivalClock.{SurvivalClock}
 use Rattle.clocks.proofs.EveryBelow.{and-false}
 use Rattle.clocks.proofs.OwnRows.{count-in}
 

@@ -19,8 +19,25 @@ use Rattle.clocks.specs.declared.clocks.EntityId.{EntityId}
 use Rattle.clocks.specs.declared.clocks.HazardInterruptionPolicy.{HazardInterruptionPolicy}
 use Rattle.clocks.specs.declared.clocks.HazardInterruptionPolicy.the-variants.{Restart, RetainResidual}
 use Rattle.clocks.specs.declared.clocks.ScheduledEvent.{ScheduledEvent}
-use Rattle.clocks.specs.declared.clocks.Winner.{Winner}
-use Rattle.clocks.specs.declared.clocks.SurvivalClock.{SurvivalClock}
+
+pub record Winner : Type 0 where
+  pub present : Bool
+  pub «cause_id» : ℕ
+  pub time : Float
+
+pub record SurvivalClock : Type 0 where
+  pub «process_id» : ℕ
+  pub «has_entity» : Bool
+  pub entity : EntityId
+  pub policy : HazardInterruptionPolicy
+  pub «tie_breaker» : TieBreaker
+  pub «tick_scale» : Float
+  pub channels : List HazardChannelState
+  pub «channel_count» : ℕ
+  pub «scheduled_event_id» : ScheduledEvent
+  pub «current_winner» : Winner
+  pub «is_active» : Bool
+  pub «last_update_time» : Float
 
 -- the policies by their numbers in document 01; another number is refused by 4 before policyOf is asked
 abbrev pub policyNumber : HazardInterruptionPolicy → ℕ

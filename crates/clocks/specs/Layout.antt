@@ -17,9 +17,8 @@ use lib.ListN.{length, getD}
 use Rattle.hazards.specs.Floats.{zeroBits}
 use Rattle.hazards.specs.Rates.{rateOfKind}
 use Rattle.hazards.specs.Ties.{tieBreakerOf}
-use Rattle.clocks.specs.Clocks.{policyOf}
+use Rattle.clocks.specs.Clocks.{SurvivalClock, policyOf}
 use Rattle.clocks.specs.declared.channels.HazardChannelState.{HazardChannelState}
-use Rattle.clocks.specs.declared.clocks.SurvivalClock.{SurvivalClock}
 
 abbrev pub WordRows : Type 0
 WordRows = List (List ℕ)

@@ -6,5 +6,3 @@ pub mod Setting
 pub mod Scheduling
 pub mod Validation
 pub mod Layout
-pub mod ScheduleRows
-pub mod SettingRows

@@ -10,13 +10,27 @@ use Rattle.hazards.specs.declared.ties.Earliest.{Earliest}
 use Rattle.hazards.specs.declared.ties.Earliest.the-variants.{Nothing, Found}
 use Rattle.clocks.specs.Ticks.{ticksAt}
 use Rattle.clocks.specs.Channels.{settled, restarted, onUsed}
-use Rattle.clocks.specs.Clocks.{notScheduled, noWinner, withChannels, withSchedule, earliestEvent}
-use Rattle.clocks.specs.declared.clocks.SurvivalClock.{SurvivalClock}
+use Rattle.clocks.specs.Clocks.{SurvivalClock, notScheduled, noWinner, withChannels, withSchedule, earliestEvent}
+use Rattle.clocks.specs.declared.clocks.ScheduledEvent.{ScheduledEvent}
 use Rattle.clocks.specs.declared.scheduling.Censor.{Censor}
 use Rattle.clocks.specs.declared.scheduling.RealizedEvent.{RealizedEvent}
-use Rattle.clocks.specs.declared.scheduling.Rescheduled.{Rescheduled}
-use Rattle.clocks.specs.declared.scheduling.Paused.{Paused}
-use Rattle.clocks.specs.declared.scheduling.Dispatched.{Dispatched}
+use Rattle.clocks.specs.declared.scheduling.QueueChange.{QueueChange}
+use Rattle.clocks.specs.declared.ticks.Ticks.{Ticks}
+
+-- the clock, the event that is withdrawn, and the event that is asked for, with its ticks
+pub record Rescheduled : Type 0 where
+  pub clock : SurvivalClock
+  pub withdrawn : ScheduledEvent
+  pub event : RealizedEvent
+  pub ticks : Ticks
+
+pub record Paused : Type 0 where
+  pub clock : SurvivalClock
+  pub withdrawn : ScheduledEvent
+
+pub record Dispatched : Type 0 where
+  pub clock : SurvivalClock
+  pub event : RealizedEvent
 
 -- no event
 abbrev pub notRealized : RealizedEvent
@@ -98,3 +112,7 @@ onEventDispatched k =
           (realized (w .«cause_id») (notBelowZero (sub binary64 (w .time) (k .«last_update_time»))) (eqb (w .«cause_id») noCause))
           notRealized;
     }
+
+-- what a clock that is rescheduled asks of the queue
+abbrev pub queueChange : Rescheduled → QueueChange
+queueChange r = record { withdrawn = r .withdrawn; event = r .event; ticks = r .ticks }

@@ -11,14 +11,19 @@ use Rattle.hazards.specs.Refusals.{tooManyCauses}
 use Rattle.hazards.specs.Draws.{drawAt}
 use Rattle.hazards.specs.declared.draws.DrawAndPosition.{DrawAndPosition}
 use Rattle.clocks.specs.Channels.{emptyChannel, settledHazard, placeOfCause, placeForNew, insertAt}
-use Rattle.clocks.specs.Clocks.{usedChannels, withChannels}
+use Rattle.clocks.specs.Clocks.{SurvivalClock, usedChannels, withChannels}
 use Rattle.clocks.specs.declared.channels.HazardChannelState.{HazardChannelState}
 use Rattle.clocks.specs.declared.channels.CausePlace.the-variants.{At, Absent}
 use Rattle.clocks.specs.declared.clocks.HazardInterruptionPolicy.{HazardInterruptionPolicy}
 use Rattle.clocks.specs.declared.clocks.HazardInterruptionPolicy.the-variants.{Restart, RetainResidual}
-use Rattle.clocks.specs.declared.clocks.SurvivalClock.{SurvivalClock}
 use Rattle.clocks.specs.declared.setting.CauseSetting.{CauseSetting}
-use Rattle.clocks.specs.declared.setting.ChannelSet.{ChannelSet}
+use Rattle.clocks.specs.declared.setting.ChannelDraw.{ChannelDraw}
+
+-- the refusal or 0, the clock and the draw position after it
+pub record ChannelSet : Type 0 where
+  pub number : ℕ
+  pub clock : SurvivalClock
+  pub position : ℕ
 
 -- the channel that a setting makes, at a threshold and an accumulated hazard
 abbrev pub channelOf : CauseSetting → Float → Float → HazardChannelState
@@ -78,3 +83,15 @@ setChannel k s stream position =
       | At at ↦ setAgain k s stream position at
       | Absent ↦ setNew k s stream position
     ]
+
+-- whether the clock has a cause, or a place for it
+unfoldable pub takesCause : SurvivalClock → ℕ → Bool
+takesCause k cause =
+    elim (placeOfCause cause (usedChannels k)) [
+      | At at ↦ true
+      | Absent ↦ ltb (k .«channel_count») 8
+    ]
+
+-- the outcome without the clock
+abbrev pub channelDraw : ChannelSet → ChannelDraw
+channelDraw r = record { number = r .number; position = r .position }

@@ -7,9 +7,8 @@ use lib.Dec.{leb}
 use lib.Ieee.{Float, inf, lt}
 use Rattle.hazards.specs.Lists.{all}
 use Rattle.hazards.specs.Checks.{rangeFault, intervalsFault}
-use Rattle.clocks.specs.Clocks.{usedChannels}
+use Rattle.clocks.specs.Clocks.{SurvivalClock, usedChannels}
 use Rattle.clocks.specs.declared.channels.HazardChannelState.{HazardChannelState}
-use Rattle.clocks.specs.declared.clocks.SurvivalClock.{SurvivalClock}
 
 -- neither infinite nor a NaN
 unfoldable pub isFinite : Float → Bool

@@ -1,7 +1,7 @@
 // Where a clock lies in lent memory: rows of eight words and rows of eight floats, every place by its name.
 ghost use mathlib.Core.Path.{_≡_};
 ghost use mathlib.Core.Bool.{cond};
-ghost use Rattle.clocks.specs.Layout.{flagFrom, u32From, byteFrom};
+ghost use Rattle.clocks.specs.Layout.{u32From, byteFrom};
 
 // The rows of a clock.
 pub const CLOCK_WORDS: usize = 10;

@@ -1,11 +1,21 @@
-// reschedule, pause, resume and on_event_dispatched of hazard_clock.rs, with what each asks of the engine's queue.
+// reschedule, pause, resume and on_event_dispatched of hazard_clock.rs on a clock in lent memory, with what each asks of the queue.
 ghost use mathlib.Core.Path.{_≡_};
 ghost use Rattle.clocks.specs.Clocks.{notScheduled};
 ghost use Rattle.clocks.specs.Scheduling.{notRealized, realized, finalEvent, scheduledFor};
-ghost use Rattle.clocks.specs.Scheduling.{reschedule, pause, resume, onEventDispatched};
+ghost use Rattle.clocks.specs.Scheduling.{reschedule, pause, resume, onEventDispatched, queueChange};
+ghost use Rattle.clocks.specs.Layout.{Sized, Leaves, clockFrom};
 use crate::clocks::ScheduledEvent;
-use crate::clocks::SurvivalClock;
-use crate::clocks::Winner;
+use crate::layout::ACTIVE;
+use crate::layout::EVENT;
+use crate::layout::EVENT_INDEX;
+use crate::layout::LAST_UPDATE;
+use crate::layout::SCALE;
+use crate::layout::SCHEDULE;
+use crate::layout::TIMES;
+use crate::layout::WINNER;
+use crate::layout::WINNER_CAUSE;
+use crate::layout::WINNER_TIME;
+use crate::layout::u32_from;
 use crate::ticks::Ticks;
 use hazards::floats::not_below_zero;
 use hazards::refusals::NO_CAUSE;
@@ -23,22 +33,11 @@ pub struct RealizedEvent {
     pub is_censored: bool,
 }
 
-// The clock, the event that is withdrawn, and the event that is asked for, with its ticks.
-pub struct Rescheduled {
-    pub clock: SurvivalClock,
+// The event that is withdrawn, and the event that is asked for, with its ticks.
+pub struct QueueChange {
     pub withdrawn: ScheduledEvent,
     pub event: RealizedEvent,
     pub ticks: Ticks,
-}
-
-pub struct Paused {
-    pub clock: SurvivalClock,
-    pub withdrawn: ScheduledEvent,
-}
-
-pub struct Dispatched {
-    pub clock: SurvivalClock,
-    pub event: RealizedEvent,
 }
 
 pub(crate) fn not_scheduled() -> ScheduledEvent
@@ -103,37 +102,56 @@ pub(crate) fn final_event(earliest: Earliest, now: f64, censor: Censor) -> Reali
 }
 
 // The old event is withdrawn in any case; without a new one winner and active flag stay.
-fn scheduled_for(clock: SurvivalClock, now: f64, event: RealizedEvent, index: u64) -> Rescheduled
-    ensures { λ r. ⌜ r ≡ scheduledFor clock now event index ⌝ }
+fn schedule_event<'a>(
+    words: &'a mut [[u64; 8]],
+    floats: &'a mut [[f64; 8]],
+    time: f64,
+    event: RealizedEvent,
+    index: u64,
+) -> QueueChange
+    requires { ⌜ Sized (now words) (now floats) ⌝ }
+    ensures { λ r. ⌜ Leaves (now (words .entry)) (now (floats .entry)) (now (words .exit)) (now (floats .exit))
+        (scheduledFor (clockFrom (now (words .entry)) (now (floats .entry))) time event index .clock)
+        × (r ≡ queueChange (scheduledFor (clockFrom (now (words .entry)) (now (floats .entry))) time event index)) ⌝ }
 {
-    let withdrawn = clock.scheduled_event_id;
-    let mut after = clock;
-    after.last_update_time = now;
+    let b = words[SCHEDULE];
+    let ts = floats[TIMES];
+    let withdrawn = ScheduledEvent {
+        present: b[EVENT] == 1,
+        index: b[EVENT_INDEX],
+    };
     if !event.present {
-        let none = not_scheduled();
-        after.scheduled_event_id = none;
-        return Rescheduled {
-            clock: after,
+        words[SCHEDULE] = [
+            0,
+            0,
+            b[WINNER],
+            b[WINNER_CAUSE],
+            b[ACTIVE],
+            b[5],
+            b[6],
+            b[7],
+        ];
+        floats[TIMES] = [
+            ts[SCALE],
+            ts[WINNER_TIME],
+            time,
+            ts[3],
+            ts[4],
+            ts[5],
+            ts[6],
+            ts[7],
+        ];
+        return QueueChange {
             withdrawn,
             event,
             ticks: Ticks { low: 0, high: 0 },
         };
     }
-    let scheduled = ScheduledEvent {
-        present: true,
-        index,
-    };
-    let winner = Winner {
-        present: true,
-        cause_id: event.winning_cause,
-        time: now + event.delta_time,
-    };
-    after.scheduled_event_id = scheduled;
-    after.current_winner = winner;
-    after.is_active = true;
-    let ticks = crate::ticks::ticks_at(now, event.delta_time, clock.tick_scale);
-    Rescheduled {
-        clock: after,
+    let at = time + event.delta_time;
+    words[SCHEDULE] = [1, index, 1, event.winning_cause as u64, 1, b[5], b[6], b[7]];
+    floats[TIMES] = [ts[SCALE], at, time, ts[3], ts[4], ts[5], ts[6], ts[7]];
+    let ticks = crate::ticks::ticks_at(time, event.delta_time, ts[SCALE]);
+    QueueChange {
         withdrawn,
         event,
         ticks,
@@ -141,67 +159,97 @@ fn scheduled_for(clock: SurvivalClock, now: f64, event: RealizedEvent, index: u6
 }
 
 // Nothing is settled. `index` is that of the next request.
-pub fn reschedule(clock: SurvivalClock, now: f64, censor: Censor, index: u64) -> Rescheduled
-    ensures { λ r. ⌜ r ≡ reschedule clock now censor index ⌝ }
+pub fn reschedule<'a>(
+    words: &'a mut [[u64; 8]],
+    floats: &'a mut [[f64; 8]],
+    time: f64,
+    censor: Censor,
+    index: u64,
+) -> QueueChange
+    requires { ⌜ Sized (now words) (now floats) ⌝ }
+    ensures { λ r. ⌜ Leaves (now (words .entry)) (now (floats .entry)) (now (words .exit)) (now (floats .exit))
+        (reschedule (clockFrom (now (words .entry)) (now (floats .entry))) time censor index .clock)
+        × (r ≡ queueChange (reschedule (clockFrom (now (words .entry)) (now (floats .entry))) time censor index)) ⌝ }
 {
-    let event = final_event(clock.compute_earliest_event(now), now, censor);
-    scheduled_for(clock, now, event, index)
+    let earliest = crate::clocks::compute_earliest_event(words, floats, time);
+    let event = final_event(earliest, time, censor);
+    schedule_event(words, floats, time, event, index)
 }
 
 // An active clock settles every channel and withdraws its event; any other is left as it is.
-pub fn pause(clock: SurvivalClock, now: f64) -> Paused
-    ensures { λ r. ⌜ r ≡ pause clock now ⌝ }
+pub fn pause<'a>(words: &'a mut [[u64; 8]], floats: &'a mut [[f64; 8]], time: f64) -> ScheduledEvent
+    requires { ⌜ Sized (now words) (now floats) ⌝ }
+    ensures { λ r. ⌜ Leaves (now (words .entry)) (now (floats .entry)) (now (words .exit)) (now (floats .exit))
+        (pause (clockFrom (now (words .entry)) (now (floats .entry))) time .clock)
+        × (r ≡ pause (clockFrom (now (words .entry)) (now (floats .entry))) time .withdrawn) ⌝ }
 {
-    let none = not_scheduled();
-    if !clock.is_active {
-        return Paused {
-            clock,
-            withdrawn: none,
-        };
+    let b = words[SCHEDULE];
+    if b[ACTIVE] != 1 {
+        return not_scheduled();
     }
-    let withdrawn = clock.scheduled_event_id;
-    let mut paused = clock.settled(now);
-    paused.scheduled_event_id = none;
-    paused.is_active = false;
-    paused.last_update_time = now;
-    Paused {
-        clock: paused,
-        withdrawn,
+    crate::clocks::settle(words, floats, time);
+    let ts = floats[TIMES];
+    words[SCHEDULE] = [0, 0, b[WINNER], b[WINNER_CAUSE], 0, b[5], b[6], b[7]];
+    floats[TIMES] = [
+        ts[SCALE],
+        ts[WINNER_TIME],
+        time,
+        ts[3],
+        ts[4],
+        ts[5],
+        ts[6],
+        ts[7],
+    ];
+    ScheduledEvent {
+        present: b[EVENT] == 1,
+        index: b[EVENT_INDEX],
     }
 }
 
 // Every channel starts a new interval, and the clock is rescheduled.
-pub fn resume(clock: SurvivalClock, now: f64, censor: Censor, index: u64) -> Rescheduled
-    ensures { λ r. ⌜ r ≡ resume clock now censor index ⌝ }
+pub fn resume<'a>(
+    words: &'a mut [[u64; 8]],
+    floats: &'a mut [[f64; 8]],
+    time: f64,
+    censor: Censor,
+    index: u64,
+) -> QueueChange
+    requires { ⌜ Sized (now words) (now floats) ⌝ }
+    ensures { λ r. ⌜ Leaves (now (words .entry)) (now (floats .entry)) (now (words .exit)) (now (floats .exit))
+        (resume (clockFrom (now (words .entry)) (now (floats .entry))) time censor index .clock)
+        × (r ≡ queueChange (resume (clockFrom (now (words .entry)) (now (floats .entry))) time censor index)) ⌝ }
 {
-    reschedule(clock.restarted(now), now, censor, index)
+    crate::clocks::restart(words, floats, time);
+    reschedule(words, floats, time, censor, index)
 }
 
 // The winner is taken, and the clock is idle.
-pub fn on_event_dispatched(clock: SurvivalClock) -> Dispatched
-    ensures { λ r. ⌜ r ≡ onEventDispatched clock ⌝ }
+pub fn on_event_dispatched<'a>(
+    words: &'a mut [[u64; 8]],
+    floats: &'a mut [[f64; 8]],
+) -> RealizedEvent
+    requires { ⌜ Sized (now words) (now floats) ⌝ }
+    ensures { λ r. ⌜ Leaves (now (words .entry)) (now (floats .entry)) (now (words .exit)) (now (floats .exit))
+        (onEventDispatched (clockFrom (now (words .entry)) (now (floats .entry))) .clock)
+        × (r ≡ onEventDispatched (clockFrom (now (words .entry)) (now (floats .entry))) .event) ⌝ }
 {
-    let winner = clock.current_winner;
-    let none = not_scheduled();
-    let no_winner = Winner {
-        present: false,
-        cause_id: 0,
-        time: 0.0,
-    };
-    let mut idle = clock;
-    idle.scheduled_event_id = none;
-    idle.current_winner = no_winner;
-    idle.is_active = false;
-    if !winner.present {
-        return Dispatched {
-            clock: idle,
-            event: not_realized(),
-        };
+    let b = words[SCHEDULE];
+    let ts = floats[TIMES];
+    let cause = u32_from(b[WINNER_CAUSE]);
+    words[SCHEDULE] = [0, 0, 0, 0, 0, b[5], b[6], b[7]];
+    floats[TIMES] = [
+        ts[SCALE],
+        0.0,
+        ts[LAST_UPDATE],
+        ts[3],
+        ts[4],
+        ts[5],
+        ts[6],
+        ts[7],
+    ];
+    if b[WINNER] != 1 {
+        return not_realized();
     }
-    let delta = not_below_zero(winner.time - clock.last_update_time);
-    let censored = winner.cause_id == NO_CAUSE;
-    Dispatched {
-        clock: idle,
-        event: realized(winner.cause_id, delta, censored),
-    }
+    let delta = not_below_zero(ts[WINNER_TIME] - ts[LAST_UPDATE]);
+    realized(cause, delta, cause == NO_CAUSE)
 }

@@ -1,11 +1,16 @@
-// set_channel of hazard_clock.rs: adds a cause or sets it again, with its draw; a refusal changes nothing.
+// set_channel of hazard_clock.rs on a clock in lent memory: adds a cause or sets it again, with its draw; a refusal changes nothing.
 ghost use mathlib.Core.Path.{_≡_};
-ghost use Prim.Native.Nat.{_≤_};
-ghost use Rattle.clocks.specs.Setting.{channelOf, drawsAgain, setAgain, setNew, setChannel};
+ghost use Prim.Native.Nat.{_<_};
+ghost use lib.ListN.{length};
+ghost use Rattle.clocks.specs.Layout.{FloatRows, Sized, Leaves, clockFrom};
+ghost use Rattle.clocks.specs.Setting.{channelOf, drawsAgain, setAgain, setNew, setChannel, takesCause, channelDraw};
 use crate::channels::CausePlace;
 use crate::channels::HazardChannelState;
 use crate::clocks::HazardInterruptionPolicy;
-use crate::clocks::SurvivalClock;
+use crate::layout::COUNT;
+use crate::layout::POLICY;
+use crate::layout::SETTINGS;
+use crate::layout::byte_from;
 use hazards::draws::StreamPosition;
 use hazards::rates::HazardRate;
 use hazards::rates::Intervals;
@@ -19,10 +24,9 @@ pub struct CauseSetting {
     pub now: f64,
 }
 
-// The refusal or 0, the clock and the draw position after it.
-pub struct ChannelSet {
+// The refusal or 0, and the draw position after it.
+pub struct ChannelDraw {
     pub number: u8,
-    pub clock: SurvivalClock,
     pub position: usize,
 }
 
@@ -59,91 +63,110 @@ pub(crate) fn draws_again(
     }
 }
 
+// Whether the clock has a cause, or a place for it.
+pub fn takes_cause(words: &[[u64; 8]], cause: u32) -> bool
+    requires { ⌜ length (now words) ≡ 10 ⌝ }
+    ensures { λ r. ⌜ ((floats : FloatRows) → r ≡ takesCause (clockFrom (now (words .entry)) floats) cause) ⌝ }
+{
+    match crate::clocks::place_of_cause(words, cause) {
+        CausePlace::At(_) => true,
+        CausePlace::Absent => words[SETTINGS][COUNT] < 8,
+    }
+}
+
 // A cause that the clock has, at its place.
-fn set_again(
-    clock: SurvivalClock,
+fn set_again<'a, 's>(
+    words: &'a mut [[u64; 8]],
+    floats: &'a mut [[f64; 8]],
     setting: CauseSetting,
-    stream: &[u8],
+    stream: &'s [u8],
     position: usize,
     at: usize,
-) -> ChannelSet
-    requires { ⌜ at ≤ 7 ⌝ }
-    ensures { λ r. ⌜ r ≡ setAgain clock setting (now (stream .entry)) position at ⌝ }
+) -> ChannelDraw
+    requires { ⌜ (at < 8) × Sized (now words) (now floats) ⌝ }
+    ensures { λ r. ⌜ Leaves (now (words .entry)) (now (floats .entry)) (now (words .exit)) (now (floats .exit))
+        (setAgain (clockFrom (now (words .entry)) (now (floats .entry))) setting (now (stream .entry)) position at .clock)
+        × (r ≡ channelDraw (setAgain (clockFrom (now (words .entry)) (now (floats .entry))) setting (now (stream .entry)) position at))
+        × ((r .number ≡ 0 → ⊥) → (now (words .exit) ≡ now (words .entry)) × (now (floats .exit) ≡ now (floats .entry))) ⌝ }
 {
-    let old = clock.channels[at];
+    let old = crate::channels::channel_at(words, floats, at);
     let accumulated = crate::channels::settled_hazard(old, setting.now);
-    let mut after = clock;
-    if !draws_again(clock.policy, accumulated, old.target_threshold) {
+    let policy = crate::clocks::policy_of(byte_from(words[SETTINGS][POLICY]));
+    if !draws_again(policy, accumulated, old.target_threshold) {
         let kept = channel_of(setting, accumulated, old.target_threshold);
-        after.channels[at] = kept;
-        return ChannelSet {
+        crate::channels::put_channel(words, floats, at, kept);
+        return ChannelDraw {
             number: 0,
-            clock: after,
             position,
         };
     }
     let drawn = hazards::draws::draw_from(stream, StreamPosition { next: position });
     if drawn.number != 0 {
-        return ChannelSet {
+        return ChannelDraw {
             number: drawn.number,
-            clock,
             position,
         };
     }
     let fresh = channel_of(setting, 0.0, drawn.threshold);
-    after.channels[at] = fresh;
-    ChannelSet {
+    crate::channels::put_channel(words, floats, at, fresh);
+    ChannelDraw {
         number: 0,
-        clock: after,
         position: drawn.position.next,
     }
 }
 
 // A cause that is new to the clock, put in at its place by ascending cause; a ninth is refused.
-fn set_new(
-    clock: SurvivalClock,
+fn set_new<'a, 's>(
+    words: &'a mut [[u64; 8]],
+    floats: &'a mut [[f64; 8]],
     setting: CauseSetting,
-    stream: &[u8],
+    stream: &'s [u8],
     position: usize,
-) -> ChannelSet
-    ensures { λ r. ⌜ r ≡ setNew clock setting (now (stream .entry)) position ⌝ }
+) -> ChannelDraw
+    requires { ⌜ Sized (now words) (now floats) ⌝ }
+    ensures { λ r. ⌜ Leaves (now (words .entry)) (now (floats .entry)) (now (words .exit)) (now (floats .exit))
+        (setNew (clockFrom (now (words .entry)) (now (floats .entry))) setting (now (stream .entry)) position .clock)
+        × (r ≡ channelDraw (setNew (clockFrom (now (words .entry)) (now (floats .entry))) setting (now (stream .entry)) position))
+        × ((r .number ≡ 0 → ⊥) → (now (words .exit) ≡ now (words .entry)) × (now (floats .exit) ≡ now (floats .entry))) ⌝ }
 {
-    if clock.channel_count >= 8 {
-        return ChannelSet {
+    if words[SETTINGS][COUNT] >= 8 {
+        return ChannelDraw {
             number: hazards::refusals::TOO_MANY_CAUSES,
-            clock,
             position,
         };
     }
     let drawn = hazards::draws::draw_from(stream, StreamPosition { next: position });
     if drawn.number != 0 {
-        return ChannelSet {
+        return ChannelDraw {
             number: drawn.number,
-            clock,
             position,
         };
     }
     let channel = channel_of(setting, 0.0, drawn.threshold);
-    let at = clock.place_for_new(setting.cause_id);
-    ChannelSet {
+    let at = crate::clocks::place_for_new(words, setting.cause_id);
+    crate::clocks::insert_channel(words, floats, at, channel);
+    ChannelDraw {
         number: 0,
-        clock: clock.inserted(at, channel),
         position: drawn.position.next,
     }
 }
 
 // The used channel with the setting's cause, if any, is set again; a cause without one is new.
-pub fn set_channel(
-    clock: SurvivalClock,
+pub fn set_channel<'a, 's>(
+    words: &'a mut [[u64; 8]],
+    floats: &'a mut [[f64; 8]],
     setting: CauseSetting,
-    stream: &[u8],
+    stream: &'s [u8],
     position: usize,
-) -> ChannelSet
-    ensures { λ r. ⌜ r ≡ setChannel clock setting (now (stream .entry)) position ⌝ }
+) -> ChannelDraw
+    requires { ⌜ Sized (now words) (now floats) ⌝ }
+    ensures { λ r. ⌜ Leaves (now (words .entry)) (now (floats .entry)) (now (words .exit)) (now (floats .exit))
+        (setChannel (clockFrom (now (words .entry)) (now (floats .entry))) setting (now (stream .entry)) position .clock)
+        × (r ≡ channelDraw (setChannel (clockFrom (now (words .entry)) (now (floats .entry))) setting (now (stream .entry)) position))
+        × ((r .number ≡ 0 → ⊥) → (now (words .exit) ≡ now (words .entry)) × (now (floats .exit) ≡ now (floats .entry))) ⌝ }
 {
-    let place = clock.place_of_cause(setting.cause_id);
-    match place {
-        CausePlace::At(at) => set_again(clock, setting, stream, position, at),
-        CausePlace::Absent => set_new(clock, setting, stream, position),
+    match crate::clocks::place_of_cause(words, setting.cause_id) {
+        CausePlace::At(at) => set_again(words, floats, setting, stream, position, at),
+        CausePlace::Absent => set_new(words, floats, setting, stream, position),
     }
 }

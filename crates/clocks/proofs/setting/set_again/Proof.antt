@@ -1,24 +1,28 @@
 -- `setting::set_again` meets its contract: the threshold is kept, or the draw is refused, or it is taken.
-use mathlib.Core.Path.{_≡_}
-use native.Mathlib.Omega.{arith}
 use borrow.Author.Tests.{not-true, not-false}
 use borrow.Author.Needs.{needs}
-use denote.Ref.{now}
 use lib.Ieee.{ofBits}
-use lib.ListN.{length, length-map}
-use Rattle.clocks.proofs.UsedChannels.{pastEnd}
-use Rattle.clocks.proofs.SettingCases.{again-kept, again-refused, again-drawn}
+use Rattle.clocks.proofs.SettingInPlace.{kept-in-place, refused-in-place, drawn-in-place}
 use Rattle.clocks.proofs.setting.set_again.Statement.{statement}
 use Rattle.clocks.proofs.setting.set_again.Tie as tie
 
-mul-old : tie.Need-mul-old
-mul-old c = search needs
-
-element-copy-out-old : tie.Need-element-copy-out-old
-element-copy-out-old c = search needs
+channel-at-requires : tie.Need-channel-at-requires
+channel-at-requires c κs = search needs
 
 settled-hazard-requires : tie.Need-settled-hazard-requires
 settled-hazard-requires c κs = search needs
+
+index-1-byte-from : tie.Need-index-1-byte-from
+index-1-byte-from c = search needs
+
+index-2-byte-from : tie.Need-index-2-byte-from
+index-2-byte-from c = search needs
+
+byte-from-requires : tie.Need-byte-from-requires
+byte-from-requires c κs = search needs
+
+policy-of-requires : tie.Need-policy-of-requires
+policy-of-requires c κs = search needs
 
 draws-again-requires : tie.Need-draws-again-requires
 draws-again-requires c κs = search needs
@@ -26,69 +30,99 @@ draws-again-requires c κs = search needs
 channel-of-requires : tie.Need-channel-of-requires
 channel-of-requires c κs = search needs
 
-mul-kept : tie.Need-mul-kept
-mul-kept c = search needs
+put-channel-requires : tie.Need-put-channel-requires
+put-channel-requires c κs = search needs
 
-element-set-from-kept : tie.Need-element-set-from-kept
-element-set-from-kept c = search needs
+same-length : tie.Need-same-length
+same-length c = search needs
+
+same-length-2 : tie.Need-same-length-2
+same-length-2 c = search needs
 
 returns : tie.Need-returns
 returns c =
-    let s = c .before .before .before .before .before .before in
-    let a = s .args in
-    let eight : length (a .t1 .channels) ≡ 8 = simp length-map at (s .good .0 .1 .1 .1 .1 .1 .1 .1 .1 .0 .1 .0 .1) in
-    again-kept (a .t1) (a .setting) (now (a .stream)) (a .position) (a .at) pastEnd (omega arith)
-    (c .before .before .before .settled-hazard .ensures)
-    (c .before .before .draws-again .ensures) (not-true _ (c .before .if1 .taken)) (c .channel-of .ensures)
+    let d = c .before .before .before .before .before .before .before in
+    let l = d .before .before .before .before .before in
+    let m = l .before .before .before .before in
+    let a = m .args in
+    kept-in-place (a .words .now) (a .floats .now) (a .setting) (a .stream .now) (a .position) (a .at) (m .pre .0) (l .channel-at .ensures)
+    (rw (d .before .before .byte-from .ensures) at (d .before .policy-of .ensures))
+    (d .before .before .before .before .settled-hazard .ensures)
+    (d .draws-again .ensures) _ _ _ (c .before .before .put-channel .ensures)
+    (not-true _ (c .before .before .before .before .before .before .if1 .taken))
+    (c .before .before .before .before .before .channel-of .ensures)
 
 draw-from-requires : tie.Need-draw-from-requires
 draw-from-requires c κs = search needs
 
+same-length-3 : tie.Need-same-length-3
+same-length-3 c = search needs
+
+same-length-4 : tie.Need-same-length-4
+same-length-4 c = search needs
+
 returns-2 : tie.Need-returns-2
 returns-2 c =
-    let s = c .before .before .before .before .before .before .before .before in
-    let a = s .args in
-    let eight : length (a .t1 .channels) ≡ 8 = simp length-map at (s .good .0 .1 .1 .1 .1 .1 .1 .1 .1 .0 .1 .0 .1) in
-    again-refused (a .t1) (a .setting) (now (a .stream)) (a .position) (a .at) pastEnd (omega arith)
-    (c .before .before .before .before .before .settled-hazard .ensures)
-    (c .before .before .before .before .draws-again .ensures) (not-false _ (c .before .before .before .if1 .left))
-    (c .before .before .draw-from .ensures) (c .if2 .taken)
+    let d = c .before .before .before .before in
+    let l = d .before .before .before .before .before in
+    let m = l .before .before .before .before in
+    let a = m .args in
+    refused-in-place (a .words .now) (a .floats .now) (a .setting) (a .stream .now) (a .position) (a .at) (m .pre .0)
+    (l .channel-at .ensures)
+    (rw (d .before .before .byte-from .ensures) at (d .before .policy-of .ensures))
+    (d .before .before .before .before .settled-hazard .ensures)
+    (d .draws-again .ensures) _ (not-false _ (c .before .before .before .if1 .left)) (c .before .before .draw-from .ensures) (c .if2 .taken)
 
 channel-of-requires-2 : tie.Need-channel-of-requires-2
 channel-of-requires-2 c κs = search needs
 
-mul-fresh : tie.Need-mul-fresh
-mul-fresh c = search needs
+put-channel-requires-2 : tie.Need-put-channel-requires-2
+put-channel-requires-2 c κs =
+    c .before .before .before .before .before .before .before .before .before .before .before .before .before .before .before .before .pre
 
-element-set-from-fresh : tie.Need-element-set-from-fresh
-element-set-from-fresh c = search needs
+same-length-5 : tie.Need-same-length-5
+same-length-5 c = search needs
+
+same-length-6 : tie.Need-same-length-6
+same-length-6 c = search needs
 
 returns-3 : tie.Need-returns-3
 unfolding ofBits
 returns-3 c =
-    let s = c .before .before .before .before .before .before .before .before .before in
-    let a = s .args in
-    let eight : length (a .t1 .channels) ≡ 8 = simp length-map at (s .good .0 .1 .1 .1 .1 .1 .1 .1 .1 .0 .1 .0 .1) in
-    again-drawn (a .t1) (a .setting) (now (a .stream)) (a .position) (a .at) pastEnd (omega arith)
-    (c .before .before .before .before .before .before .settled-hazard .ensures)
-    (c .before .before .before .before .before .draws-again .ensures) (not-false _ (c .before .before .before .before .if1 .left))
-    (c .before .before .before .draw-from .ensures) (c .before .if2 .left) (c .channel-of2 .ensures)
+    let t = c .before .before .before .before .before .before in
+    let d = t .before .before .before .before in
+    let l = d .before .before .before .before .before in
+    let m = l .before .before .before .before in
+    let a = m .args in
+    drawn-in-place (a .words .now) (a .floats .now) (a .setting) (a .stream .now) (a .position) (a .at) (m .pre .0) (l .channel-at .ensures)
+    (rw (d .before .before .byte-from .ensures) at (d .before .policy-of .ensures))
+    (d .before .before .before .before .settled-hazard .ensures)
+    (d .draws-again .ensures) _ _ _ (c .before .before .put-channel2 .ensures) _
+    (not-false _ (t .before .before .before .if1 .left)) (t .before .before .draw-from .ensures) (t .if2 .left)
+    (c .before .before .before .before .before .channel-of2 .ensures)
 
 pub set-again-spec : {M : Type 1} → statement M
 set-again-spec =
     tie.close
     (tie.spec
-    mul-old
-    element-copy-out-old
+    channel-at-requires
     settled-hazard-requires
+    index-1-byte-from
+    index-2-byte-from
+    byte-from-requires
+    policy-of-requires
     draws-again-requires
     channel-of-requires
-    mul-kept
-    element-set-from-kept
+    put-channel-requires
+    same-length
+    same-length-2
     returns
     draw-from-requires
+    same-length-3
+    same-length-4
     returns-2
     channel-of-requires-2
-    mul-fresh
-    element-set-from-fresh
+    put-channel-requires-2
+    same-length-5
+    same-length-6
     returns-3)
