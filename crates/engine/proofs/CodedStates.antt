@@ -1,7 +1,7 @@
 -- The test of a state's rows passes where they are coded, and there alone.
 use mathlib.Core.Path.{_≡_}
-use mathlib.Core.Bool.{true, _&&_}
 use mathlib.Core.List.{[]}
+use mathlib.Core.Bool.{true, _&&_}
 use Prim.Native.Nat.{_+_}
 use lib.ListN.{getD}
 use Rattle.hazards.proofs.Cases.{both-true}

@@ -1,30 +1,27 @@
 -- A command in place, by its cases: refused before the first store, or done to one clock's rows and then to the shared state.
-use mathlib.Core.Path.{_≡_, refl, sym, _∙_, ap, subst}
+use mathlib.Core.Path.{_≡_, refl, sym, _∙_, ap}
 use mathlib.Core.Bool.{Bool, true}
 use mathlib.Core.List.{List, []}
 use Prim.Native.Nat.{ℕ, _+_, _*_, _-_, _<_}
 use native.Mathlib.Omega.{arith}
 use borrow.Author.Tests.{eq-eqb, ne-eqb, eqb-true, eqb-false}
 use lib.Dec.{eqb}
-use lib.ListN.{length, getD, set, take, drop, length-take, length-drop}
-use lib.Seq.{set-set, getD-take, getD-drop}
+use lib.ListN.{length, getD, take, drop, length-take, length-drop}
+use lib.Seq.{getD-take, getD-drop}
 use Rattle.hazards.specs.Answers.{noEvent}
 use Rattle.hazards.specs.declared.answers.Answer.{Answer}
-use Rattle.clocks.specs.Layout.{WordRows, FloatRows, flagFrom, presentIn, clockFrom, Coded, Leaves}
+use Rattle.clocks.specs.Layout.{WordRows, FloatRows, presentIn, clockFrom, Coded, Leaves}
 use Rattle.clocks.specs.Clocks.{SurvivalClock}
 use Rattle.hazards.specs.declared.refusals.Faults.{Faults}
 use Rattle.engine.specs.Commands as commands
 use Rattle.engine.specs.Commands.{widthOf, byteAt, clockOf}
 use Rattle.engine.specs.Engine.{Performed}
 use Rattle.engine.specs.Queue.{nextRequest}
-use Rattle.engine.specs.State.{slotAt, withSlot, queuedRequests}
+use Rattle.engine.specs.State.{slotAt, withSlot, queuedRequests, ClockSlot, SharedState, EngineState}
 use Rattle.engine.specs.Execution.{OnSlot, refused, done, holding, stored, unlessFaulty, onClock, clockOfRequest}
 use Rattle.engine.specs.Execution.{target, performOn, perform}
-use Rattle.engine.specs.StateRows.{partAt, slotOf, slotFrom, sharedFrom, stateFrom, CodedState, SizedState, LeavesShared, LeavesClock}
-use Rattle.engine.specs.StateRows.{performedOf, Performs}
-use Rattle.engine.specs.State.{ClockSlot}
-use Rattle.engine.specs.State.{SharedState}
-use Rattle.engine.specs.State.{EngineState}
+use Rattle.engine.specs.StateRows.{slotOf, sharedFrom, stateFrom, CodedState, SizedState, LeavesShared, LeavesClock}
+use Rattle.engine.specs.StateRows.{Performs}
 use Rattle.hazards.proofs.Cases.{by-test}
 use Rattle.engine.proofs.CommandLaws.{no-width}
 use Rattle.engine.proofs.ExecutionCases.{refusalOf, not-done, there, there-present, target-named, target-deliver}

@@ -13,18 +13,14 @@ use Rattle.hazards.specs.Rates.{kindNumber, ownRate}
 use Rattle.hazards.specs.Ties.{tieNumber}
 use Rattle.hazards.specs.declared.rates.HazardRate.{HazardRate}
 use Rattle.hazards.specs.declared.rates.Intervals.{Intervals}
-use Rattle.clocks.specs.Clocks.{policyNumber}
+use Rattle.clocks.specs.Clocks.{policyNumber, SurvivalClock}
 use Rattle.clocks.specs.declared.channels.HazardChannelState.{HazardChannelState}
-use Rattle.clocks.specs.Clocks.{SurvivalClock}
 use Rattle.hazards.proofs.Cases.{by-test}
-use Rattle.engine.specs.Comparison.{sameFlag, sameInteger, sameFloat, everyBelow, sameFloats}
-use Rattle.engine.specs.Comparison.{sameHazard}
+use Rattle.engine.specs.Comparison.{sameFlag, sameInteger, sameFloat, everyBelow, sameFloats, sameHazard}
 use Rattle.engine.specs.Comparison.{sameIntervals, sameChannel, sameSettings, sameChannels, sameSchedule}
 use Rattle.engine.specs.Comparison.{sameClock, sameSlot, sameRequest, sameShared, sameState}
-use Rattle.engine.specs.State.{ClockSlot}
+use Rattle.engine.specs.State.{ClockSlot, SharedState, EngineState}
 use Rattle.engine.specs.declared.state.Request.{Request}
-use Rattle.engine.specs.State.{SharedState}
-use Rattle.engine.specs.State.{EngineState}
 
 both : {a b : Bool} → a ≡ true → b ≡ true → (a && b) ≡ true
 both e f = rw (e, f)

@@ -13,7 +13,7 @@ use Rattle.hazards.specs.Lists.{all}
 use Rattle.hazards.specs.Draws.{streamLength}
 use Rattle.hazards.specs.declared.answers.Answer.{Answer}
 use Rattle.hazards.proofs.Cases.{both-true}
-use Rattle.engine.specs.State.{slotAt, withSlot}
+use Rattle.engine.specs.State.{slotAt, withSlot, ClockSlot, SharedState, EngineState}
 use Rattle.engine.specs.Validation.{validSlot, validQueue, validShared, validState}
 use Rattle.engine.specs.Execution.{OnSlot, performOn, target}
 use Rattle.engine.specs.ExecutionInternals.{onSlotOf}
@@ -29,9 +29,6 @@ use Rattle.engine.specs.Answers.{after, returned}
 use Rattle.engine.specs.declared.execute.Executed.{Executed}
 use Rattle.engine.specs.declared.execution.SlotOutcome.{SlotOutcome}
 use Rattle.engine.specs.declared.replay.Replay.{Replay}
-use Rattle.engine.specs.State.{ClockSlot}
-use Rattle.engine.specs.State.{SharedState}
-use Rattle.engine.specs.State.{EngineState}
 use Rattle.engine.proofs.Asking.{undo-reverts}
 use Rattle.engine.proofs.JournalBytes.{restOf, zeroed-part, pasted-part}
 use Rattle.engine.proofs.PartLaws.{copied-whole, cleared-whole}

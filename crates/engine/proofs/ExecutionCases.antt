@@ -15,21 +15,17 @@ use Rattle.hazards.specs.Refusals.{tooManyCauses, noFaults, numberOf}
 use Rattle.hazards.specs.declared.answers.Answer.{Answer}
 use Rattle.hazards.specs.declared.refusals.Faults.{Faults}
 use Rattle.hazards.proofs.Cases.{by-test}
-use Rattle.clocks.specs.Clocks.{removeChannel}
+use Rattle.clocks.specs.Clocks.{removeChannel, SurvivalClock}
 use Rattle.clocks.specs.Scheduling as scheduling
-use Rattle.clocks.specs.Setting.{setChannel}
+use Rattle.clocks.specs.Setting.{setChannel, ChannelSet}
 use Rattle.clocks.specs.declared.clocks.ScheduledEvent.{ScheduledEvent}
-use Rattle.clocks.specs.Clocks.{SurvivalClock}
 use Rattle.clocks.specs.declared.scheduling.Censor.{Censor}
-use Rattle.clocks.specs.Scheduling.{Dispatched}
-use Rattle.clocks.specs.Scheduling.{Paused}
-use Rattle.clocks.specs.Scheduling.{Rescheduled}
-use Rattle.clocks.specs.Setting.{ChannelSet}
+use Rattle.clocks.specs.Scheduling.{Dispatched, Paused, Rescheduled}
 use Rattle.engine.specs.Commands as commands
 use Rattle.engine.specs.Refusals.{clockPresent, clockAbsent, queueEmpty, journalFull}
 use Rattle.engine.specs.Queue.{nextRequest, without, isQueued}
 use Rattle.engine.specs.QueueInternals.{pickOf}
-use Rattle.engine.specs.State.{queuedRequests, withQueue, withRequest, withPosition, withAppliedBytes}
+use Rattle.engine.specs.State.{queuedRequests, withQueue, withRequest, withPosition, withAppliedBytes, ClockSlot, SharedState}
 use Rattle.engine.specs.Execution.{OnSlot, refused, done, unlessFull, unlessFaulty, onClock, holding, acknowledged, isWithdrawn}
 use Rattle.engine.specs.Execution.{withdraw, requestOf, eventAnswer, withdrawnAnswer, clockOfRequest, target, afterSet}
 use Rattle.engine.specs.Execution.{afterReschedule, afterPause, delivered, performCreate, performSet, performRemove}
@@ -39,8 +35,6 @@ use Rattle.engine.specs.Commands.{createdClock, settingOf, nowOf, censor
 use Rattle.engine.specs.ExecutionInternals.{onSlotOf, Countable}
 use Rattle.engine.specs.declared.execution.SlotOutcome.{SlotOutcome}
 use Rattle.engine.specs.declared.queue.Pick.{Pick}
-use Rattle.engine.specs.State.{ClockSlot}
-use Rattle.engine.specs.State.{SharedState}
 use Rattle.engine.specs.declared.state.Request.{Request}
 use Rattle.engine.proofs.QueueLaws.{without-length}
 

@@ -6,8 +6,7 @@ use mathlib.Core.Path.{_≡_, refl, sym, ap, _∙_}
 use mathlib.Core.List.{List, [], _∷_, _++_, append-assoc, append-nil}
 use lib.ListN.{length-drop, drop-of-length-le, length, getD, take, drop, set, replicate, length-append, length-replicate}
 use lib.ListN.{replicate-append-replicate, length-set}
-use lib.Seq.{take-all, paste, take-at, drop-at, take-length, drop-append-add, length-take-le}
-use lib.Seq.{drop-drop, getD-drop}
+use lib.Seq.{take-all, paste, take-at, drop-at, take-length, drop-append-add, length-take-le, drop-drop, getD-drop}
 use Rattle.engine.proofs.Overwritten.{fill-next}
 use Rattle.engine.specs.Engine.{Bytes, concat, init, code}
 

@@ -7,11 +7,9 @@ use lib.ListN.{length, getD, take, drop, length-drop}
 use lib.Seq.{getD-drop, take-all, length-take-le}
 use Rattle.clocks.specs.Layout.{WordRows, FloatRows, Coded}
 use Rattle.clocks.proofs.Tables.{table-same}
-use Rattle.engine.specs.State.{slotAt, withSlot}
+use Rattle.engine.specs.State.{slotAt, withSlot, ClockSlot, EngineState}
 use Rattle.engine.specs.StateRows.{partAt, slotOf, requestFrom, sharedFrom, stateFrom, SizedState, CodedShared, CodedState}
 use Rattle.engine.specs.KeptRows.{keptSlot, keptShared, SizedKept, CodedKept}
-use Rattle.engine.specs.State.{ClockSlot}
-use Rattle.engine.specs.State.{EngineState}
 use Rattle.engine.proofs.ListParts.{put, put-length, part-here, part-before}
 use Rattle.engine.proofs.StateParts.{slot-at, clocks-kept, clocks-coded}
 use Rattle.engine.proofs.CommandsInPlace.{wordsLent, floatsLent, words-lent, floats-lent, slot-left, slot-left-coded}

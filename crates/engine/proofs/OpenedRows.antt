@@ -1,7 +1,7 @@
 -- The rows of an opened state: zero, but for the scale of each clock.
 use mathlib.Core.Path.{_≡_, refl, _∙_, ap}
-use mathlib.Core.Bool.{true}
 use mathlib.Core.List.{[]}
+use mathlib.Core.Bool.{true}
 use Prim.Native.Nat.{ℕ, _+_, _*_, _<_}
 use native.Mathlib.Omega.{arith}
 use borrow.Author.Tests.{eqb-true, eqb-false}
@@ -12,9 +12,8 @@ use lib.Seq.{getD-set-same, getD-set-other, getD-take, getD-drop}
 use Rattle.hazards.specs.Floats.{zeroBits}
 use Rattle.hazards.proofs.Cases.{by-test}
 use Rattle.clocks.specs.Channels.{emptyChannel}
-use Rattle.clocks.specs.Clocks.{newClock}
+use Rattle.clocks.specs.Clocks.{newClock, SurvivalClock}
 use Rattle.clocks.specs.Layout.{WordRows, FloatRows, table, clockOf, clockFrom, codedSettings, codedSchedule, codedTimes}
-use Rattle.clocks.specs.Clocks.{SurvivalClock}
 use Rattle.clocks.proofs.ClearedRows.{zeroWords, zeroFloats, Cleared, coded-there, cleared-all}
 use Rattle.clocks.proofs.Tables.{table-same}
 use Rattle.engine.specs.State.{emptyRequest, emptySlot}

@@ -16,15 +16,12 @@ use Rattle.hazards.proofs.Cases.{by-test}
 use Rattle.engine.specs.Commands as commands
 use Rattle.engine.specs.Commands.{widthOf, clockOf, createFaults, setFaults, causeFaults, rescheduleFaults, pauseFaults}
 use Rattle.engine.specs.Queue.{nextRequest}
-use Rattle.engine.specs.State.{slotAt, queuedRequests}
+use Rattle.engine.specs.State.{slotAt, queuedRequests, ClockSlot, SharedState, EngineState}
 use Rattle.engine.specs.Engine.{code}
 use Rattle.engine.specs.Execution.{OnSlot, done, performCreate, performSet, performRemove, performReschedule, performPause}
 use Rattle.engine.specs.Execution.{performResume, performOn, target}
 use Rattle.engine.specs.Instance.{engineOf}
-use Rattle.engine.specs.State.{ClockSlot}
-use Rattle.engine.specs.State.{SharedState}
 use Rattle.engine.specs.declared.state.Request.{Request}
-use Rattle.engine.specs.State.{EngineState}
 use Rattle.engine.proofs.SoundState.{SoundState}
 use Rattle.engine.proofs.CommandLists.{Whole}
 use Rattle.engine.proofs.RequestLists.{In}

@@ -13,14 +13,12 @@ use Rattle.hazards.specs.Refusals.{tooManyCauses, numberOf}
 use Rattle.hazards.specs.declared.refusals.Faults.{Faults}
 use Rattle.hazards.specs.declared.answers.Answer.{Answer}
 use Rattle.clocks.specs.Clocks.{removeChannel}
-use Rattle.clocks.specs.Setting.{setChannel}
+use Rattle.clocks.specs.Setting.{setChannel, ChannelSet}
 use Rattle.clocks.specs.Scheduling as scheduling
-use Rattle.clocks.specs.Scheduling.{Rescheduled}
-use Rattle.clocks.specs.Scheduling.{Paused}
-use Rattle.clocks.specs.Setting.{ChannelSet}
+use Rattle.clocks.specs.Scheduling.{Rescheduled, Paused}
 use Rattle.engine.specs.Commands as commands
 use Rattle.engine.specs.Queue.{nextRequest, without}
-use Rattle.engine.specs.State.{slotAt, withSlot, queuedRequests, withQueue, withPosition, withAppliedBytes}
+use Rattle.engine.specs.State.{slotAt, withSlot, queuedRequests, withQueue, withPosition, withAppliedBytes, ClockSlot, SharedState}
 use Rattle.engine.specs.Engine.{performed}
 use Rattle.engine.specs.Execution.{OnSlot, refused, done, unlessFull, unlessFaulty, onClock, holding, acknowledged, isWithdrawn}
 use Rattle.engine.specs.Execution.{withdraw, enqueue, eventAnswer, withdrawnAnswer, performCreate, performSet, performRemove}
@@ -28,8 +26,6 @@ use Rattle.engine.specs.Execution.{performReschedule, performPause, perf
 use Rattle.engine.specs.Execution.{stored, perform}
 use Rattle.engine.specs.Commands.{byteAt, nowOf, censorOf, settingOf, createdClock, createFaults, setFaults, causeFaults}
 use Rattle.engine.specs.Commands.{rescheduleFaults, pauseFaults}
-use Rattle.engine.specs.State.{ClockSlot}
-use Rattle.engine.specs.State.{SharedState}
 use Rattle.engine.specs.declared.state.Request.{Request}
 use Rattle.engine.specs.State.{EngineState}
 

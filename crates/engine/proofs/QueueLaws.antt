@@ -16,10 +16,9 @@ use mir.Syntax.{w32}
 use mir.Val.{toZ, ofZ, hbits}
 use borrow.Author.Tests.{ltb-true, ltb-false, lt-ltb, le-ltb, eq-eqb, ne-eqb}
 use Rattle.engine.specs.Queue.{requestTicks, comesFirst, earlierOf, nextRequest, keepIf, without, isQueued}
-use Rattle.engine.specs.State.{emptyRequest, queuedRequests, withQueue}
+use Rattle.engine.specs.State.{emptyRequest, queuedRequests, withQueue, SharedState}
 use Rattle.engine.specs.QueueInternals.{pickOf}
 use Rattle.engine.specs.declared.queue.Pick.{Pick}
-use Rattle.engine.specs.State.{SharedState}
 use Rattle.engine.specs.declared.state.Request.{Request}
 
 -- ---- ticks in two words

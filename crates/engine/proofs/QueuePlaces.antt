@@ -10,10 +10,8 @@ use lib.Seq.{length-take-le, take-append-seam, take-suc-set}
 use Rattle.clocks.specs.declared.clocks.ScheduledEvent.{ScheduledEvent}
 use Rattle.hazards.proofs.Cases.{by-test}
 use Rattle.engine.specs.Queue.{keepIf, without, countFor}
-use Rattle.engine.specs.State.{emptyRequest, queuedRequests, withQueue, withRequest}
+use Rattle.engine.specs.State.{emptyRequest, queuedRequests, withQueue, withRequest, ClockSlot, SharedState}
 use Rattle.engine.specs.Execution.{isWithdrawn, withdraw}
-use Rattle.engine.specs.State.{ClockSlot}
-use Rattle.engine.specs.State.{SharedState}
 use Rattle.engine.specs.declared.state.Request.{Request}
 use Rattle.engine.proofs.RequestLists.{notFor}
 use Rattle.engine.proofs.SoundState.{namesRequest, SoundQueue}

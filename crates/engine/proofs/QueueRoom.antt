@@ -18,12 +18,10 @@ use Rattle.clocks.specs.declared.scheduling.Censor.{Censor}
 use Rattle.hazards.proofs.Cases.{by-test, both-true}
 use Rattle.clocks.proofs.RequestLaws.{reschedule-requests, resume-requests}
 use Rattle.engine.specs.Queue.{keepIf, without, isQueued, countFor}
-use Rattle.engine.specs.State.{slotAt, queuedRequests}
+use Rattle.engine.specs.State.{slotAt, queuedRequests, SharedState, EngineState}
 use Rattle.engine.specs.Validation.{validSlot, validRequest, distinct, validQueue, validShared, validState}
 use Rattle.engine.specs.Execution.{isWithdrawn, withdraw}
 use Rattle.engine.specs.declared.state.Request.{Request}
-use Rattle.engine.specs.State.{SharedState}
-use Rattle.engine.specs.State.{EngineState}
 use Rattle.engine.proofs.DistinctIndices.{in-there, distinct-twice, keep-distinct}
 use Rattle.engine.proofs.ExecuteLaws.{valid-within}
 use Rattle.engine.proofs.QueueLaws.{queued-length}

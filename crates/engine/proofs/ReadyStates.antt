@@ -11,13 +11,12 @@ use lib.Dec.{ltb, leb}
 use Rattle.hazards.specs.Lists.{all}
 use Rattle.hazards.proofs.Cases.{both-true}
 use Rattle.clocks.specs.Layout.{WordRows, FloatRows}
-use Rattle.engine.specs.State.{slotAt, queuedRequests}
+use Rattle.engine.specs.State.{slotAt, queuedRequests, EngineState}
 use Rattle.engine.specs.Queue.{nextRequest}
 use Rattle.engine.specs.Validation.{validSlot, validRequest, distinct, validQueue, validShared, validState}
 use Rattle.engine.specs.StateRows.{stateFrom, SizedState}
 use Rattle.engine.specs.ExecutionInternals.{Ready}
 use Rattle.engine.specs.declared.state.Request.{Request}
-use Rattle.engine.specs.State.{EngineState}
 use Rattle.engine.proofs.RequestLists.{In}
 use Rattle.engine.proofs.Picks.{Best, next-best}
 use Rattle.engine.proofs.SoundState.{SoundState}

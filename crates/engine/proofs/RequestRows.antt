@@ -14,12 +14,10 @@ use mir.Val.{toZ}
 use Rattle.hazards.proofs.Cases.{by-test}
 use Rattle.clocks.specs.Layout.{WordRows}
 use Rattle.clocks.proofs.Tables.{length-table, getD-table, table-set, table-same}
-use Rattle.engine.specs.State.{emptyRequest, queuedRequests}
-use Rattle.engine.specs.StateRows.{requestFrom, queueFrom, sharedOf, sharedFrom, codedCounts, codedRequest}
-use Rattle.engine.specs.StateRows.{CodedShared, LeavesShared}
+use Rattle.engine.specs.State.{emptyRequest, queuedRequests, SharedState}
+use Rattle.engine.specs.StateRows.{requestFrom, queueFrom, sharedOf, sharedFrom, codedCounts, codedRequest, CodedShared, LeavesShared}
 use Rattle.engine.specs.QueueInternals.{KeepsRest}
 use Rattle.engine.specs.declared.state.Request.{Request}
-use Rattle.engine.specs.State.{SharedState}
 use Rattle.engine.proofs.QueueLaws.{queued-next, queued-back, queued-end, queued-first, queued-all}
 
 -- ---- one row

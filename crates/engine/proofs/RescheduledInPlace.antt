@@ -10,21 +10,17 @@ use lib.ListN.{length}
 use Rattle.hazards.specs.Answers.{noEvent}
 use Rattle.hazards.specs.declared.answers.Answer.{Answer}
 use Rattle.clocks.specs.Layout.{WordRows, FloatRows}
-use Rattle.clocks.specs.Scheduling.{queueChange}
+use Rattle.clocks.specs.Scheduling.{queueChange, Rescheduled}
 use Rattle.clocks.specs.Clocks.{SurvivalClock}
 use Rattle.clocks.specs.declared.scheduling.QueueChange.{QueueChange}
 use Rattle.clocks.specs.declared.scheduling.Censor.{Censor}
-use Rattle.clocks.specs.Scheduling.{Rescheduled}
 use Rattle.engine.specs.Commands.{clockOf, nowOf, censorOf, rescheduleFaults}
 use Rattle.engine.specs.Refusals.{journalFull}
-use Rattle.engine.specs.State.{slotAt, withAppliedBytes}
+use Rattle.engine.specs.State.{slotAt, withAppliedBytes, ClockSlot, EngineState, SharedState}
 use Rattle.engine.specs.Engine.{Performed}
 use Rattle.engine.specs.Execution.{OnSlot, isWithdrawn, eventAnswer, stored}
 use Rattle.engine.specs.ExecutionInternals.{requeued}
 use Rattle.engine.specs.StateRows.{sharedFrom, stateFrom, LeavesShared, LeavesClock, Performs}
-use Rattle.engine.specs.State.{ClockSlot}
-use Rattle.engine.specs.State.{EngineState}
-use Rattle.engine.specs.State.{SharedState}
 use Rattle.engine.proofs.ExecutionCases.{refusalOf, methodOn, reschedule-full, reschedule-done}
 use Rattle.engine.proofs.CommandsInPlace.{asked, turned-away, refused-later, carried-out, shared-as}
 

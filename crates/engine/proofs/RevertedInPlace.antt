@@ -10,15 +10,12 @@ use Rattle.engine.specs.Commands as commands
 use Rattle.engine.specs.Commands.{widthOf}
 use Rattle.engine.specs.Queue.{nextRequest}
 use Rattle.engine.specs.Engine.{Performed, rejected, performed, code}
-use Rattle.engine.specs.State.{slotAt, withSlot, queuedRequests}
+use Rattle.engine.specs.State.{slotAt, withSlot, queuedRequests, ClockSlot, SharedState, EngineState}
 use Rattle.engine.specs.Execution.{OnSlot, refused, done, target, stored, performOn, perform}
 use Rattle.engine.specs.StateRows.{sharedFrom, stateFrom, CodedState, performedOf, Performs}
 use Rattle.engine.specs.KeptRows.{keptSlot, keptShared, CodedKept}
 use Rattle.engine.specs.ExecutionInternals.{TakenBack}
-use Rattle.engine.specs.State.{ClockSlot}
 use Rattle.engine.specs.declared.state.Request.{Request}
-use Rattle.engine.specs.State.{SharedState}
-use Rattle.engine.specs.State.{EngineState}
 use Rattle.engine.proofs.PerformedTargets.{accepted-target}
 use Rattle.engine.proofs.SlotLaws.{put-back}
 

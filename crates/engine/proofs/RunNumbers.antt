@@ -13,16 +13,15 @@ use Rattle.hazards.specs.Refusals.{tooManyCauses, numberOf, invalidState}
 use Rattle.hazards.specs.declared.refusals.Faults.{Faults}
 use Rattle.hazards.specs.declared.answers.Answer.{Answer}
 use Rattle.hazards.proofs.DrawLaws.{drawNumber, each-way}
-use Rattle.clocks.specs.Setting.{setChannel}
+use Rattle.clocks.specs.Setting.{setChannel, ChannelSet}
 use Rattle.clocks.specs.declared.setting.CauseSetting.{CauseSetting}
-use Rattle.clocks.specs.Setting.{ChannelSet}
 use Rattle.clocks.specs.Clocks.{SurvivalClock}
 use Rattle.clocks.proofs.SettingOutcomes.{set-way}
 use Rattle.engine.specs.Commands as commands
 use Rattle.engine.specs.Commands.{widthOf, byteAt, settingOf, createFaults, setFaults, causeFaults, rescheduleFaults, pauseFaults}
 use Rattle.engine.specs.Queue.{nextRequest}
 use Rattle.engine.specs.Comparison.{sameState}
-use Rattle.engine.specs.State.{slotAt, queuedRequests}
+use Rattle.engine.specs.State.{slotAt, queuedRequests, ClockSlot, SharedState, EngineState}
 use Rattle.engine.specs.Opening.{openedState}
 use Rattle.engine.specs.Validation.{validState}
 use Rattle.engine.specs.Refusals.{cutShort, noCommand, nothingApplied, replayFails, journalFull}
@@ -37,10 +36,7 @@ use Rattle.engine.specs.Execution.{performRemove, performReschedule, per
 use Rattle.engine.specs.Execution.{performOn, target, stored, perform}
 use Rattle.engine.specs.Run.{endsRun}
 use Rattle.engine.specs.Answers.{answerOf}
-use Rattle.engine.specs.State.{ClockSlot}
-use Rattle.engine.specs.State.{SharedState}
 use Rattle.engine.specs.declared.state.Request.{Request}
-use Rattle.engine.specs.State.{EngineState}
 
 abbrev Goes : ℕ → Type 0
 Goes number = endsRun number ≡ false

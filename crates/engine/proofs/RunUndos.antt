@@ -1,5 +1,5 @@
 -- UNDO in a batch run changes the journal alone. The state is stale after it: it is replayed from the journal when a command needs it.
-use mathlib.Core.Path.{_≡_, refl, sym, ap, _∙_, subst}
+use mathlib.Core.Path.{_≡_, refl, sym, ap, _∙_}
 use mathlib.Core.Bool.{Bool, true, false, cond, true≢false}
 use mathlib.Core.Option.{Option, none, some}
 use Prim.Native.Nat.{ℕ, _+_, _*_, _<_, _^_}
@@ -14,8 +14,7 @@ use Rattle.engine.specs.Refusals.{nothingApplied}
 use Rattle.engine.specs.Opening.{openedState}
 use Rattle.engine.specs.Engine.{Bytes, Engine, code}
 use Rattle.engine.specs.Replay.{cleared, undo}
-use Rattle.engine.specs.ReplayInternals.{ends, replayAll}
-use Rattle.engine.specs.ReplayInternals.{endState}
+use Rattle.engine.specs.ReplayInternals.{ends, replayAll, endState}
 use Rattle.engine.specs.Instance.{engineOf}
 use Rattle.engine.specs.Answers.{after}
 use Rattle.engine.specs.Run.{Ran}

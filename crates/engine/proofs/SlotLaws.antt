@@ -6,15 +6,12 @@ use borrow.Author.Tests.{eq-eqb, ne-eqb}
 use lib.ListN.{length, List·getD-eq-default}
 use lib.Seq.{set-set, set-getD}
 use Rattle.hazards.specs.declared.answers.Answer.{Answer}
-use Rattle.engine.specs.State.{emptySlot, slotAt, withSlot}
+use Rattle.engine.specs.State.{emptySlot, slotAt, withSlot, ClockSlot, SharedState, EngineState}
 use Rattle.engine.specs.Engine.{rejected, performed}
 use Rattle.engine.specs.Execution.{OnSlot, refused, done, performOn, target, stored, perform}
 use Rattle.engine.specs.ExecutionInternals.{onSlotOf}
 use Rattle.engine.specs.Instance.{engineOf}
 use Rattle.engine.specs.declared.execution.SlotOutcome.{SlotOutcome}
-use Rattle.engine.specs.State.{ClockSlot}
-use Rattle.engine.specs.State.{SharedState}
-use Rattle.engine.specs.State.{EngineState}
 use Rattle.engine.proofs.SoundState.{SoundState}
 use Rattle.engine.proofs.CommandLists.{Whole}
 use Rattle.engine.proofs.PerformedWays.{performed-way}

@@ -9,13 +9,10 @@ use Rattle.clocks.specs.Scheduling.{onEventDispatched}
 use Rattle.clocks.proofs.SoundKept.{dispatched-sound}
 use Rattle.clocks.proofs.RequestLaws.{dispatched-scheduled}
 use Rattle.engine.specs.Queue.{nextRequest, without}
-use Rattle.engine.specs.State.{slotAt, withSlot, queuedRequests, withQueue, withAppliedBytes}
+use Rattle.engine.specs.State.{slotAt, withSlot, queuedRequests, withQueue, withAppliedBytes, ClockSlot, SharedState, EngineState}
 use Rattle.engine.specs.Execution.{holding}
 use Rattle.engine.specs.Instance.{engineOf, ledgerFieldsOf}
-use Rattle.engine.specs.State.{ClockSlot}
-use Rattle.engine.specs.State.{SharedState}
 use Rattle.engine.specs.declared.state.Request.{Request}
-use Rattle.engine.specs.State.{EngineState}
 use Rattle.engine.proofs.SoundState.{SoundQueue, SoundState}
 use Rattle.engine.proofs.Supplied.{queueingOf, Delivers}
 use Rattle.engine.proofs.RequestLists.{In, notFor}

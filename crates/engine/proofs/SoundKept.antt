@@ -19,14 +19,11 @@ use Rattle.clocks.proofs.RequestLaws.{new-scheduled, set-rest, remove-rest, res
 use Rattle.clocks.proofs.RequestLaws.{pause-withdraws, pause-names-nothing, pause-leaves, pause-withdraws-nothing}
 use Rattle.engine.specs.Commands as commands
 use Rattle.engine.specs.Opening.{openedState}
-use Rattle.engine.specs.State.{slotAt, withSlot}
+use Rattle.engine.specs.State.{slotAt, withSlot, ClockSlot, SharedState, EngineState}
 use Rattle.engine.specs.Engine.{code, performed}
 use Rattle.engine.specs.Execution.{done, performOn, target, perform}
 use Rattle.engine.specs.Commands.{clockOf, nowOf, censorOf, settingOf, createdClock}
 use Rattle.engine.specs.Instance.{engineOf, ledgerFieldsOf}
-use Rattle.engine.specs.State.{ClockSlot}
-use Rattle.engine.specs.State.{SharedState}
-use Rattle.engine.specs.State.{EngineState}
 use Rattle.engine.proofs.SoundState.{SoundState}
 use Rattle.engine.proofs.Supplied.{queueingOf, Sound, Queues, QueueLaws}
 use Rattle.engine.proofs.CommandLists.{Whole}

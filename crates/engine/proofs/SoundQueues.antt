@@ -12,13 +12,11 @@ use Rattle.clocks.specs.declared.clocks.ScheduledEvent.{ScheduledEvent}
 use Rattle.clocks.specs.Clocks.{Winner}
 use Rattle.hazards.proofs.Cases.{by-test}
 use Rattle.engine.specs.Queue.{keepIf, without, countFor}
-use Rattle.engine.specs.State.{emptySlot}
-use Rattle.engine.specs.State.{ClockSlot}
+use Rattle.engine.specs.State.{emptySlot, ClockSlot}
 use Rattle.engine.specs.declared.state.Request.{Request}
 use Rattle.engine.proofs.SoundState.{namesRequest, SoundRequest, SoundQueue}
 use Rattle.engine.proofs.RequestLists.{In, isFor, in-keep, keep-sat, keep-append, keep-cons-true, keep-cons-false, keep-same, notFor}
-use Rattle.engine.proofs.RequestLists.{in-append}
-use Rattle.engine.proofs.RequestLists.{not-for-same, none-left, others-left}
+use Rattle.engine.proofs.RequestLists.{in-append, not-for-same, none-left, others-left}
 use Rattle.engine.proofs.RequestCounts.{each-in, in-each, counted, at-most}
 use Rattle.engine.proofs.DistinctIndices.{not-there, one-request, keep-distinct}
 use Rattle.engine.proofs.IndexLaws.{distinct-more}

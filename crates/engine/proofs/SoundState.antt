@@ -6,11 +6,9 @@ use Prim.Native.Nat.{ℕ, _≤_, _<_}
 use lib.ListN.{length}
 use Rattle.hazards.specs.Draws.{streamLength}
 use Rattle.engine.specs.Queue.{countFor}
-use Rattle.engine.specs.State.{slotAt, queuedRequests}
+use Rattle.engine.specs.State.{slotAt, queuedRequests, ClockSlot, EngineState}
 use Rattle.engine.specs.Validation.{distinct}
-use Rattle.engine.specs.State.{ClockSlot}
 use Rattle.engine.specs.declared.state.Request.{Request}
-use Rattle.engine.specs.State.{EngineState}
 use Rattle.clocks.proofs.Sound.{Each, SoundClock}
 
 -- a present clock is sound

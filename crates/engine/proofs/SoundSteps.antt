@@ -8,8 +8,7 @@ use lib.ListN.{length, length-append, length-set}
 use lib.Seq.{getD-set-same, getD-set-other}
 use Rattle.hazards.specs.Draws.{streamLength}
 use Rattle.hazards.specs.declared.answers.Answer.{Answer}
-use Rattle.clocks.specs.Clocks.{notScheduled}
-use Rattle.clocks.specs.Clocks.{SurvivalClock}
+use Rattle.clocks.specs.Clocks.{notScheduled, SurvivalClock}
 use Rattle.clocks.specs.declared.clocks.ScheduledEvent.{ScheduledEvent}
 use Rattle.clocks.specs.Scheduling.{Rescheduled}
 use Rattle.clocks.proofs.Sound.{SoundClock}
@@ -17,14 +16,12 @@ use Rattle.hazards.proofs.Cases.{by-test}
 use Rattle.clocks.proofs.EachLaws.{each-set, each-at}
 use Rattle.clocks.proofs.RequestLaws.{OnlyChannels, AskedOfQueue}
 use Rattle.engine.specs.Queue.{keepIf}
-use Rattle.engine.specs.State.{emptySlot, slotAt, withSlot, queuedRequests, withPosition, withRequest, withAppliedBytes}
+use Rattle.engine.specs.State.{emptySlot, slotAt, withSlot, queuedRequests, withPosition, withRequest, withAppliedBytes, ClockSlot}
 use Rattle.engine.specs.Commands.{clockOf, priorityOf}
 use Rattle.engine.specs.Execution.{holding, acknowledged, isWithdrawn, withdraw, requestOf, enqueue, eventAnswer, withdrawnAnswer}
 use Rattle.engine.specs.Instance.{engineOf, ledgerFieldsOf}
-use Rattle.engine.specs.State.{ClockSlot}
-use Rattle.engine.specs.State.{SharedState}
+use Rattle.engine.specs.State.{SharedState, EngineState}
 use Rattle.engine.specs.declared.state.Request.{Request}
-use Rattle.engine.specs.State.{EngineState}
 use Rattle.engine.proofs.Supplied.{queueingOf, Queues, queueAfter}
 use Rattle.engine.proofs.RequestLists.{notFor}
 use Rattle.engine.proofs.SoundState.{SoundSlot, SoundRequest, SoundQueue, SoundState}

@@ -11,12 +11,10 @@ use Rattle.hazards.specs.Draws.{streamLength}
 use Rattle.clocks.proofs.Sound.{Each, none, next}
 use Rattle.hazards.proofs.Cases.{by-test}
 use Rattle.clocks.proofs.SoundValid.{sound-valid}
-use Rattle.engine.specs.State.{emptySlot, slotAt}
+use Rattle.engine.specs.State.{emptySlot, slotAt, ClockSlot, EngineState}
 use Rattle.engine.specs.Opening.{openedState}
 use Rattle.engine.specs.Validation.{validSlot, validRequest, distinct, validQueue, validShared, validState}
-use Rattle.engine.specs.State.{ClockSlot}
 use Rattle.engine.specs.declared.state.Request.{Request}
-use Rattle.engine.specs.State.{EngineState}
 use Rattle.engine.proofs.SoundState.{SoundSlot, SoundRequest, SoundState}
 
 -- ---- opening

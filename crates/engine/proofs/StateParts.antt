@@ -1,24 +1,18 @@
 -- The state whose rows are changed in one clock's part, or after the clocks.
-use mathlib.Core.Path.{_≡_, refl, sym, _∙_, ap}
-use mathlib.Core.Bool.{Bool, true}
-use mathlib.Core.List.{List, [], _++_}
+use mathlib.Core.Path.{_≡_, sym, _∙_, ap}
+use mathlib.Core.List.{[]}
 use Prim.Native.Nat.{ℕ, _+_, _*_, _-_, _<_, _≤_}
 use native.Mathlib.Omega.{arith}
 use borrow.Author.Tests.{eqb-true, eqb-false, ltb-true, ltb-false}
 use lib.Dec.{eqb, ltb}
-use lib.ListN.{length, getD, set, take, drop, length-append, length-take, length-drop}
-use lib.Seq.{getD-drop, set-set, getD-set-same}
+use lib.ListN.{length, getD, set, take, drop}
+use lib.Seq.{getD-drop}
 use Rattle.hazards.proofs.Cases.{by-test}
-use Rattle.clocks.specs.Layout.{WordRows, FloatRows, table, presentIn, clockFrom, Coded, Leaves}
-use Rattle.clocks.specs.Clocks.{SurvivalClock}
+use Rattle.clocks.specs.Layout.{WordRows, FloatRows, table, Coded}
 use Rattle.clocks.proofs.Tables.{length-table, getD-table, table-set, table-same}
-use Rattle.engine.specs.State.{emptySlot, slotAt, withSlot}
-use Rattle.engine.specs.Execution.{holding}
-use Rattle.engine.specs.StateRows.{partAt, slotOf, slotFrom, requestFrom, queueFrom, sharedOf, sharedFrom, stateFrom}
+use Rattle.engine.specs.State.{emptySlot, slotAt, withSlot, SharedState}
+use Rattle.engine.specs.StateRows.{partAt, slotOf, slotFrom, requestFrom, sharedFrom, stateFrom}
 use Rattle.engine.specs.StateRows.{CodedShared, CodedState, SizedState, LeavesShared}
-use Rattle.engine.specs.State.{ClockSlot}
-use Rattle.engine.specs.State.{SharedState}
-use Rattle.engine.specs.State.{EngineState}
 use Rattle.engine.proofs.ListParts.{within-first, put, part-here, part-before, part-after, rest-after}
 
 -- ---- the rows after the clocks

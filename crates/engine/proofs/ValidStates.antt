@@ -14,10 +14,9 @@ use Rattle.hazards.proofs.ListLaws.{slice-next}
 use Rattle.clocks.specs.Layout.{WordRows, FloatRows, table, flagFrom, clockOf, clockFrom, presentIn, Sized}
 use Rattle.clocks.specs.Validation.{validClock}
 use Rattle.clocks.proofs.Tables.{length-table, getD-table}
-use Rattle.engine.specs.State.{emptySlot, queuedRequests}
+use Rattle.engine.specs.State.{emptySlot, queuedRequests, EngineState}
 use Rattle.engine.specs.StateRows.{partAt, slotOf, slotFrom, requestFrom, queueFrom, sharedOf, sharedFrom, stateFrom, SizedState}
 use Rattle.engine.specs.Validation.{validSlot, validRequest, distinct, validQueue, validShared, validState}
-use Rattle.engine.specs.State.{EngineState}
 use Rattle.engine.specs.declared.state.Request.{Request}
 
 -- ---- a clock's part of the rows

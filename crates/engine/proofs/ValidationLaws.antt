@@ -13,16 +13,13 @@ use lib.Seq.{drop-cons}
 use Rattle.hazards.specs.Lists.{all}
 use Rattle.hazards.specs.Checks.{rangeFault, intervalsFault}
 use Rattle.hazards.specs.declared.ties.TieBreaker.the-variants.{LowestCauseId}
-use Rattle.clocks.specs.Clocks.{usedChannels}
+use Rattle.clocks.specs.Clocks.{usedChannels, SurvivalClock}
 use Rattle.clocks.specs.Validation.{isFinite, validChannel, ascendingFrom, validClock}
 use Rattle.clocks.specs.declared.channels.HazardChannelState.{HazardChannelState}
 use Rattle.clocks.specs.declared.clocks.HazardInterruptionPolicy.the-variants.{Restart}
-use Rattle.clocks.specs.Clocks.{SurvivalClock}
-use Rattle.engine.specs.State.{emptySlot, queuedRequests}
+use Rattle.engine.specs.State.{emptySlot, queuedRequests, ClockSlot, EngineState}
 use Rattle.engine.specs.Validation.{validSlot, validRequest, distinct, validQueue}
 use Rattle.engine.specs.declared.state.Request.{Request}
-use Rattle.engine.specs.State.{ClockSlot}
-use Rattle.engine.specs.State.{EngineState}
 use Rattle.engine.proofs.Conjunctions.{and-false}
 
 -- ---- lists

@@ -7,7 +7,6 @@ use Rattle.hazards.specs.Answers.{noEvent}
 use Rattle.hazards.specs.declared.answers.Answer.{Answer}
 use Rattle.engine.specs.Engine.{Bytes, Reply, refusal, reverted, completed, Outcome}
 use Rattle.engine.specs.Instance.{engineOf}
-use Rattle.engine.specs.declared.execute.Executed.{Executed}
 use Rattle.engine.specs.State.{EngineState}
 
 -- a refusal has its number and zero elsewhere, an accepted UNDO is all zero
@@ -24,7 +23,3 @@ pub record AfterInput : Type 0 where
 
 abbrev pub after : (stream : List ℕ) (n : ℕ) → Outcome (engineOf stream n) → AfterInput
 after stream n o = record { answer = answerOf (o .reply); state = o .state; journal = o .journal }
-
--- as the code returns it: the answer and the state, and the journal that it was lent
-abbrev pub returned : Executed → Bytes → AfterInput
-returned r journal = record { answer = r .answer; state = r .state; journal = journal }

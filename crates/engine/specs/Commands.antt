@@ -14,9 +14,8 @@ use Rattle.hazards.specs.Checks.{hazardFaults, hazardOf, intervalsOf}
 use Rattle.hazards.specs.Ties.{tieBreakerOf}
 use Rattle.hazards.specs.declared.refusals.Faults.{Faults}
 use Rattle.hazards.specs.declared.checks.HazardFields.{HazardFields}
-use Rattle.clocks.specs.Clocks.{policyOf, newClock}
+use Rattle.clocks.specs.Clocks.{policyOf, newClock, SurvivalClock}
 use Rattle.engine.specs.Refusals.{cutShort, noCommand}
-use Rattle.clocks.specs.Clocks.{SurvivalClock}
 use Rattle.clocks.specs.declared.setting.CauseSetting.{CauseSetting}
 use Rattle.clocks.specs.declared.scheduling.Censor.{Censor}
 

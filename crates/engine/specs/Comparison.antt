@@ -13,18 +13,13 @@ use Rattle.hazards.specs.Ties.{tieNumber}
 use Rattle.hazards.specs.declared.rates.HazardRate.{HazardRate}
 use Rattle.hazards.specs.declared.rates.Intervals.{Intervals}
 use Rattle.clocks.specs.Channels.{emptyChannel}
-use Rattle.clocks.specs.Clocks.{policyNumber}
+use Rattle.clocks.specs.Clocks.{policyNumber, Winner, SurvivalClock}
 unfoldable pub use Rattle.clocks.specs.Layout.{everyBelow}
 use Rattle.clocks.specs.declared.channels.HazardChannelState.{HazardChannelState}
 use Rattle.clocks.specs.declared.clocks.EntityId.{EntityId}
 use Rattle.clocks.specs.declared.clocks.ScheduledEvent.{ScheduledEvent}
-use Rattle.clocks.specs.Clocks.{Winner}
-use Rattle.clocks.specs.Clocks.{SurvivalClock}
-use Rattle.engine.specs.State.{emptySlot, emptyRequest}
-use Rattle.engine.specs.State.{ClockSlot}
+use Rattle.engine.specs.State.{emptySlot, emptyRequest, ClockSlot, SharedState, EngineState}
 use Rattle.engine.specs.declared.state.Request.{Request}
-use Rattle.engine.specs.State.{SharedState}
-use Rattle.engine.specs.State.{EngineState}
 
 -- ---- single values
 

@@ -11,15 +11,12 @@ use Rattle.hazards.specs.Refusals.{tooManyCauses, numberOf}
 use Rattle.hazards.specs.Answers.{noEvent}
 use Rattle.hazards.specs.declared.refusals.Faults.{Faults}
 use Rattle.hazards.specs.declared.answers.Answer.{Answer}
-use Rattle.clocks.specs.Clocks.{removeChannel}
-use Rattle.clocks.specs.Setting.{setChannel}
+use Rattle.clocks.specs.Clocks.{removeChannel, SurvivalClock}
+use Rattle.clocks.specs.Setting.{setChannel, ChannelSet}
 use Rattle.clocks.specs.Scheduling as scheduling
-use Rattle.clocks.specs.Clocks.{SurvivalClock}
 use Rattle.clocks.specs.declared.clocks.ScheduledEvent.{ScheduledEvent}
-use Rattle.clocks.specs.Setting.{ChannelSet}
 use Rattle.clocks.specs.declared.scheduling.RealizedEvent.{RealizedEvent}
-use Rattle.clocks.specs.Scheduling.{Rescheduled}
-use Rattle.clocks.specs.Scheduling.{Paused}
+use Rattle.clocks.specs.Scheduling.{Rescheduled, Paused}
 use Rattle.clocks.specs.declared.ticks.Ticks.{Ticks}
 use Rattle.engine.specs.Commands as commands
 use Rattle.engine.specs.Commands.{byteAt, clockOf, settingOf, createdClock, nowOf, censorOf, priorityOf}
@@ -27,11 +24,9 @@ use Rattle.engine.specs.Commands.{createFaults, causeFaults, setFaults, 
 use Rattle.engine.specs.Refusals.{clockPresent, clockAbsent, queueEmpty, journalFull}
 use Rattle.engine.specs.Queue.{nextRequest, without, isQueued}
 use Rattle.engine.specs.Engine.{Performed, rejected, performed}
-use Rattle.engine.specs.State.{slotAt, withSlot, queuedRequests, withQueue, withRequest, withPosition, withAppliedBytes}
+use Rattle.engine.specs.State.{slotAt, withSlot, queuedRequests, withQueue, withRequest, withPosition, withAppliedBytes, ClockSlot}
 use Rattle.engine.specs.declared.state.Request.{Request}
-use Rattle.engine.specs.State.{ClockSlot}
-use Rattle.engine.specs.State.{SharedState}
-use Rattle.engine.specs.State.{EngineState}
+use Rattle.engine.specs.State.{SharedState, EngineState}
 
 -- what performing a command on a slot gives: a refusal's number, or slot and shared state after it and its answer
 pub data OnSlot : Type 0 where

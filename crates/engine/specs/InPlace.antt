@@ -1,13 +1,10 @@
 -- The calls over lent memory: an engine is opened in it, and one input is executed on it. Rows of other sizes, and rows that are not coded
 -- as a state's, are no state that could be handed in: both calls refuse by 1 and change nothing.
 use mathlib.Core.Path.{_≡_}
-use mathlib.Core.Bool.{Bool, true, false, _&&_}
-use mathlib.Core.List.{List}
+use mathlib.Core.Bool.{Bool, _&&_}
 use Prim.Native.Nat.{ℕ}
 use lib.Dec.{eqb}
 use lib.ListN.{length, replicate}
-use Rattle.hazards.specs.Answers.{noEvent}
-use Rattle.hazards.specs.Refusals.{invalidState}
 use Rattle.hazards.specs.declared.answers.Answer.{Answer}
 use Rattle.clocks.specs.Layout.{WordRows, FloatRows}
 use Rattle.engine.specs.Opening.{openedState}

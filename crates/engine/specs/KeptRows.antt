@@ -1,14 +1,13 @@
 -- A clock and the shared state kept aside in rows of their own, so that a command can be taken back: ten rows of the clock's words, the
 -- row of the counts, sixteen rows of requests; and the clock's twenty-five rows of floats.
 use mathlib.Core.Path.{_≡_}
+use mathlib.Core.List.{[]}
 use mathlib.Core.Bool.{true}
-use mathlib.Core.List.{List, []}
 use Prim.Native.Nat.{ℕ, _+_, _<_}
 use lib.ListN.{length, getD, take}
 use Rattle.clocks.specs.Layout.{WordRows, FloatRows, table, Coded}
 use Rattle.engine.specs.StateRows.{slotOf, requestFrom, sharedOf, codedCounts, codedRequest}
-use Rattle.engine.specs.State.{ClockSlot}
-use Rattle.engine.specs.State.{SharedState}
+use Rattle.engine.specs.State.{ClockSlot, SharedState}
 
 -- ---- what they are read as
 

@@ -30,15 +30,11 @@ pub mod Rows
 -- the state in lent memory
 pub mod StateRows
 pub mod KeptRows
-pub mod ExecuteRows
+pub mod InPlace
 -- internals: what the answers of the code's inner functions mean; no call that document 01 names cites these
 pub mod QueueInternals
-pub mod QueueRowsInternals
 pub mod ExecutionInternals
-pub mod ExecutionRowsInternals
-pub mod ExecuteInternals
 pub mod ReplayInternals
-pub mod ReplayRowsInternals
-pub mod OpeningRowsInternals
-pub mod ComparisonRowsInternals
+pub mod OpeningInternals
+pub mod ComparisonInternals
 pub mod RunInternals

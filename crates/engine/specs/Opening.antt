@@ -1,8 +1,6 @@
 -- Document 01, "Clocks" and "Journal and undo": the state at opening, in which nothing exists.
 use lib.ListN.{replicate}
-use Rattle.engine.specs.State.{SharedState}
-use Rattle.engine.specs.State.{EngineState}
-use Rattle.engine.specs.State.{emptyRequest, emptySlot}
+use Rattle.engine.specs.State.{SharedState, EngineState, emptyRequest, emptySlot}
 
 abbrev pub openedShared : SharedState
 openedShared = record {

@@ -1,4 +1,4 @@
--- What the code's answers mean: where a replay ends, and the whole command at the front of some bytes with its clock.
+-- What the code's answers mean: the width of the whole command at the front of some bytes, and where a replay ends.
 use mathlib.Core.Bool.{cond}
 use mathlib.Core.List.{List, [], _∷_}
 use mathlib.Core.Option.{Option, none, some}
@@ -7,17 +7,16 @@ use lib.Dec.{eqb, ltb, leb}
 use lib.ListN.{length, take, drop}
 use Rattle.engine.specs.Commands.{widthOf}
 use Rattle.engine.specs.Commands as commands
-use Rattle.engine.specs.State.{withSlot}
+use Rattle.engine.specs.State.{withSlot, EngineState}
 use Rattle.engine.specs.Refusals.{nothingApplied, replayFails}
 use Rattle.engine.specs.Engine.{Bytes, Engine, Performed, rejected, performed, Asked, reject, undoLast, carryOut, code, reverted}
 use Rattle.engine.specs.Engine.{Outcome, classify, unchanged}
 use Rattle.engine.specs.Replay.{cleared}
-use Rattle.engine.specs.Execution.{target}
 use Rattle.engine.specs.Instance.{engineOf}
-use Rattle.engine.specs.declared.replay.FrontCommand.{FrontCommand}
-use Rattle.engine.specs.declared.replay.Replay.{Replay}
-use Rattle.engine.specs.State.{SharedState}
-use Rattle.engine.specs.State.{EngineState}
+use Rattle.clocks.specs.Layout.{WordRows, FloatRows}
+use Rattle.engine.specs.StateRows.{stateFrom}
+use Rattle.engine.specs.KeptRows.{keptSlot, keptShared}
+use Rattle.engine.specs.declared.replay.LastCommand.{LastCommand}
 
 -- ---- the replay of applied bytes by one scan, over any engine: what UNDO needs of them
 
@@ -70,19 +69,13 @@ wholeWidth bytes =
     cond (ltb 0 (length bytes))
     (cond (eqb (code bytes) commands.undo) 0 (cond (leb (widthOf (code bytes)) (length bytes)) (widthOf (code bytes)) 0)) 0
 
-abbrev pub noFront : FrontCommand
-noFront = record { width = 0; clock = 0 }
+-- the state after all commands, if the replay does not fail
+abbrev pub endState : (stream : List ℕ) (n : ℕ) → ReplayEnd (engineOf stream n) → Option EngineState
+endState stream n fails = none
+endState stream n (ends s before last) = some s
 
--- the whole command at the front with its clock's number; none where that is none of the sixteen
-unfoldable pub frontCommand : SharedState → Bytes → FrontCommand
-frontCommand p bytes =
-    let w = wholeWidth bytes in
-    let i = target p (take w bytes) in
-    cond (eqb w 0) noFront (cond (ltb 15 i) noFront (record { width = w; clock = i }))
-
--- the state before the last command: its clock's slot and the shared state were other then
-abbrev pub beforeLast : Replay → EngineState
-beforeLast r = withSlot (r .state) (r .clock) (r .slot) (r .shared)
-
-abbrev pub replayEndOf : (stream : List ℕ) (n : ℕ) → Replay → ReplayEnd (engineOf stream n)
-replayEndOf stream n r = cond (r .ok) (ends (r .state) (beforeLast r) (r .last)) fails
+-- where a replay that keeps what the last command changes has ended: the rows are read as the state after all commands, and with what is
+-- kept as the state before the last
+abbrev pub keptEnd : (stream : List ℕ) (n : ℕ) → LastCommand → WordRows → FloatRows → WordRows → FloatRows → ReplayEnd (engineOf stream n)
+keptEnd stream n r w f kw kf =
+    cond (r .ok) (ends (stateFrom w f) (withSlot (stateFrom w f) (r .clock) (keptSlot kw kf) (keptShared kw)) (r .place)) fails

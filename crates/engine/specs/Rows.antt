@@ -26,14 +26,13 @@ use Rattle.clocks.specs.Ticks.{ticksOf}
 use Rattle.clocks.specs.declared.channels.HazardChannelState.{HazardChannelState}
 use Rattle.clocks.specs.declared.ticks.Ticks.{Ticks}
 use Rattle.engine.specs.Commands as commands
-use Rattle.engine.specs.State.{slotAt, queuedRequests}
+use Rattle.engine.specs.State.{slotAt, queuedRequests, EngineState}
 use Rattle.engine.specs.Engine.{Bytes}
 use Rattle.engine.specs.Execute.{execute}
 use Rattle.engine.specs.Sessions.{Session}
 use Rattle.engine.specs.Instance.{engineOf}
 use Rattle.engine.specs.Demand3 as demand
 use Rattle.engine.specs.Answers.{answerOf}
-use Rattle.engine.specs.State.{EngineState}
 
 -- ---- floats: fin false m e is m times 2^e, and negsuc 0 is -1
 

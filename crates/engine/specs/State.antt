@@ -1,20 +1,38 @@
--- What an unused place of the state holds, and states with a part replaced.
-use mathlib.Core.Bool.{false}
+-- The state: its records, what an unused place of it holds, and states with a part replaced.
+use mathlib.Core.Bool.{Bool, false}
 use mathlib.Core.List.{List, _++_}
 use Prim.Native.Nat.{ℕ, _+_, _-_}
 use lib.IntN.{pos}
 use lib.ListN.{length, getD, set, take, replicate}
 use Rattle.hazards.specs.Floats.{z}
 use Rattle.hazards.specs.declared.ties.TieBreaker.the-variants.{LowestCauseId}
-use Rattle.clocks.specs.Clocks.{newClock}
+use Rattle.clocks.specs.Clocks.{newClock, SurvivalClock}
 use Rattle.clocks.specs.declared.clocks.HazardInterruptionPolicy.the-variants.{Restart}
-use Rattle.clocks.specs.Clocks.{SurvivalClock}
-use Rattle.engine.specs.State.{ClockSlot}
 use Rattle.engine.specs.declared.state.Request.{Request}
-use Rattle.engine.specs.State.{SharedState}
-use Rattle.engine.specs.State.{EngineState}
 
--- what an unused place holds
+-- ---- the state's records
+
+-- a place for a clock; an absent one holds the empty clock
+pub record ClockSlot : Type 0 where
+  pub present : Bool
+  pub clock : SurvivalClock
+
+-- the queue with how many of its places are used, the requests made so far, the draw position, and the length of the applied commands in
+-- the journal (document 01: standing length)
+pub record SharedState : Type 0 where
+  pub queue : List Request
+  pub queued : ℕ
+  pub «request_count» : ℕ
+  pub position : ℕ
+  pub «applied_length» : ℕ
+
+-- the whole state: the sixteen slots, and the shared state
+pub record EngineState : Type 0 where
+  pub slots : List ClockSlot
+  pub shared : SharedState
+
+-- ---- what an unused place holds, and states with a part replaced
+
 abbrev pub emptyClock : SurvivalClock
 emptyClock = newClock 0 false (record { index = 0; generation = 0 }) Restart LowestCauseId z
 

@@ -17,11 +17,8 @@ use Rattle.hazards.specs.declared.answers.Answer.{Answer}
 use Rattle.clocks.specs.Layout.{WordRows, FloatRows, table, everyBelow, u32From, isU32, clockFrom, presentIn, codedClock, Coded}
 use Rattle.clocks.specs.Clocks.{SurvivalClock}
 use Rattle.engine.specs.Engine.{Performed, rejected, performed}
-use Rattle.engine.specs.State.{slotAt, withSlot}
-use Rattle.engine.specs.State.{ClockSlot}
+use Rattle.engine.specs.State.{slotAt, withSlot, ClockSlot, SharedState, EngineState}
 use Rattle.engine.specs.declared.state.Request.{Request}
-use Rattle.engine.specs.State.{SharedState}
-use Rattle.engine.specs.State.{EngineState}
 
 -- part k of rows that are cut into parts of n
 abbrev pub partAt : {A : Type 0} → ℕ → ℕ → List A → List A

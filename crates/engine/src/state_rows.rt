@@ -1,9 +1,9 @@
 // Where the state of an engine lies in lent memory: sixteen clocks, then the counts, then the queue of requests.
 ghost use mathlib.Core.Path.{_≡_};
-ghost use mathlib.Core.Bool.{true};
 ghost use mathlib.Core.List.{[]};
+ghost use mathlib.Core.Bool.{true};
 ghost use Prim.Native.Nat.{_+_, _<_};
-ghost use lib.ListN.{length, getD, set};
+ghost use lib.ListN.{length, getD};
 ghost use Rattle.engine.specs.StateRows.{requestFrom, codedRequest};
 use crate::state::Request;
 use clocks::layout::u32_from;

@@ -1,4 +1,3 @@
-use borrow.Author.Needs.{needs}
 use native.Mathlib.Omega.{arith}
 use Rattle.engine.proofs.comparison.same_word_row.Statement.{statement}
 use Rattle.engine.proofs.comparison.same_word_row.Tie as tie

@@ -1,10 +1,9 @@
 -- `execution::create_in` meets its contract.
 use mathlib.Core.Path.{_≡_, _∙_, ap}
 use Rattle.engine.specs.Commands.{createdClock}
-use Rattle.engine.specs.State.{withSlot}
+use Rattle.engine.specs.State.{withSlot, ClockSlot}
 use Rattle.engine.specs.Execution.{holding}
 use Rattle.engine.specs.StateRows.{slotOf, sharedFrom, stateFrom}
-use Rattle.engine.specs.State.{ClockSlot}
 use Rattle.engine.proofs.CommandsInPlace.{slot-left, shared-kept, slot-left-coded}
 use borrow.Author.Needs.{needs}
 use Rattle.engine.proofs.execution.create_in.Statement.{statement}

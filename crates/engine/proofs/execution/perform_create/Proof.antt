@@ -9,11 +9,9 @@ use lib.ListN.{length, getD}
 use Rattle.hazards.specs.Refusals.{numberOf}
 use Rattle.hazards.specs.declared.answers.Answer.{Answer}
 use Rattle.engine.specs.Commands.{clockOf, createdClock}
-use Rattle.engine.specs.State.{slotAt, withSlot, withAppliedBytes}
+use Rattle.engine.specs.State.{slotAt, withSlot, withAppliedBytes, EngineState, SharedState}
 use Rattle.engine.specs.Execution.{holding, performCreate}
 use Rattle.engine.specs.StateRows.{sharedFrom, stateFrom}
-use Rattle.engine.specs.State.{EngineState}
-use Rattle.engine.specs.State.{SharedState}
 use Rattle.engine.proofs.AcceptedFields.{create-accepted}
 use Rattle.engine.proofs.ExecutionCases.{create-faulty, create-present, create-full, create-done, applied-fits}
 use Rattle.engine.proofs.StateParts.{shared-put, shared-coded}

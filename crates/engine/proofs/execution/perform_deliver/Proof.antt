@@ -9,10 +9,9 @@ use Rattle.hazards.specs.declared.answers.Answer.{Answer}
 use Rattle.clocks.specs.Scheduling as scheduling
 use Rattle.clocks.specs.declared.scheduling.RealizedEvent.{RealizedEvent}
 use Rattle.engine.specs.Queue.{nextRequest, without}
-use Rattle.engine.specs.State.{slotAt, queuedRequests, withQueue, withAppliedBytes}
+use Rattle.engine.specs.State.{slotAt, queuedRequests, withQueue, withAppliedBytes, SharedState}
 use Rattle.engine.specs.Execution.{clockOfRequest, eventAnswer, performDeliver}
 use Rattle.engine.specs.StateRows.{sharedFrom, stateFrom, LeavesClock}
-use Rattle.engine.specs.State.{SharedState}
 use Rattle.engine.proofs.ExecutionCases.{found, deliver-none, deliver-full, deliver-done, applied-fits}
 use Rattle.engine.proofs.CommandsInPlace.{refused-there, done-there, held-state, held-coded, shared-as}
 use Rattle.engine.proofs.SharedInPlace.{shared-then}

@@ -7,9 +7,8 @@ use lib.ListN.{length}
 use Rattle.hazards.specs.declared.answers.Answer.{Answer}
 use Rattle.clocks.specs.Scheduling as scheduling
 use Rattle.engine.specs.Commands.{clockOf, nowOf, pauseFaults}
-use Rattle.engine.specs.State.{SharedState}
+use Rattle.engine.specs.State.{SharedState, slotAt, withAppliedBytes}
 use Rattle.engine.specs.Refusals.{journalFull}
-use Rattle.engine.specs.State.{slotAt, withAppliedBytes}
 use Rattle.engine.specs.Execution.{isWithdrawn, withdraw, performPause}
 use Rattle.engine.specs.StateRows.{sharedFrom, stateFrom, LeavesClock}
 use Rattle.engine.proofs.AcceptedFields.{pause-accepted}

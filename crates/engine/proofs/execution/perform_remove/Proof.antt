@@ -9,9 +9,8 @@ use Rattle.hazards.specs.declared.answers.Answer.{Answer}
 use Rattle.clocks.specs.Clocks.{removeChannel}
 use Rattle.engine.specs.Commands as commands
 use Rattle.engine.specs.Commands.{clockOf, causeFaults}
-use Rattle.engine.specs.State.{SharedState}
+use Rattle.engine.specs.State.{SharedState, slotAt, withAppliedBytes}
 use Rattle.engine.specs.Refusals.{journalFull}
-use Rattle.engine.specs.State.{slotAt, withAppliedBytes}
 use Rattle.engine.specs.Execution.{done, holding, performRemove}
 use Rattle.engine.specs.StateRows.{sharedFrom, stateFrom, LeavesClock}
 use Rattle.engine.proofs.AcceptedFields.{cause-accepted}

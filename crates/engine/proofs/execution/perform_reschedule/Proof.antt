@@ -7,8 +7,7 @@ use lib.ListN.{length}
 use Rattle.clocks.specs.Scheduling as scheduling
 use Rattle.clocks.specs.Scheduling.{queueChange}
 use Rattle.engine.specs.Commands.{clockOf, rescheduleFaults}
-use Rattle.engine.specs.State.{SharedState}
-use Rattle.engine.specs.State.{slotAt}
+use Rattle.engine.specs.State.{SharedState, slotAt}
 use Rattle.engine.specs.Execution.{performReschedule}
 use Rattle.engine.specs.StateRows.{sharedFrom, stateFrom, LeavesClock}
 use Rattle.engine.proofs.AcceptedFields.{reschedule-accepted}

@@ -7,14 +7,12 @@ use borrow.Author.Tests.{not-true, not-false}
 use lib.ListN.{length}
 use Rattle.hazards.specs.Refusals.{tooManyCauses}
 use Rattle.hazards.specs.declared.answers.Answer.{Answer}
-use Rattle.clocks.specs.Setting.{setChannel}
-use Rattle.clocks.specs.Setting.{takesCause, channelDraw}
+use Rattle.clocks.specs.Setting.{setChannel, takesCause, channelDraw}
 use Rattle.clocks.specs.declared.setting.ChannelDraw.{ChannelDraw}
 use Rattle.clocks.proofs.SettingOutcomes.{taken-other, not-taken}
 use Rattle.engine.specs.Commands.{clockOf, settingOf, setFaults}
-use Rattle.engine.specs.State.{SharedState}
+use Rattle.engine.specs.State.{SharedState, slotAt, withPosition, withAppliedBytes}
 use Rattle.engine.specs.Refusals.{journalFull}
-use Rattle.engine.specs.State.{slotAt, withPosition, withAppliedBytes}
 use Rattle.engine.specs.Execution.{refused, performSet}
 use Rattle.engine.specs.StateRows.{sharedFrom, stateFrom, LeavesClock}
 use Rattle.engine.proofs.AcceptedFields.{set-accepted}

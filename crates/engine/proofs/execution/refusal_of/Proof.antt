@@ -1,7 +1,7 @@
 -- `execution::refusal_of` meets its contract.
 use mathlib.Core.Path.{sym, _∙_, ap}
-use mathlib.Core.Bool.{Bool, cond}
 use mathlib.Core.List.{[]}
+use mathlib.Core.Bool.{Bool, cond}
 use Prim.Native.Nat.{ℕ, _*_, _<_}
 use native.Mathlib.Omega.{arith}
 use borrow.Author.Tests.{eq-eqb, ne-eqb}

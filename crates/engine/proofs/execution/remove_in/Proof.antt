@@ -1,7 +1,6 @@
 -- `execution::remove_in` meets its contract.
 use mathlib.Core.Path.{ap}
-use Rattle.clocks.specs.Clocks.{removeChannel}
-use Rattle.clocks.specs.Clocks.{SurvivalClock}
+use Rattle.clocks.specs.Clocks.{removeChannel, SurvivalClock}
 use Rattle.clocks.proofs.RowLaws.{leaves-as}
 use Rattle.engine.proofs.CommandsInPlace.{clock-left, clock-there}
 use borrow.Author.Needs.{needs}

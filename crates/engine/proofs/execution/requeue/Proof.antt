@@ -2,8 +2,7 @@
 use mathlib.Core.Path.{_≡_, _∙_, ap}
 use mathlib.Core.Bool.{Bool, cond}
 use lib.ListN.{length}
-use Rattle.engine.specs.State.{SharedState}
-use Rattle.engine.specs.State.{withRequest, withAppliedBytes}
+use Rattle.engine.specs.State.{SharedState, withRequest, withAppliedBytes}
 use Rattle.engine.specs.Execution.{requestOf, eventAnswer}
 use Rattle.engine.specs.StateRows.{sharedFrom}
 use Rattle.engine.proofs.ExecutionCases.{withdraw-countable, withdraw-applied, enqueue-applied}

@@ -12,7 +12,7 @@ use lib.Seq.{length-take-le}
 use Rattle.hazards.specs.Answers.{answerWidth, noEvent, withAnswer}
 use Rattle.engine.specs.Refusals.{nothingApplied}
 use Rattle.engine.specs.Commands as commands
-use Rattle.engine.specs.Commands.{widthOf, byteAt}
+use Rattle.engine.specs.Commands.{widthOf}
 use Rattle.engine.specs.Engine.{code}
 use Rattle.engine.specs.Instance.{engineOf}
 use Rattle.engine.specs.StateRows.{stateFrom, SizedState}

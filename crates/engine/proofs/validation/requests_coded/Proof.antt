@@ -1,7 +1,7 @@
 -- `validation::requests_coded` meets its contract: at each turn the requests below i are coded.
 use mathlib.Core.Path.{_≡_, sym, _∙_}
-use mathlib.Core.Bool.{Bool, true}
 use mathlib.Core.List.{[]}
+use mathlib.Core.Bool.{Bool, true}
 use Prim.Native.Nat.{ℕ, _+_, _≤_, _-_}
 use borrow.Author.Tests.{not-true, not-false}
 use lib.ListN.{getD}
