@@ -32,8 +32,7 @@ use Rattle.engine.specs.Execution.{afterReschedule, afterPause, delivere
 use Rattle.engine.specs.Execution.{performReschedule, performResume, performPause, performDeliver, performOn}
 use Rattle.engine.specs.Commands.{byteAt, clockOf, createFaults, setFaults, causeFaults, rescheduleFaults, pauseFaults, faultsOf}
 use Rattle.engine.specs.Commands.{createdClock, settingOf, nowOf, censorOf}
-use Rattle.engine.specs.ExecutionInternals.{onSlotOf, Countable}
-use Rattle.engine.specs.declared.execution.SlotOutcome.{SlotOutcome}
+use Rattle.engine.specs.ExecutionInternals.{Countable}
 use Rattle.engine.specs.declared.queue.Pick.{Pick}
 use Rattle.engine.specs.declared.state.Request.{Request}
 use Rattle.engine.proofs.QueueLaws.{without-length}
@@ -49,10 +48,6 @@ module _ (taken more n : ℕ) where
       go : (t : Bool) → leb more (n - taken) ≡ t → leb more (n - taken) ≡ leb (taken + more) n
       go true e = e ∙ sym (le-leb (taken + more) n (omega (arith, leb-true more (n - taken) e)))
       go false e = e ∙ sym (lt-leb (taken + more) n (omega (arith, leb-false more (n - taken) e)))
-
--- ---- a refusal
-pub refusal : (o : SlotOutcome) → (o .number ≡ 0 → ⊥) → onSlotOf o ≡ refused (o .number)
-refusal o h = rw (ne-eqb (o .number) 0 h)
 
 -- ---- 4 to 7 and 9, of the commands that name a clock which is there
 module _ (f : Faults) {number : ℕ} (e : number ≡ numberOf f) (d : OnSlot) where

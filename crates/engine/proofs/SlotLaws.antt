@@ -1,21 +1,14 @@
--- A command on the slot of its clock: the slot as the code fetches it, its outcome by its number, and what it does to the state.
+-- A command on the slot of its clock: what it does to the state, and its slot put back.
 use mathlib.Core.Path.{_≡_, sym, ap, _∙_}
 use mathlib.Core.List.{List}
-use Prim.Native.Nat.{ℕ, _+_, _<_, _≤_}
-use borrow.Author.Tests.{eq-eqb, ne-eqb}
+use Prim.Native.Nat.{ℕ, _+_, _≤_}
 use lib.ListN.{length, List·getD-eq-default}
 use lib.Seq.{set-set, set-getD}
 use Rattle.hazards.specs.declared.answers.Answer.{Answer}
 use Rattle.engine.specs.State.{emptySlot, slotAt, withSlot, ClockSlot, SharedState, EngineState}
 use Rattle.engine.specs.Engine.{rejected, performed}
-use Rattle.engine.specs.Execution.{OnSlot, refused, done, performOn, target, stored, perform}
-use Rattle.engine.specs.ExecutionInternals.{onSlotOf}
-use Rattle.engine.specs.Instance.{engineOf}
-use Rattle.engine.specs.declared.execution.SlotOutcome.{SlotOutcome}
-use Rattle.engine.proofs.SoundState.{SoundState}
-use Rattle.engine.proofs.CommandLists.{Whole}
+use Rattle.engine.specs.Execution.{refused, done, performOn, target, stored, perform}
 use Rattle.engine.proofs.PerformedWays.{performed-way}
-use Rattle.engine.proofs.PerformedTargets.{target-below}
 
 -- past the places is the empty slot
 pub slot-past : (s : EngineState) (i : ℕ) → length (s .slots) ≤ i → emptySlot ≡ slotAt s i
@@ -26,14 +19,6 @@ pub put-back : (s : EngineState) (i : ℕ) (slot : ClockSlot) (p : SharedState) 
 put-back s i slot p =
     ap (λ (l : List ClockSlot). record { slots = l; shared = s .shared })
     (set-set (s .slots) i slot (slotAt s i) ∙ set-getD (s .slots) i emptySlot)
-
--- the outcome in the code, by its number
-module _ (o : SlotOutcome) {d : OnSlot} (e : onSlotOf o ≡ d) where
-  pub outcome-done : o .number ≡ 0 → d ≡ done (o .slot) (o .shared) (o .answer)
-  outcome-done z = sym e ∙ rw (eq-eqb (o .number) 0 z)
-
-  pub outcome-refused : (o .number ≡ 0 → ⊥) → d ≡ refused (o .number)
-  outcome-refused z = sym e ∙ rw (ne-eqb (o .number) 0 z)
 
 -- an accepted command has room in the journal
 pub done-fits : (stream : List ℕ) (n : ℕ) (old : ClockSlot) (p : SharedState) (c : List ℕ) (slot : ClockSlot) (p′ : SharedState) (a : Answer)
@@ -53,21 +38,3 @@ module _ (stream : List ℕ) (n : ℕ) (s : EngineState) (c : List ℕ) where
       → perform stream n s c ≡ rejected number
   unfolding perform
   stored-rejected number e = ap (stored s (target (s .shared) c)) e
-
-  -- the outcome on the slot that was fetched
-  module _ (o : SlotOutcome) (t : ℕ) (named : t ≡ target (s .shared) c) (old : ClockSlot) (there : old ≡ slotAt s t)
-      (did : onSlotOf o ≡ performOn stream n old (s .shared) c) where
-    on-slot : onSlotOf o ≡ performOn stream n (slotAt s (target (s .shared) c)) (s .shared) c
-    on-slot = rw (← named, ← there) did
-
-    pub rejects : (o .number ≡ 0 → ⊥) → perform stream n s c ≡ rejected (o .number)
-    rejects z = stored-rejected (o .number) (outcome-refused o on-slot z)
-
-    module _ (z : o .number ≡ 0) where
-      pub performs : perform stream n s c ≡ performed (withSlot s t (o .slot) (o .shared)) (o .answer)
-      performs = rw (← named) at (stored-performed (o .slot) (o .shared) (o .answer) (outcome-done o on-slot z))
-
-      -- an accepted command is about one of the sixteen
-      pub accepted-below : SoundState stream n s → Whole (engineOf stream n) c → t < 16
-      accepted-below g whole =
-          rw (← named) at (target-below stream n s c g whole (o .slot) (o .shared) (o .answer) (outcome-done o on-slot z))
