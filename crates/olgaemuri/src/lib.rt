@@ -1,8 +1,19 @@
-// What C links: the engine's batch run and the rate for a wait, under names that no other library has.
-// Definitions: those of the engine, crates/engine/specs/Run.antt, and of hazards, crates/hazards/specs/RateForWait.antt.
+// What C links: the batch run, an engine that stays open in lent memory, what a program asks of its state, and the rate for a wait, under
+// names that no other library has.
+// Definitions: those of the engine, crates/engine/specs/Run.antt and InPlace.antt, of hazards, crates/hazards/specs/RateForWait.antt, and
+// of what is asked of a state, specs/Inspection.antt.
+pub mod inspection;
+
 ghost use mathlib.Core.Path.{_≡_};
-ghost use Rattle.engine.specs.Run.{runOf, ran};
 ghost use Rattle.hazards.specs.RateForWait.{Answers, answered};
+ghost use Rattle.engine.specs.Run.{runOf, ran};
+ghost use Rattle.engine.specs.InPlace.{OpensOrRefuses};
+ghost use Rattle.olgaemuri.specs.Execution.{AnswersInput};
+ghost use Rattle.olgaemuri.specs.Inspection.{countsOf, appliedOf, applied, queuedRequest, clockFields, causeFields};
+use inspection::CauseFields;
+use inspection::ClockFields;
+use inspection::Counts;
+use inspection::QueuedRequest;
 
 // The batch run (document 01: run call): returns 18, the 2, 3 or 17 that ended it, or 0.
 #[no_mangle]
@@ -17,14 +28,4 @@ pub extern "C" fn olgaemuri_run(
         ≡ runOf (now (commands .entry)) (now (stream .entry)) (now (journal .entry)) (now (answers .entry)) (now (result .entry)) ⌝ }
 {
     engine::run::run(commands, stream, journal, answers, result)
-}
-
-// The constant rate that gives a wait (document 02, change 11): returns 23, 24 or 0, and writes the rate, 0.0 where there is none.
-#[no_mangle]
-pub extern "C" fn olgaemuri_rate_for_wait(threshold: f64, wait: f64, rate: &mut f64) -> u8
-    ensures { λ r. ⌜ Answers threshold wait (answered r (now (rate .exit))) ⌝ }
-{
-    let found = hazards::rate_for_wait::rate_for_wait(threshold, wait);
-    *rate = found.rate;
-    found.number
 }

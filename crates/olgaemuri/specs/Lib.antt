@@ -1,0 +1,2 @@
+-- The definitions of what C links that are not the engine's own.
+pub mod Inspection
