@@ -57,6 +57,10 @@ pub mod SizedRows
 pub mod OpenedRows
 pub mod KeptParts
 pub mod RevertedInPlace
+-- states in lent memory compared
+pub mod SameWords
+pub mod SameClocks
+pub mod SameRows
 -- demand 3: of any engine that meets the laws, then of this one
 pub mod DemandHalves
 pub mod Supplied
