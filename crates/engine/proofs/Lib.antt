@@ -53,6 +53,7 @@ pub mod SharedInPlace
 pub mod RescheduledInPlace
 pub mod PerformedInPlace
 pub mod ReadyStates
+pub mod ExecutedInPlace
 pub mod SizedRows
 pub mod OpenedRows
 pub mod KeptParts
@@ -74,6 +75,7 @@ pub mod RunOpening
 pub mod RunStates
 pub mod RunNumbers
 pub mod RunStops
+pub mod FrontRefusals
 pub mod RunAnswers
 pub mod RunTurns
 pub mod RunUndos
