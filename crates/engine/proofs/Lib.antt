@@ -81,6 +81,8 @@ pub mod RunTurns
 pub mod RunUndos
 pub mod RunReverts
 pub mod RunCommands
+-- demand 3 in lent memory
+pub mod LentDemand3
 -- the table of rows, and a list worked through
 pub mod Computed
 pub mod Rows
