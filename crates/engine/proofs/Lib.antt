@@ -53,6 +53,7 @@ pub mod SharedInPlace
 pub mod RescheduledInPlace
 pub mod PerformedInPlace
 pub mod ReadyStates
+pub mod ExecutedInPlace
 pub mod SizedRows
 pub mod OpenedRows
 pub mod KeptParts
@@ -78,11 +79,14 @@ pub mod RunOpening
 pub mod RunStates
 pub mod RunNumbers
 pub mod RunStops
+pub mod FrontRefusals
 pub mod RunAnswers
 pub mod RunTurns
 pub mod RunUndos
 pub mod RunReverts
 pub mod RunCommands
+-- demand 3 in lent memory
+pub mod LentDemand3
 -- the table of rows, and a list worked through
 pub mod Computed
 pub mod Rows
