@@ -18,6 +18,7 @@ use Rattle.engine.specs.Answers.{AfterInput, answerOf, after}
 use Rattle.engine.specs.InPlace.{isState, leftBy, Executes, inputOn}
 use Rattle.engine.specs.Demand3.{opened, sessionAfter, Demand3}
 use Rattle.engine.specs.LentDemand3.{Memory, stateIn, KeepsLengths, OpensIn, GivesOne, Gives, none, next, LentDemand3}
+use Rattle.engine.proofs.SameRows.{alike-in-every-word, alike-in-every-float}
 use Rattle.engine.proofs.CodedStates.{state-test}
 use Rattle.engine.proofs.Demand3.{demand-3}
 use Rattle.engine.proofs.RunNumbers.{zero-accepted}
@@ -110,9 +111,12 @@ lent-demand-3 stream n inputs m answers m′ o g =
       alone =
           λ other answers left p q.
           let k = all-hold stream n (open-holds stream n p) q in
+          let same : stateIn left ≡ stateIn m′ = k .state ∙ (sym (d .same-state) ∙ sym (h .state)) in
           record {
             accepts-each = each-accepted stream n (open-holds stream n p) q (d .accepts-each);
-            same-state = k .state ∙ (sym (d .same-state) ∙ sym (h .state));
+            same-state = same;
             same-journal = k .journal ∙ (sym (d .same-journal) ∙ sym (h .journal));
+            same-words = alike-in-every-word (left .words) (m′ .words) (left .floats) (m′ .floats) (k .coded) (h .coded) same;
+            same-floats = alike-in-every-float (left .words) (m′ .words) (left .floats) (m′ .floats) (k .coded) (h .coded) same;
           };
     }

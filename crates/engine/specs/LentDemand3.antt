@@ -1,16 +1,18 @@
 -- Demand 3 of the calls over lent memory: an engine is opened in it, whatever it held before, and inputs are executed there one after
 -- another. It then holds the engine that demand 3 speaks of (Demand3), and a second engine, opened in other memory and given only the
--- applied commands, is left the same.
+-- applied commands, is left the same in every number.
 use mathlib.Core.Path.{_≡_}
 use mathlib.Core.Bool.{true}
 use mathlib.Core.List.{List, [], _∷_}
-use Prim.Native.Nat.{ℕ}
+use Prim.Native.Nat.{ℕ, _<_}
 use lib.Dec.{eqb}
-use lib.ListN.{length}
+use lib.Ieee.{nan}
+use lib.ListN.{length, getD}
 use Rattle.hazards.specs.Lists.{all}
 use Rattle.hazards.specs.declared.answers.Answer.{Answer}
 use Rattle.clocks.specs.Layout.{WordRows, FloatRows}
 use Rattle.engine.specs.State.{EngineState}
+use Rattle.engine.specs.Comparison.{sameFloat}
 use Rattle.engine.specs.Engine.{Bytes}
 use Rattle.engine.specs.Answers.{answerOf}
 use Rattle.engine.specs.Demand3.{sessionAfter, replyTo, Demand3}
@@ -62,6 +64,9 @@ module _ (stream : Bytes) (n : ℕ) (inputs : List Bytes) (m : Memory) where
     pub accepts-each : all (λ a. eqb (a .number) 0) answers ≡ true
     pub same-state : stateIn m′ ≡ stateIn m
     pub same-journal : m′ .journal ≡ m .journal
+    -- number by number: every word, and every float by its bits
+    pub same-words : (r i : ℕ) → r < 177 → i < 8 → getD (getD (m′ .words) r []) i 0 ≡ getD (getD (m .words) r []) i 0
+    pub same-floats : (r i : ℕ) → r < 400 → i < 8 → sameFloat (getD (getD (m′ .floats) r []) i nan) (getD (getD (m .floats) r []) i nan) ≡ true
 
   pub record LentDemand3 : Type 0 where
     -- the rows are read as the state, and the journal is that, of the engine after the inputs, of which demand 3 holds
