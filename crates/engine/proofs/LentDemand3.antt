@@ -1,7 +1,7 @@
 -- Demand 3 holds of the calls over lent memory: what they leave is, call by call, the engine that demand 3 speaks of.
 use mathlib.Core.Path.{_≡_, refl, sym, ap, _∙_}
 use mathlib.Core.Bool.{Bool, true, _&&_}
-use mathlib.Core.List.{List, [], _∷_}
+use mathlib.Core.List.{List}
 use Prim.Native.Nat.{ℕ}
 use borrow.Author.Tests.{eq-eqb}
 use lib.Dec.{eqb}
@@ -16,7 +16,6 @@ use Rattle.engine.specs.Sessions.{Session, feed, feedAll, newSession, Ac
 use Rattle.engine.specs.Instance.{engineOf}
 use Rattle.engine.specs.Answers.{AfterInput, answerOf, after}
 use Rattle.engine.specs.InPlace.{isState, leftBy, Executes, inputOn}
-use Rattle.engine.specs.Demand3.{opened, sessionAfter, Demand3}
 use Rattle.engine.specs.LentDemand3.{Memory, stateIn, KeepsLengths, OpensIn, GivesOne, Gives, none, next, LentDemand3}
 use Rattle.engine.proofs.SameRows.{alike-in-every-word, alike-in-every-float}
 use Rattle.engine.proofs.CodedStates.{state-test}

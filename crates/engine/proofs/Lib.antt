@@ -53,8 +53,8 @@ pub mod SharedInPlace
 pub mod RescheduledInPlace
 pub mod PerformedInPlace
 pub mod ReadyStates
-pub mod ExecutedInPlace
 pub mod SizedRows
+pub mod ExecutedInPlace
 pub mod OpenedRows
 pub mod KeptParts
 pub mod RevertedInPlace

@@ -9,7 +9,7 @@ ghost use Rattle.engine.specs.Commands.{widthOf, byteAt};
 ghost use Rattle.engine.specs.Instance.{engineOf};
 ghost use Rattle.engine.specs.Answers.{after};
 ghost use Rattle.engine.specs.Validation.{validState};
-ghost use Rattle.engine.specs.StateRows.{stateFrom, SizedState, CodedState};
+ghost use Rattle.engine.specs.StateRows.{stateFrom, SizedState};
 ghost use Rattle.engine.specs.InPlace.{isState, Executes, ExecutesInput};
 use crate::commands::UNDO;
 use crate::state_rows::APPLIED_LENGTH;
@@ -46,7 +46,7 @@ fn perform_command<'a>(
     journal: &'a mut [u8],
     command: &'a [u8],
 ) -> Answer
-    requires { ⌜ SizedState (now words) (now floats) × CodedState (now words) (now floats)
+    requires { ⌜ SizedState (now words) (now floats)
         × (validState (now stream) (length (now journal)) (stateFrom (now words) (now floats)) ≡ true)
         × (0 < widthOf (byteAt (now command) 0)) × (byteAt (now command) 0 ≡ 8 → ⊥) ⌝ }
     ensures { λ r. ⌜ Executes (now (words .entry)) (now (floats .entry))

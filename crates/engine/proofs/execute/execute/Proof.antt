@@ -150,7 +150,7 @@ perform-command-requires c κs =
     let k = c .before .before .before .before in
     let v = valid (known (front k)) in
     let b = cut k in
-    (v .sized, v .coded, v .valid, omega (arith, b .len, b .pos), b .other)
+    (v .sized, v .valid, omega (arith, b .len, b .pos), b .other)
 
 same-length-8 : tie.Need-same-length-8
 same-length-8 c = search needs

@@ -1,5 +1,4 @@
 -- `execute::perform_command` meets its contract.
-use Prim.Native.Nat.{_≤_}
 use native.Mathlib.Omega.{arith}
 use borrow.Author.Needs.{needs}
 use lib.ListN.{length}
@@ -15,7 +14,7 @@ within : (m : tie.Start) → Within (length (m .args .journal .now)) (sharedFrom
 unfolding stateFrom
 within m =
     let a = m .args in
-    valid-within (a .stream .now) (length (a .journal .now)) (stateFrom (a .words .now) (a .floats .now)) (m .pre .2)
+    valid-within (a .stream .now) (length (a .journal .now)) (stateFrom (a .words .now) (a .floats .now)) (m .pre .1)
 
 index-1-free : tie.Need-index-1-free
 index-1-free c = search needs
@@ -29,9 +28,9 @@ perform-requires c κs =
     let a = m .args in
     let p = m .pre in (
       valid-ready (a .stream .now) (length (a .journal .now)) (a .words .now) (a .floats .now) (p .0) (omega (arith, m .good .1 .1 .1 .0 .0))
-          (p .2),
+          (p .1),
+      p .2,
       p .3,
-      p .4,
     )
 
 abbrev start : tie.After-perform → tie.Start
