@@ -13,7 +13,6 @@ ghost use mathlib.Core.Option.{none, some};
 ghost use Rattle.engine.specs.StateRows.{sharedFrom, stateFrom, SizedState, CodedState};
 ghost use Rattle.engine.specs.KeptRows.{SizedKept, CodedKept};
 ghost use Rattle.engine.specs.InPlace.{Executes};
-use clocks::layout::CLOCK_FLOATS;
 use crate::execution::perform;
 use crate::kept_rows::KEPT_WORDS;
 use crate::refusals::NOTHING_APPLIED;
@@ -22,6 +21,7 @@ use crate::state_rows::APPLIED_LENGTH;
 use crate::state_rows::COUNTS;
 use crate::state_rows::STATE_FLOATS;
 use crate::state_rows::STATE_WORDS;
+use clocks::layout::CLOCK_FLOATS;
 use hazards::answers::Answer;
 use hazards::answers::no_event;
 

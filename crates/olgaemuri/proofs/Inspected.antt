@@ -49,8 +49,11 @@ module _ (w : WordRows) where
   unfolding queuedRequest sharedFrom sharedOf
   request-there i e h l =
       let fewer : i < min (getD (getD w 160 []) 0 0) 16 = omega arith in
-      rw (eq-eqb (length w) 177 e, lt-ltb i (min (getD (getD w 160 []) 0 0) 16) fewer,
-        getD-table 16 (λ k. requestFrom (getD w (161 + k) [])) i emptyRequest h)
+      rw (
+        eq-eqb (length w) 177 e,
+        lt-ltb i (min (getD (getD w 160 []) 0 0) 16) fewer,
+        getD-table 16 (λ k. requestFrom (getD w (161 + k) [])) i emptyRequest h,
+      )
 
 -- ---- a clock
 

@@ -315,5 +315,9 @@ pub fn cause_fields<'a>(
     }
     let w = CLOCK_WORDS * clock;
     let f = CLOCK_FLOATS * clock;
-    own_cause(&words[w..w + CLOCK_WORDS], &floats[f..f + CLOCK_FLOATS], place)
+    own_cause(
+        &words[w..w + CLOCK_WORDS],
+        &floats[f..f + CLOCK_FLOATS],
+        place,
+    )
 }

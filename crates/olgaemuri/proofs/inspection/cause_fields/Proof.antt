@@ -11,7 +11,7 @@ no-cause-requires : tie.Need-no-cause-requires
 no-cause-requires c κs = search needs
 
 returns : tie.Need-returns
-returns c = 
+returns c =
     let a = c .before .before .args in
     c .no-cause .ensures ∙ no-cause-words (a .words .now) (a .floats .now) (a .clock) (a .place) (c .before .if1 .taken)
 
@@ -19,7 +19,7 @@ no-cause-requires-2 : tie.Need-no-cause-requires-2
 no-cause-requires-2 c κs = search needs
 
 returns-2 : tie.Need-returns-2
-returns-2 c = 
+returns-2 c =
     let b = c .before .before in
     let a = b .before .args in
     c .no-cause2 .ensures
@@ -29,7 +29,7 @@ no-cause-requires-3 : tie.Need-no-cause-requires-3
 no-cause-requires-3 c κs = search needs
 
 returns-3 : tie.Need-returns-3
-returns-3 c = 
+returns-3 c =
     let b = c .before .before in
     let a = b .before .before .args in
     c .no-cause3 .ensures
@@ -76,7 +76,7 @@ own-cause-requires : tie.Need-own-cause-requires
 own-cause-requires c κs = search needs
 
 returns-4 : tie.Need-returns-4
-returns-4 c = 
+returns-4 c =
     let b = c .before .before .before in
     let a = b .before .before .before .args in
     c .own-cause .ensures

@@ -11,7 +11,7 @@ no-clock-requires : tie.Need-no-clock-requires
 no-clock-requires c κs = search needs
 
 returns : tie.Need-returns
-returns c = 
+returns c =
     let a = c .before .before .args in
     c .no-clock .ensures ∙ no-rows (a .words .now) (a .floats .now) (a .clock) (c .before .if1 .taken)
 
@@ -19,7 +19,7 @@ no-clock-requires-2 : tie.Need-no-clock-requires-2
 no-clock-requires-2 c κs = search needs
 
 returns-2 : tie.Need-returns-2
-returns-2 c = 
+returns-2 c =
     let b = c .before .before in
     let a = b .before .args in
     c .no-clock2 .ensures ∙ no-floats (a .words .now) (a .floats .now) (a .clock) (b .if1 .left) (c .before .if2 .taken)
@@ -28,7 +28,7 @@ no-clock-requires-3 : tie.Need-no-clock-requires-3
 no-clock-requires-3 c κs = search needs
 
 returns-3 : tie.Need-returns-3
-returns-3 c = 
+returns-3 c =
     let b = c .before .before in
     let a = b .before .before .args in
     c .no-clock3 .ensures

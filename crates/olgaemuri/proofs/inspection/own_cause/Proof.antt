@@ -17,7 +17,7 @@ no-cause-requires : tie.Need-no-cause-requires
 no-cause-requires c κs = search needs
 
 returns : tie.Need-returns
-returns c = 
+returns c =
     let a = c .before .before .before .args in
     c .no-cause .ensures ∙ absent-cause (a .words .now) (a .floats .now) (a .place) (c .before .if1 .taken)
 
@@ -31,7 +31,7 @@ no-cause-requires-2 : tie.Need-no-cause-requires-2
 no-cause-requires-2 c κs = search needs
 
 returns-2 : tie.Need-returns-2
-returns-2 c = 
+returns-2 c =
     let b = c .before .before in
     let a = b .before .before .before .args in
     c .no-cause2 .ensures
@@ -44,7 +44,7 @@ channel-fields-requires : tie.Need-channel-fields-requires
 channel-fields-requires c κs = search needs
 
 returns-3 : tie.Need-returns-3
-returns-3 c = 
+returns-3 c =
     let b = c .before .before .before in
     let a = b .before .before .before .args in
     c .channel-fields .ensures

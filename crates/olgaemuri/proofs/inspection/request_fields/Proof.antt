@@ -32,7 +32,7 @@ no-request-requires-3 c κs = search needs
 
 returns-3 : tie.Need-returns-3
 unfolding sharedFrom sharedOf
-returns-3 c = 
+returns-3 c =
     let a = c .before .before .before .before .before .args in
     c .no-request3 .ensures ∙ past-queue (a .words .now) (a .place) (omega (arith, c .before .if3 .taken))
 
