@@ -36,11 +36,11 @@ returns-3 c =
     ∙ past-causes (a .words .now) (a .floats .now) (b .before .if1 .left) (b .if2 .left) (a .clock) (a .place)
     (omega (arith, c .before .if3 .taken))
 
-mul-w : tie.Need-mul-w
-mul-w c = search needs
+mul-first : tie.Need-mul-first
+mul-first c = search needs
 
-mul-f : tie.Need-mul-f
-mul-f c = search needs
+mul-first-floats : tie.Need-mul-first-floats
+mul-first-floats c = search needs
 
 add-own-cause : tie.Need-add-own-cause
 add-own-cause c = search needs
@@ -93,8 +93,8 @@ cause-fields-spec =
     returns-2
     no-cause-requires-3
     returns-3
-    mul-w
-    mul-f
+    mul-first
+    mul-first-floats
     add-own-cause
     mul-own-cause
     sub-own-cause
