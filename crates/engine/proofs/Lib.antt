@@ -44,6 +44,7 @@ pub mod Asking
 pub mod ReplaySteps
 pub mod Replays
 pub mod Splits
+pub mod ReplayParts
 pub mod ReplayLaws
 pub mod ExecuteLaws
 -- commands in lent memory
@@ -58,6 +59,9 @@ pub mod ExecutedInPlace
 pub mod OpenedRows
 pub mod KeptParts
 pub mod RevertedInPlace
+pub mod ReplayInPlace
+pub mod LastInPlace
+pub mod UndoneInPlace
 -- states in lent memory compared
 pub mod SameWords
 pub mod SameClocks
