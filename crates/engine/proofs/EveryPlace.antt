@@ -1,12 +1,10 @@
 -- The loop that holds two lists against each other place by place.
-use mathlib.Core.Path.{_≡_, refl, sym, _∙_}
-use mathlib.Core.Bool.{Bool, true, false}
+use mathlib.Core.Path.{_≡_, refl, _∙_}
+use mathlib.Core.Bool.{Bool}
 use mathlib.Core.List.{List, [], _∷_}
-use Prim.Native.Nat.{ℕ, zero, suc, _+_, _≤_, _<_}
+use Prim.Native.Nat.{ℕ, zero, suc, _<_}
 use native.Mathlib.Omega.{arith}
 use lib.ListN.{length, getD}
-use Rattle.clocks.proofs.EveryBelow.{every-none, every-more, every-fails}
-use Rattle.engine.specs.Comparison.{everyBelow}
 
 -- a place within a list is read with any default
 pub getD-any : {A : Type 0} (l : List A) (i : ℕ) (d e : A) → i < length l → getD l i d ≡ getD l i e
@@ -19,23 +17,7 @@ module _ {A : Type 0} (same : A → A → Bool) (d : A) (n : ℕ) (xs ys : List 
   abbrev sameAt : ℕ → Bool
   sameAt k = same (getD xs k d) (getD ys k d)
 
-  -- what holds before the turn at i: the places below it agree
-  abbrev pub SameBelow : ℕ → Type 0
-  SameBelow i = (i ≤ n) × (everyBelow i sameAt ≡ true)
-
-  pub none-yet : SameBelow 0
-  none-yet = (omega arith, every-none sameAt)
-
-  pub all-same : (i : ℕ) → n ≤ i → SameBelow i → true ≡ everyBelow n sameAt
-  all-same i h s = let all : n ≡ i = omega (arith, s .0) in rw all (sym (s .1))
-
   -- the turn at i, which compares the elements there; the code reads them with a default e of its own
   module _ (m : (length xs ≡ n) × (length ys ≡ n)) (i : ℕ) (l : i < n) (e : A) {r : Bool} (t : r ≡ same (getD xs i e) (getD ys i e)) where
     at-place : r ≡ sameAt i
     at-place = t ∙ rw (getD-any xs i e d (omega (arith, m .0)), getD-any ys i e d (omega (arith, m .1)))
-
-    pub place-differs : r ≡ false → false ≡ everyBelow n sameAt
-    place-differs f = sym (every-fails sameAt n i l (sym at-place ∙ f))
-
-    pub place-same : r ≡ true → SameBelow i → SameBelow (i + 1)
-    place-same f s = (omega arith, every-more sameAt i (s .1) (sym at-place ∙ f))

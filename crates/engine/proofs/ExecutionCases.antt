@@ -11,7 +11,7 @@ use lib.ListN.{length, length-take}
 use borrow.Author.Tests.{leb-true, leb-false, le-leb, lt-leb, eqb-true, eqb-false, eq-eqb, ne-eqb}
 use Rattle.hazards.specs.Answers.{noEvent}
 use Rattle.hazards.specs.Fields.{fieldAt}
-use Rattle.hazards.specs.Refusals.{tooManyCauses, noFaults, numberOf}
+use Rattle.hazards.specs.Refusals.{tooManyCauses, numberOf}
 use Rattle.hazards.specs.declared.answers.Answer.{Answer}
 use Rattle.hazards.specs.declared.refusals.Faults.{Faults}
 use Rattle.hazards.proofs.Cases.{by-test}
@@ -30,7 +30,7 @@ use Rattle.engine.specs.Execution.{OnSlot, refused, done, unlessFull, un
 use Rattle.engine.specs.Execution.{withdraw, requestOf, eventAnswer, withdrawnAnswer, clockOfRequest, target, afterSet}
 use Rattle.engine.specs.Execution.{afterReschedule, afterPause, delivered, performCreate, performSet, performRemove}
 use Rattle.engine.specs.Execution.{performReschedule, performResume, performPause, performDeliver, performOn}
-use Rattle.engine.specs.Commands.{byteAt, clockOf, createFaults, setFaults, causeFaults, rescheduleFaults, pauseFaults, faultsOf}
+use Rattle.engine.specs.Commands.{byteAt, clockOf, createFaults}
 use Rattle.engine.specs.Commands.{createdClock, settingOf, nowOf, censorOf}
 use Rattle.engine.specs.ExecutionInternals.{Countable}
 use Rattle.engine.specs.declared.queue.Pick.{Pick}
@@ -88,12 +88,6 @@ module _ (f : Faults) {number : ℕ} (e : number ≡ numberOf f) where
   refusal-clock present h =
       ap (λ (t : Bool). cond t (cond present 0 clockAbsent) number) (sym (eq-eqb number 0 h)) ∙ ap (orAbsent present) e
 
-  pub refusal-none : {present : Bool} → number ≡ 0 → present ≡ true → 0 ≡ refusalOf present f
-  refusal-none {present} h p = ap (λ (t : Bool). cond t 0 clockAbsent) (sym p) ∙ refusal-clock present h
-
-  pub refusal-absent : {present : Bool} → number ≡ 0 → present ≡ false → clockAbsent ≡ refusalOf present f
-  refusal-absent {present} h p = ap (λ (t : Bool). cond t 0 clockAbsent) (sym p) ∙ refusal-clock present h
-
 -- z: no fault; p: the clock is there; d: what is done to it then
 module _ (d : OnSlot) (number m : ℕ) where
   by-number : (z p : Bool) → number ≡ cond z (cond p 0 clockAbsent) m → (number ≡ 0 → ⊥)
@@ -129,16 +123,6 @@ module _ (f : Faults) (slot : ClockSlot) (d : SurvivalClock → OnSlot) {number 
 module _ (n : ℕ) (slot : ClockSlot) (p : SharedState) (c : List ℕ) (method : SurvivalClock → Float → Censor → ℕ → Rescheduled) where
   abbrev pub methodOn : SurvivalClock → OnSlot
   methodOn k = afterReschedule n p c (method k (nowOf c) (censorOf c) (p .«request_count»))
-
-  module _ {number : ℕ} {faults : Faults} (e : number ≡ refusalOf (slot .present) faults) (f : faults ≡ rescheduleFaults c) where
-    pub not-rescheduled : (number ≡ 0 → ⊥) → refused number ≡ unlessFaulty (rescheduleFaults c) (onClock slot methodOn)
-    not-rescheduled = not-done (rescheduleFaults c) slot methodOn (e ∙ ap (refusalOf (slot .present)) f)
-
-    pub rescheduled-there : number ≡ 0 → {r : Rescheduled} {t : Float} {s : Censor} → r ≡ method (slot .clock) t s (p .«request_count»)
-        → t ≡ nowOf c → s ≡ censorOf c → afterReschedule n p c r ≡ unlessFaulty (rescheduleFaults c) (onClock slot methodOn)
-    rescheduled-there z q et es =
-        ap (afterReschedule n p c) (q ∙ ap₂ (λ (t : Float) (s : Censor). method (slot .clock) t s (p .«request_count»)) et es)
-        ∙ there (rescheduleFaults c) slot methodOn (e ∙ ap (refusalOf (slot .present)) f) z
 
 -- ---- 14
 module _ (n : ℕ) (p : SharedState) (c : List ℕ) (d : OnSlot) where
@@ -203,21 +187,6 @@ module _ (n : ℕ) (p : SharedState) (c : List ℕ) (r : ChannelSet) where
     set-done l z q =
         ap (done (holding (r .clock)) (withAppliedBytes (length c) (withPosition p (r .position)))) q
         ∙ ap onDrawn (sym (eq-eqb (r .number) 0 z)) ∙ set-room l
-
--- ---- REMOVE
-module _ (n : ℕ) (slot : ClockSlot) (p : SharedState) (c : List ℕ) (there : removeOn n p c (slot .clock) ≡ performRemove n slot p c) where
-  abbrev removal : SurvivalClock → OnSlot
-  removal k = done (holding (removeChannel k (fieldAt 4 c commands.causeField))) (withAppliedBytes (length c) p) acknowledged
-
-  pub remove-full : leb (p .«applied_length» + length c) n ≡ false → refused journalFull ≡ performRemove n slot p c
-  remove-full l = full n p c (removal (slot .clock)) l ∙ there
-
-  pub remove-done : leb (p .«applied_length» + length c) n ≡ true → {k : SurvivalClock} {a : Answer}
-      → k ≡ removeChannel (slot .clock) (fieldAt 4 c commands.causeField) → a ≡ acknowledged
-      → done (holding k) (withAppliedBytes (length c) p) a ≡ performRemove n slot p c
-  remove-done l q r =
-      ap₂ (λ (k : SurvivalClock) (a : Answer). done (holding k) (withAppliedBytes (length c) p) a) q r
-      ∙ room n p c (removal (slot .clock)) l ∙ there
 
 -- ---- withdrawing a scheduled event
 module _ (p : SharedState) (e : ScheduledEvent) where
@@ -409,37 +378,3 @@ module _ (stream : List ℕ) (n : ℕ) (slot : ClockSlot) (p : SharedState) (c :
   unfolding performOn
   on-rest {code} e a b d f g h =
       rw (← e, ne-eqb code 1 a, ne-eqb code 2 b, ne-eqb code 3 d, ne-eqb code 4 f, ne-eqb code 5 g, ne-eqb code 6 h)
-
-  -- 4 to 7 come before every other refusal of a command
-  abbrev faultsBy : Bool → Bool → Bool → Bool → Bool → Bool → Faults
-  faultsBy a b d e f g =
-      cond a (createFaults c)
-      (cond b (setFaults c)
-      (cond d (causeFaults c)
-      (cond e (rescheduleFaults c) (cond f (pauseFaults c) (cond g (rescheduleFaults c) noFaults)))))
-
-  abbrev performBy : Bool → Bool → Bool → Bool → Bool → Bool → OnSlot
-  performBy a b d e f g =
-      cond a (performCreate n slot p c)
-      (cond b (performSet stream n slot p c)
-      (cond d (performRemove n slot p c)
-      (cond e (performReschedule n slot p c)
-      (cond f (performPause n slot p c) (cond g (performResume n slot p c) (performDeliver n slot p c))))))
-
-  faults-first : (a b d e f g : Bool) → (numberOf (faultsBy a b d e f g) ≡ 0 → ⊥)
-      → performBy a b d e f g ≡ refused (numberOf (faultsBy a b d e f g))
-  unfolding performCreate performSet performRemove performReschedule performPause performResume
-  faults-first true b d e f g h = sym (faults-met (createFaults c) refl _ h)
-  faults-first false true d e f g h = sym (faults-met (setFaults c) refl _ h)
-  faults-first false false true e f g h = sym (faults-met (causeFaults c) refl _ h)
-  faults-first false false false true f g h = sym (faults-met (rescheduleFaults c) refl _ h)
-  faults-first false false false false true g h = sym (faults-met (pauseFaults c) refl _ h)
-  faults-first false false false false false true h = sym (faults-met (rescheduleFaults c) refl _ h)
-  faults-first false false false false false false h = absurd (h refl)
-
-  pub faulty-refused : (numberOf (faultsOf c) ≡ 0 → ⊥) → performOn stream n slot p c ≡ refused (numberOf (faultsOf c))
-  unfolding performOn faultsOf
-  faulty-refused =
-      let code = byteAt c 0 in
-      faults-first (eqb code commands.create) (eqb code commands.set) (eqb code commands.remove) (eqb code commands.reschedule)
-      (eqb code commands.pause) (eqb code commands.resume)

@@ -1,48 +1,20 @@
 -- Indices of requests that stand once: one request more, and one whose index is there before it.
 use mathlib.Core.Path.{_≡_, refl, sym}
 use mathlib.Core.Bool.{Bool, true, false, not, cond, true≢false}
-use mathlib.Core.List.{List, [], _∷_, _++_, map, map-append}
+use mathlib.Core.List.{List, [], _∷_, _++_}
 use Prim.Native.Nat.{ℕ, suc, _+_, _<_, _≤_}
 use native.Mathlib.Nat.{le-of-lt}
-use native.Mathlib.Numerals.{add-one}
 use native.Mathlib.Omega.{arith}
 use borrow.Author.Tests.{eqb-true, eqb-false, eq-eqb, ne-eqb, not-true}
 use lib.Dec.{eqb}
-use lib.ListN.{length, getD, take, drop, set, length-take}
-use lib.Seq.{split-at, take-take, take-suc-set, getD-take}
+use lib.ListN.{length, getD, take, drop, length-take}
+use lib.Seq.{split-at, take-take, getD-take}
 use Rattle.hazards.proofs.ListLaws.{take-next}
 use Rattle.hazards.proofs.Cases.{by-test, both-true}
 use Rattle.engine.specs.Queue.{isQueued}
 use Rattle.engine.specs.Validation.{distinct}
 use Rattle.engine.specs.declared.state.Request.{Request}
 use Rattle.engine.proofs.Conjunctions.{and-false}
-
--- ---- indices
-
-abbrev pub indexOf : Request → ℕ
-indexOf r = r .index
-
-unfoldable pub isAmong : ℕ → List ℕ → Bool
-isAmong x [] = false
-isAmong x (y ∷ ys) = cond (eqb y x) true (isAmong x ys)
-
-pub there-among : (x : ℕ) (rs : List Request) → isQueued x rs ≡ isAmong x (map indexOf rs)
-unfolding isQueued isAmong
-there-among x [] = refl
-there-among x (r ∷ rs) = rw (there-among x rs)
-
-module _ (x : ℕ) {ys zs : List ℕ} {y : ℕ} (first : ys ≡ y ∷ zs) where
-  pub among-here : y ≡ x → isAmong x ys ≡ true
-  unfolding isAmong
-  among-here h = rw (first, eq-eqb y x h)
-
-  pub among-later : (y ≡ x → ⊥) → isAmong x ys ≡ isAmong x zs
-  unfolding isAmong
-  among-later h = rw (first, ne-eqb y x h)
-
-pub among-none : (x : ℕ) {ys : List ℕ} → ys ≡ [] → isAmong x ys ≡ false
-unfolding isAmong
-among-none x none = rw none
 
 -- ---- one request more
 
@@ -100,9 +72,3 @@ module _ (rs : List Request) (i : ℕ) (d : Request) where
       let split = split-at (take n rs) i d within in
       rw (split, take-take i n rs (le-of-lt h), getD-take n rs i d h)
       (distinct-fails (take i rs) (getD rs i d) (drop (suc i) (take n rs)) t)
-
-  pub indices-next : (xs : List ℕ) → i < length xs → i < length rs → take i xs ≡ map indexOf (take i rs)
-      → take (i + 1) (set xs i (getD rs i d .index)) ≡ map indexOf (take (i + 1) rs)
-  indices-next xs h k e =
-      let x = getD rs i d in
-      rw (take-next rs i d k, add-one, take-suc-set xs i (x .index) h, e) (sym (map-append indexOf (take i rs) (x ∷ [])))

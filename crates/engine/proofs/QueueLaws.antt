@@ -1,5 +1,5 @@
 -- Laws of the queue: the order of two requests case by case, the queued ones one after another, and what is left without one.
-use mathlib.Core.Path.{_≡_, refl, sym, _∙_, ap, ap₂}
+use mathlib.Core.Path.{_≡_, refl, sym, _∙_, ap}
 use mathlib.Core.Bool.{Bool, true, false, not, cond}
 use mathlib.Core.List.{List, [], _∷_, _++_, append-nil}
 use mathlib.Core.Option.{none, some}
@@ -8,15 +8,15 @@ use native.Mathlib.Numerals.{add-one}
 use native.Mathlib.Omega.{arith}
 use lib.Dec.{eqb, ltb, lit≤}
 use lib.IntN.{ℤ}
-use lib.ListN.{length, getD, take, drop, set, replicate, length-append, length-take, drop-of-length-le}
-use lib.Seq.{drop-cons, take-suc, take-all, getD-take, set-append-seam, append-snoc}
+use lib.ListN.{length, getD, take, drop, length-take, drop-of-length-le}
+use lib.Seq.{drop-cons, take-suc, take-all, getD-take}
 use lib.Signed.{ltZ, mag}
 use mir.Facts.{toZ-ofZ}
 use mir.Syntax.{w32}
 use mir.Val.{toZ, ofZ, hbits}
 use borrow.Author.Tests.{ltb-true, ltb-false, lt-ltb, le-ltb, eq-eqb, ne-eqb}
 use Rattle.engine.specs.Queue.{requestTicks, comesFirst, earlierOf, nextRequest, keepIf, without, isQueued}
-use Rattle.engine.specs.State.{emptyRequest, queuedRequests, withQueue, SharedState}
+use Rattle.engine.specs.State.{emptyRequest}
 use Rattle.engine.specs.QueueInternals.{pickOf}
 use Rattle.engine.specs.declared.queue.Pick.{Pick}
 use Rattle.engine.specs.declared.state.Request.{Request}
@@ -154,50 +154,3 @@ module _ (index : ℕ) (us : List Request) (r : Request) {vs : List Request} (la
   pub without-left : r .index ≡ index → without index vs ≡ without index us
   unfolding without
   without-left h = rw (last, keep-append (λ x. not (eqb (x .index) index)) us (r ∷ []), eq-eqb _ _ h) (append-nil _)
-
--- ---- sixteen places, the first of them used
-abbrev places : List Request → List Request
-places us = us ++ replicate (16 - length us) emptyRequest
-
-places-more : (us : List Request) (r : Request) → length us < 16 → set (places us) (length us) r ≡ places (us ++ (r ∷ []))
-places-more us r h =
-    let e : 16 - length us ≡ suc (16 - (length us + 1)) = omega arith in
-    rw (length-append, e) (set-append-seam us emptyRequest _ r ∙ sym (append-snoc us r _))
-
--- the places, and how many are used, once the requests without an index are kept
-pub record Kept (index : ℕ) (us queue : List Request) (kept : ℕ) : Type 0 where
-  pub count : kept ≡ length (without index us)
-  pub filled : queue ≡ places (without index us)
-
-pub kept-none : (index : ℕ) {empty : Request} → empty ≡ emptyRequest → Kept index [] (replicate 16 empty) 0
-unfolding without
-kept-none index e = record { count = refl; filled = ap (replicate 16) e }
-
-module _ (index : ℕ) (us : List Request) (r : Request) {vs queue : List Request} {kept : ℕ} (last : vs ≡ us ++ (r ∷ []))
-    (k : Kept index us queue kept) where
-  pub kept-more : kept < 16 → (r .index ≡ index → ⊥) → Kept index vs (set queue kept r) (kept + 1)
-  kept-more l h =
-      let e = without-kept index us r last h in
-      record {
-        count = rw (e, length-append) (omega (arith, k .count));
-        filled = rw (e, k .filled, k .count) (places-more (without index us) r (omega (arith, k .count)));
-      }
-
-  pub kept-left : r .index ≡ index → Kept index vs queue kept
-  kept-left h =
-      let e = without-left index us r last h in
-      record { count = rw e (k .count); filled = rw e (k .filled) }
-
--- the shared state with all of them
-module _ (index : ℕ) (p : SharedState) {us queue : List Request} {kept : ℕ} (all : us ≡ queuedRequests p) (k : Kept index us queue kept) where
-  abbrev placed : List Request → ℕ → SharedState
-  placed rs n = record {
-    queue = rs;
-    queued = n;
-    «request_count» = p .«request_count»;
-    position = p .position;
-    «applied_length» = p .«applied_length»;
-  }
-
-  pub kept-all : placed queue kept ≡ withQueue p (without index (queuedRequests p))
-  kept-all = ap₂ placed (k .filled) (k .count) ∙ ap (λ (l : List Request). withQueue p (without index l)) all

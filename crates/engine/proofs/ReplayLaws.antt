@@ -4,7 +4,6 @@ use mathlib.Core.Bool.{Bool, true, false, cond}
 use mathlib.Core.List.{List}
 use mathlib.Core.Option.{none, some}
 use Prim.Native.Nat.{ℕ, _-_, _<_, _≤_}
-use native.Mathlib.Nat.{sub-zero}
 use native.Mathlib.Omega.{arith}
 use borrow.Author.Tests.{eqb-true, eqb-false, leb-true, leb-false, lt-ltb, le-ltb, le-leb, lt-leb, eq-eqb, ne-eqb}
 use lib.Dec.{eqb, ltb, leb}
@@ -14,14 +13,13 @@ use Rattle.hazards.specs.declared.answers.Answer.{Answer}
 use Rattle.hazards.proofs.Cases.{by-test}
 use Rattle.engine.specs.Commands as commands
 use Rattle.engine.specs.Commands.{widthOf}
-use Rattle.engine.specs.State.{withSlot, emptySlot, EngineState}
-use Rattle.engine.specs.Opening.{openedState}
+use Rattle.engine.specs.State.{EngineState}
 use Rattle.engine.specs.Engine.{Bytes, Engine, rejected, performed, carryOut, code, cut, classify}
 use Rattle.engine.specs.Execution.{perform}
 use Rattle.engine.specs.Validation.{validState}
 use Rattle.engine.specs.Instance.{engineOf}
 use Rattle.engine.specs.ReplayInternals.{wholeWidth}
-use Rattle.engine.specs.ReplayInternals.{commandAt, widthAfter, ReplayEnd, ends, replayFrom, replayAll}
+use Rattle.engine.specs.ReplayInternals.{commandAt, widthAfter, ReplayEnd, ends, replayFrom}
 use Rattle.engine.proofs.SoundState.{SoundState}
 use Rattle.engine.proofs.CommandLists.{Whole}
 use Rattle.engine.proofs.Asking.{asks-no-command, asks-part, asks-undo, asks-command}
@@ -33,16 +31,6 @@ use Rattle.engine.proofs.SoundValid.{sound-state-valid}
 pub width-nothing : (i : Bytes) → length i ≤ 0 → wholeWidth i ≡ 0
 unfolding wholeWidth
 width-nothing i h = rw (le-ltb 0 (length i) h)
-
-pub width-within : (i : Bytes) → wholeWidth i ≤ length i
-unfolding wholeWidth
-width-within i = go (ltb 0 (length i)) (eqb (code i) commands.undo) (leb (widthOf (code i)) (length i)) refl
-  where
-    go : (a b c : Bool) → leb (widthOf (code i)) (length i) ≡ c → cond a (cond b 0 (cond c (widthOf (code i)) 0)) 0 ≤ length i
-    go false b c e = omega arith
-    go true true c e = omega arith
-    go true false true e = leb-true _ _ e
-    go true false false e = omega arith
 
 module _ (i : Bytes) (h : 0 < length i) where
   undo-wide : code i ≡ commands.undo → widthOf (code i) ≡ 1
@@ -152,10 +140,6 @@ module _ (stream : List ℕ) (n : ℕ) (bytes : Bytes) where
   -- what is left to replay
   abbrev pub replayRest : EngineState → EngineState → ℕ → ℕ → ReplayEnd E
   replayRest s before last at = replayFrom E (length bytes - at) s before last at (drop at bytes)
-
-  pub replay-begins : replayRest openedState (withSlot openedState 0 emptySlot (openedState .shared)) 0 0 ≡ replayAll E bytes
-  unfolding replayAll openedState
-  replay-begins = rw sub-zero
 
   pub replay-ends : (s before : EngineState) (last at : ℕ) → length bytes ≤ at → replayRest s before last at ≡ ends s before last
   replay-ends s before last at h = rw (drop-of-length-le bytes h) (replay-end E (length bytes - at) s before last at)
