@@ -45,6 +45,9 @@ distinct-cons x xs e f = rw (e, f)
 there-not : (y : Request) (q : List Request) (index : ℕ) → isQueued index q ≡ false → In y q → y .index ≡ index → ⊥
 there-not y q index e i h = true≢false (sym (in-there y q i) ∙ (rw h e))
 
+pub distinct-twice : (x y : Request) (zs : List Request) → distinct (x ∷ y ∷ zs) ≡ true → x .index ≡ y .index → ⊥
+distinct-twice x y zs d e = there-not y (y ∷ zs) (x .index) (distinct-first x (y ∷ zs) d .first) (inl refl) (sym e)
+
 -- two with one index are the same request
 pub one-request : (q : List Request) (x y : Request) → distinct q ≡ true → In x q → In y q → x .index ≡ y .index → x ≡ y
 one-request [] x y d i j e = absurd i

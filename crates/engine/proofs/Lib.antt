@@ -2,7 +2,6 @@
 
 -- tests, lists of bytes and comparison
 pub mod Conjunctions
-pub mod EveryPlace
 pub mod ListParts
 pub mod Overwritten
 pub mod NotItself

@@ -313,11 +313,11 @@ pub fn cause_fields<'a>(
     if clock >= CLOCKS {
         return no_cause();
     }
-    let w = CLOCK_WORDS * clock;
-    let f = CLOCK_FLOATS * clock;
+    let first = CLOCK_WORDS * clock;
+    let first_floats = CLOCK_FLOATS * clock;
     own_cause(
-        &words[w..w + CLOCK_WORDS],
-        &floats[f..f + CLOCK_FLOATS],
+        &words[first..first + CLOCK_WORDS],
+        &floats[first_floats..first_floats + CLOCK_FLOATS],
         place,
     )
 }
