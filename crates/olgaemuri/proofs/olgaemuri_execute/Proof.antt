@@ -39,7 +39,7 @@ returns-2 c =
         by-number = refl;
         bytes = c .before .before .put-answer .ensures;
       }),
-      (λ h. absurd (omega (arith, did .before .before .before .before .before .before .before .before .if1 .left))),
+      (λ h. absurd (omega (arith, did .before .before .before .before .if1 .left))),
     )
 
 pub olgaemuri-execute-spec : {M : Type 1} → statement M
