@@ -11,7 +11,7 @@ use lib.ListN.{length, length-take}
 use borrow.Author.Tests.{leb-true, leb-false, le-leb, lt-leb, eqb-true, eqb-false, eq-eqb, ne-eqb}
 use Rattle.hazards.specs.Answers.{noEvent}
 use Rattle.hazards.specs.Fields.{fieldAt}
-use Rattle.hazards.specs.Refusals.{tooManyCauses, numberOf}
+use Rattle.hazards.specs.Refusals.{tooManyCauses, noFaults, numberOf}
 use Rattle.hazards.specs.declared.answers.Answer.{Answer}
 use Rattle.hazards.specs.declared.refusals.Faults.{Faults}
 use Rattle.hazards.proofs.Cases.{by-test}
@@ -30,7 +30,7 @@ use Rattle.engine.specs.Execution.{OnSlot, refused, done, unlessFull, un
 use Rattle.engine.specs.Execution.{withdraw, requestOf, eventAnswer, withdrawnAnswer, clockOfRequest, target, afterSet}
 use Rattle.engine.specs.Execution.{afterReschedule, afterPause, delivered, performCreate, performSet, performRemove}
 use Rattle.engine.specs.Execution.{performReschedule, performResume, performPause, performDeliver, performOn}
-use Rattle.engine.specs.Commands.{byteAt, clockOf, createFaults}
+use Rattle.engine.specs.Commands.{byteAt, clockOf, createFaults, setFaults, causeFaults, rescheduleFaults, pauseFaults, faultsOf}
 use Rattle.engine.specs.Commands.{createdClock, settingOf, nowOf, censorOf}
 use Rattle.engine.specs.ExecutionInternals.{Countable}
 use Rattle.engine.specs.declared.queue.Pick.{Pick}
@@ -378,3 +378,37 @@ module _ (stream : List ℕ) (n : ℕ) (slot : ClockSlot) (p : SharedState) (c :
   unfolding performOn
   on-rest {code} e a b d f g h =
       rw (← e, ne-eqb code 1 a, ne-eqb code 2 b, ne-eqb code 3 d, ne-eqb code 4 f, ne-eqb code 5 g, ne-eqb code 6 h)
+
+  -- 4 to 7 come before every other refusal of a command
+  abbrev faultsBy : Bool → Bool → Bool → Bool → Bool → Bool → Faults
+  faultsBy a b d e f g =
+      cond a (createFaults c)
+      (cond b (setFaults c)
+      (cond d (causeFaults c)
+      (cond e (rescheduleFaults c) (cond f (pauseFaults c) (cond g (rescheduleFaults c) noFaults)))))
+
+  abbrev performBy : Bool → Bool → Bool → Bool → Bool → Bool → OnSlot
+  performBy a b d e f g =
+      cond a (performCreate n slot p c)
+      (cond b (performSet stream n slot p c)
+      (cond d (performRemove n slot p c)
+      (cond e (performReschedule n slot p c)
+      (cond f (performPause n slot p c) (cond g (performResume n slot p c) (performDeliver n slot p c))))))
+
+  faults-first : (a b d e f g : Bool) → (numberOf (faultsBy a b d e f g) ≡ 0 → ⊥)
+      → performBy a b d e f g ≡ refused (numberOf (faultsBy a b d e f g))
+  unfolding performCreate performSet performRemove performReschedule performPause performResume
+  faults-first true b d e f g h = sym (faults-met (createFaults c) refl _ h)
+  faults-first false true d e f g h = sym (faults-met (setFaults c) refl _ h)
+  faults-first false false true e f g h = sym (faults-met (causeFaults c) refl _ h)
+  faults-first false false false true f g h = sym (faults-met (rescheduleFaults c) refl _ h)
+  faults-first false false false false true g h = sym (faults-met (pauseFaults c) refl _ h)
+  faults-first false false false false false true h = sym (faults-met (rescheduleFaults c) refl _ h)
+  faults-first false false false false false false h = absurd (h refl)
+
+  pub faulty-refused : (numberOf (faultsOf c) ≡ 0 → ⊥) → performOn stream n slot p c ≡ refused (numberOf (faultsOf c))
+  unfolding performOn faultsOf
+  faulty-refused =
+      let code = byteAt c 0 in
+      faults-first (eqb code commands.create) (eqb code commands.set) (eqb code commands.remove) (eqb code commands.reschedule)
+      (eqb code commands.pause) (eqb code commands.resume)
