@@ -120,7 +120,7 @@ impl Session {
     pub fn undo(&mut self) -> bool {
         self.end_groups();
         let count = self.next_undo().len();
-        self.push_group((0..count).map(|_| Command::Undo));
+        self.push_group(&Command::Undo.to_bytes().repeat(count));
         count > 0
     }
 
@@ -128,15 +128,15 @@ impl Session {
     /// Returns whether there was one.
     pub fn redo(&mut self) -> bool {
         self.end_groups();
-        let step: Vec<Command> = self.next_redo().into_iter().cloned().collect();
-        let count = step.len();
-        self.push_group(step);
-        count > 0
+        let step = self.next_redo().into_iter();
+        let step: Vec<u8> = step.flat_map(Command::to_bytes).collect();
+        self.push_group(&step);
+        !step.is_empty()
     }
 
-    fn push_group(&mut self, commands: impl IntoIterator<Item = Command>) {
+    fn push_group(&mut self, commands: &[u8]) {
         self.begin_group();
-        self.extend(commands);
+        self.push_raw(commands);
         self.end_group();
     }
 
