@@ -103,6 +103,13 @@ impl Session {
         self.group_list().first_step(undone)
     }
 
+    /// The commands that [`Session::redo`] would give again, step after step, in this order.
+    pub fn undone(&self) -> impl Iterator<Item = &Command> {
+        let run = self.run();
+        let undone = run.undone_next_first().filter(|_| run.end.is_none());
+        undone.filter_map(|(step, _)| step.input.command())
+    }
+
     /// Whether [`Session::undo`] would take anything back.
     #[must_use]
     pub fn can_undo(&self) -> bool {

@@ -3,7 +3,7 @@
 
 mod common;
 
-use common::{Random, any_command, likely_command, thresholds_only};
+use common::{Random, any_command, likely_command, likely_session, thresholds_only};
 use olgaemuri::{Command, Input, Session};
 
 /// All that a session tells, as words, since a NaN in a refused command is not equal to itself.
@@ -60,10 +60,10 @@ fn step(session: &mut Session, random: &mut Random) {
 #[test]
 fn the_outcome_is_that_of_a_new_session() {
     let mut random = Random(2026);
-    let (mut applied, mut ended) = (0, 0);
+    let (mut accepted, mut ended) = (0, 0);
     for _ in 0..300 {
         let journal = random.flip().then(|| random.below(900) as usize);
-        let mut session = thresholds_only(&mut random);
+        let mut session = likely_session(&mut random, 20);
         if let Some(length) = journal {
             session = session.with_journal_length(length);
         }
@@ -78,9 +78,10 @@ fn the_outcome_is_that_of_a_new_session() {
                 ended += 1;
             }
         }
-        applied += session.run().applied().len();
+        let answers = session.run().answers();
+        accepted += answers.filter(|answer| answer.is_accepted()).count();
     }
-    assert!(applied > 1500 && ended > 300, "{applied} {ended}");
+    assert!(accepted > 3000 && ended > 200, "{accepted} {ended}");
 }
 
 /// A command that comes byte by byte is cut short until it is whole.
