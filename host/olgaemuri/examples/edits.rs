@@ -32,7 +32,7 @@ fn press(clock: u8) -> Vec<Command> {
 fn edit(number: u32) -> Command {
     let (clock, now) = ((number % 16) as u8, f64::from(number / 32));
     let (censor, priority) = (None, 0);
-    if number / 16 % 2 == 0 {
+    if (number / 16).is_multiple_of(2) {
         Command::Resume {
             clock,
             now,

@@ -116,11 +116,11 @@ class Engine:
 
     def undo_last(self, count: int) -> int:
         """Takes so many commands back, or all that there are, and returns how many. It costs no more than one undo."""
+        if count == 1:
+            return int(self.undo().refusal is None)
         applied = self.applied
         count = min(count, len(applied))
-        if count == 1:
-            self.undo()
-        elif count > 1:
+        if count > 0:
             self._open(self._length, b"".join(command.to_bytes() for command in applied[:-count]))
         return count
 
