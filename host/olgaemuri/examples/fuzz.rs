@@ -1,5 +1,6 @@
 //! `fuzz SEED SECONDS`: random texts, bytes and histories of edits through the crate for so long. Nothing may panic; what is read
-//! is written and read again the same; after undo and redo a session looks as before. Prints how much was tried.
+//! is written and read again the same; after undo and redo a session looks as before, and at the end as a new one with its list. Prints
+//! how much was tried.
 
 #[path = "../tests/common/mod.rs"]
 mod common;
@@ -135,5 +136,7 @@ fn histories(random: &mut Random) -> u64 {
             }
         }
     }
+    let anew = session.with_thresholds(session.thresholds());
+    assert_eq!(look(&session), look(&anew));
     50
 }

@@ -28,6 +28,14 @@ pub struct Answer {
 }
 
 impl Answer {
+    /// A refusal.
+    pub(crate) fn refused(refusal: Refusal) -> Self {
+        Self {
+            refusal: Some(refusal),
+            ..Self::default()
+        }
+    }
+
     /// Whether the command was accepted.
     #[must_use]
     pub fn is_accepted(&self) -> bool {

@@ -1,10 +1,11 @@
-//! What the applied commands and their answers tell of a clock.
+//! What the applied commands and their answers tell of the clocks, command by command and back.
 
 use crate::answer::Answer;
 use crate::choices::{Policy, Tie};
 use crate::command::{Command, Entity};
 use crate::hazard::Hazard;
-use crate::ledger::Account;
+use crate::ledger::{Account, Pending};
+use std::mem::replace;
 
 /// A cause of a clock, as it was last set.
 #[derive(Clone, Debug, PartialEq)]
@@ -20,7 +21,7 @@ pub struct Cause {
     pub set_at: f64,
 }
 
-/// A clock that is present. Thresholds, and how much of them is used up, stay in the engine.
+/// A clock that is present. Thresholds, and how much of them is used up, an [`Engine`](crate::Engine) tells.
 #[derive(Clone, Debug, PartialEq)]
 #[non_exhaustive]
 pub struct Clock {
@@ -71,8 +72,8 @@ impl Clock {
         })
     }
 
-    /// Follows an accepted command on this clock.
-    pub(crate) fn follow(&mut self, command: &Command, answer: &Answer) {
+    /// Follows an accepted command on this clock, and returns what it changes. So many events were scheduled before, of all clocks.
+    fn follow(&mut self, command: &Command, answer: &Answer, made: u64) -> Change {
         match command {
             Command::Set {
                 cause,
@@ -80,24 +81,134 @@ impl Clock {
                 hazard,
                 now,
                 ..
-            } => {
-                self.causes.retain(|other| other.number != *cause);
-                let place = self.causes.partition_point(|other| other.number < *cause);
-                let hazard = hazard.clone();
-                self.causes.insert(
-                    place,
-                    Cause {
-                        number: *cause,
-                        priority: *priority,
-                        hazard,
-                        set_at: *now,
-                    },
-                );
+            } => self.put(Cause {
+                number: *cause,
+                priority: *priority,
+                hazard: hazard.clone(),
+                set_at: *now,
+            }),
+            Command::Remove { cause, .. } => Change::Cause(*cause, self.take(*cause)),
+            _ => {
+                let before = Change::Schedule(self.active, Box::new(self.events));
+                self.reschedule(command, answer, made);
+                before
             }
-            Command::Remove { cause, .. } => self.causes.retain(|other| other.number != *cause),
-            Command::Reschedule { .. } | Command::Resume { .. } => self.active |= answer.event,
-            Command::Pause { .. } | Command::Deliver => self.active = false,
-            Command::Create { .. } | Command::Undo => {}
         }
     }
+
+    fn reschedule(&mut self, command: &Command, answer: &Answer, made: u64) {
+        self.events.withdraw(answer);
+        match command {
+            Command::Reschedule { now, priority, .. } | Command::Resume { now, priority, .. } => {
+                self.active |= answer.event;
+                let event = self.pending(answer, *now, *priority, made);
+                self.events.make(event);
+            }
+            Command::Pause { .. } => self.active = false,
+            Command::Deliver => {
+                self.active = false;
+                self.events.deliver();
+            }
+            _ => {}
+        }
+    }
+
+    /// The event that an answer schedules.
+    fn pending(&self, answer: &Answer, now: f64, priority: i32, index: u64) -> Option<Pending> {
+        answer.event.then_some(Pending {
+            clock: self.number,
+            ticks: answer.ticks,
+            priority,
+            index,
+            cause: answer.cause,
+            censored: answer.censored,
+            scheduled_at: now,
+            delta: answer.delta,
+        })
+    }
+
+    /// Puts a cause in its place.
+    fn put(&mut self, cause: Cause) -> Change {
+        let number = cause.number;
+        let place = self.causes.partition_point(|other| other.number < number);
+        let there = self.causes.get_mut(place);
+        let before = match there.filter(|other| other.number == number) {
+            Some(there) => Some(Box::new(replace(there, cause))),
+            None => {
+                self.causes.insert(place, cause);
+                None
+            }
+        };
+        Change::Cause(number, before)
+    }
+
+    /// Takes a cause out, where it is there.
+    fn take(&mut self, number: u32) -> Option<Box<Cause>> {
+        let place = self.causes.iter().position(|other| other.number == number);
+        place.map(|place| Box::new(self.causes.remove(place)))
+    }
+}
+
+/// What an applied command has changed: a part of a clock as it was before.
+#[derive(Clone, Debug, PartialEq)]
+pub(crate) struct Before {
+    pub clock: u8,
+    change: Change,
+}
+
+#[derive(Clone, Debug, PartialEq)]
+enum Change {
+    /// There was no clock.
+    Absent,
+    /// A cause, and how it was where it was there.
+    Cause(u32, Option<Box<Cause>>),
+    /// Whether it ran, and its events.
+    Schedule(bool, Box<Account>),
+}
+
+/// Enters an accepted command other than UNDO with its answer. Returns what it changes, as it was.
+pub(crate) fn enter(clocks: &mut Vec<Clock>, command: &Command, answer: &Answer) -> Before {
+    let number = command.clock().unwrap_or_else(|| next_delivered(clocks));
+    let place = clocks.partition_point(|clock| clock.number < number);
+    let change = match Clock::created(command) {
+        Some(clock) => {
+            clocks.insert(place, clock);
+            Change::Absent
+        }
+        None => {
+            let made = clocks.iter().map(|clock| clock.events.made).sum();
+            clocks[place].follow(command, answer, made)
+        }
+    };
+    Before {
+        clock: number,
+        change,
+    }
+}
+
+/// Restores what a command changed.
+pub(crate) fn revert(clocks: &mut Vec<Clock>, before: Before) {
+    let place = clocks.partition_point(|clock| clock.number < before.clock);
+    match before.change {
+        Change::Absent => {
+            clocks.remove(place);
+        }
+        Change::Cause(_, Some(cause)) => {
+            clocks[place].put(*cause);
+        }
+        Change::Cause(number, None) => {
+            clocks[place].take(number);
+        }
+        Change::Schedule(active, events) => {
+            (clocks[place].active, clocks[place].events) = (active, *events);
+        }
+    }
+}
+
+/// The clock of the pending event that a DELIVER takes.
+fn next_delivered(clocks: &[Clock]) -> u8 {
+    let pending = clocks.iter().filter_map(|clock| clock.events.pending);
+    let next = pending.min_by_key(Pending::delivery_order);
+    next.expect("DELIVER is accepted only while an event is pending")
+        .clock
 }

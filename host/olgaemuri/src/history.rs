@@ -103,6 +103,13 @@ impl Session {
         self.group_list().first_step(undone)
     }
 
+    /// The commands that [`Session::redo`] would give again, step after step, in this order.
+    pub fn undone(&self) -> impl Iterator<Item = &Command> {
+        let run = self.run();
+        let undone = run.undone_next_first().filter(|_| run.end.is_none());
+        undone.filter_map(|(step, _)| step.input.command())
+    }
+
     /// Whether [`Session::undo`] would take anything back.
     #[must_use]
     pub fn can_undo(&self) -> bool {
@@ -120,7 +127,7 @@ impl Session {
     pub fn undo(&mut self) -> bool {
         self.end_groups();
         let count = self.next_undo().len();
-        self.push_group((0..count).map(|_| Command::Undo));
+        self.push_group(&Command::Undo.to_bytes().repeat(count));
         count > 0
     }
 
@@ -128,15 +135,15 @@ impl Session {
     /// Returns whether there was one.
     pub fn redo(&mut self) -> bool {
         self.end_groups();
-        let step: Vec<Command> = self.next_redo().into_iter().cloned().collect();
-        let count = step.len();
-        self.push_group(step);
-        count > 0
+        let step = self.next_redo().into_iter();
+        let step: Vec<u8> = step.flat_map(Command::to_bytes).collect();
+        self.push_group(&step);
+        !step.is_empty()
     }
 
-    fn push_group(&mut self, commands: impl IntoIterator<Item = Command>) {
+    fn push_group(&mut self, commands: &[u8]) {
         self.begin_group();
-        self.extend(commands);
+        self.push_raw(commands);
         self.end_group();
     }
 

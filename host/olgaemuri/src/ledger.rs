@@ -1,7 +1,6 @@
 //! The request ledger (document 01's book): pending events and counts, from commands and answers alone.
 
 use crate::answer::Answer;
-use crate::command::{CLOCKS, Command};
 use std::cmp::Reverse;
 
 /// An event that is scheduled and not yet delivered or withdrawn.
@@ -48,94 +47,26 @@ pub struct Account {
     pub pending: Option<Pending>,
 }
 
-/// The clock of a command that was entered, and its account before where the command changes it.
-pub(crate) struct Before {
-    pub clock: u8,
-    account: Option<Box<Account>>,
-}
-
-#[derive(Default)]
-pub(crate) struct Ledger {
-    accounts: [Account; CLOCKS],
-}
-
-impl Ledger {
-    pub fn account(&self, clock: u8) -> Account {
-        self.accounts[usize::from(clock)]
-    }
-
-    /// Enters an accepted command other than UNDO with its answer. Returns the account that it changes, as it was.
-    pub fn enter(&mut self, command: &Command, answer: &Answer) -> Before {
-        let clock = command.clock().unwrap_or_else(|| self.next_delivered());
-        let before = Box::new(self.account(clock));
-        match command {
-            Command::Deliver => self.deliver(clock),
-            Command::Reschedule { now, priority, .. } | Command::Resume { now, priority, .. } => {
-                self.withdraw(clock, answer);
-                self.make(clock, answer, *now, *priority);
-            }
-            Command::Pause { .. } => self.withdraw(clock, answer),
-            Command::Create { .. }
-            | Command::Set { .. }
-            | Command::Remove { .. }
-            | Command::Undo => {
-                return Before {
-                    clock,
-                    account: None,
-                };
-            }
-        }
-        Before {
-            clock,
-            account: Some(before),
-        }
-    }
-
-    /// Restores the account that a command changed.
-    pub fn revert(&mut self, before: Before) {
-        if let Some(account) = before.account {
-            self.accounts[usize::from(before.clock)] = *account;
-        }
-    }
-
-    fn withdraw(&mut self, clock: u8, answer: &Answer) {
+impl Account {
+    /// Takes the pending event out, where the answer says that it was withdrawn.
+    pub(crate) fn withdraw(&mut self, answer: &Answer) {
         if answer.withdrawn {
-            let account = &mut self.accounts[usize::from(clock)];
-            account.withdrawn += 1;
-            account.pending = None;
+            self.withdrawn += 1;
+            self.pending = None;
         }
     }
 
-    fn make(&mut self, clock: u8, answer: &Answer, now: f64, priority: i32) {
-        if !answer.event {
-            return;
+    /// Puts the answer's event in, where there is one.
+    pub(crate) fn make(&mut self, event: Option<Pending>) {
+        if let Some(event) = event {
+            self.made += 1;
+            self.pending = Some(event);
         }
-        let index = self.accounts.iter().map(|account| account.made).sum();
-        let account = &mut self.accounts[usize::from(clock)];
-        account.made += 1;
-        account.pending = Some(Pending {
-            clock,
-            ticks: answer.ticks,
-            priority,
-            index,
-            cause: answer.cause,
-            censored: answer.censored,
-            scheduled_at: now,
-            delta: answer.delta,
-        });
     }
 
-    /// The clock of the pending event that a DELIVER takes.
-    fn next_delivered(&self) -> u8 {
-        let pending = self.accounts.iter().filter_map(|account| account.pending);
-        let next = pending.min_by_key(Pending::delivery_order);
-        next.expect("DELIVER is accepted only while an event is pending")
-            .clock
-    }
-
-    fn deliver(&mut self, clock: u8) {
-        let account = &mut self.accounts[usize::from(clock)];
-        account.pending = None;
-        account.delivered += 1;
+    /// The pending event has come.
+    pub(crate) fn deliver(&mut self) {
+        self.pending = None;
+        self.delivered += 1;
     }
 }

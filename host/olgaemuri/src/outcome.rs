@@ -2,10 +2,10 @@
 
 use crate::answer::Answer;
 use crate::batch;
-use crate::clock::Clock;
-use crate::command::{CLOCKS, Command};
+use crate::clock::{Before, Clock, enter, revert};
+use crate::command::Command;
 use crate::input::Input;
-use crate::ledger::{Before, Ledger, Pending};
+use crate::ledger::Pending;
 use crate::refusal::Refusal;
 
 /// An input with its answer.
@@ -48,8 +48,8 @@ pub struct Outcome {
     pub steps: Vec<Step>,
     /// The clocks that are present, by ascending number.
     pub clocks: Vec<Clock>,
-    /// The places of the applied commands among the steps.
-    applied: Vec<usize>,
+    /// The places of the applied commands among the steps, and what each has changed.
+    applied: Vec<(usize, Before)>,
     /// The undone commands that can be given again, the next one last: their places and those of their UNDOs.
     undone: Vec<(usize, usize)>,
 }
@@ -68,7 +68,7 @@ impl Outcome {
 
     /// The commands that are in force: those accepted and not undone.
     pub fn applied(&self) -> impl DoubleEndedIterator<Item = Applied<'_>> + ExactSizeIterator {
-        self.applied.iter().map(|place| {
+        self.applied.iter().map(|(place, _)| {
             let step = &self.steps[*place];
             Applied {
                 command: step.input.command().expect("an applied step is a command"),
@@ -98,8 +98,8 @@ impl Outcome {
 
     /// The applied commands, the last one first, and where each begins in the list.
     pub(crate) fn applied_last_first(&self) -> impl Iterator<Item = (&Step, usize)> {
-        let steps = self.applied.iter().rev().map(|place| &self.steps[*place]);
-        steps.map(|step| (step, step.begins))
+        let places = self.applied.iter().rev().map(|(place, _)| *place);
+        places.map(|place| (&self.steps[place], self.steps[place].begins))
     }
 
     /// The undone commands that can be given again, the next one first, and where the UNDO of each begins in the list.
@@ -112,102 +112,88 @@ impl Outcome {
     pub(crate) fn of(commands: &[u8], stream: &[u8], journal_length: usize) -> Self {
         let inputs = Input::split(commands);
         let ran = batch::run(commands, inputs.len(), stream, journal_length);
-        let mut walk = Walk::default();
+        let mut outcome = Self::default();
         for (input, answer) in inputs.into_iter().zip(ran.answers()) {
-            walk.enter(input, answer);
+            outcome.enter(input, answer);
         }
-        let mut outcome = walk.outcome;
-        (outcome.end, outcome.bytes_read) = (ran.end, ran.bytes_read);
-        outcome.applied = walk.changes.iter().map(|change| change.0).collect();
-        for (place, _) in walk.changes {
-            outcome.steps[place].applied = true;
-        }
+        debug_assert_eq!((outcome.end, outcome.bytes_read), (ran.end, ran.bytes_read));
         debug_assert!(
             ran.journal
                 .is_none_or(|journal| outcome.is_of_journal(&journal))
         );
-        outcome.clocks = clocks(&outcome);
         outcome
     }
 
     /// Whether the engine's journal holds the applied commands, and zeros behind them.
     fn is_of_journal(&self, journal: &[u8]) -> bool {
-        let applied = self.applied().map(|applied| applied.command.to_bytes());
-        let applied: Vec<u8> = applied.flatten().collect();
-        let rest = journal.strip_prefix(applied.as_slice());
+        let rest = journal.strip_prefix(self.applied_bytes().as_slice());
         rest.is_some_and(|rest| rest.iter().all(|byte| *byte == 0))
     }
-}
 
-/// The steps so far. Undone commands leave the ledger as the engine's UNDO leaves the queue.
-#[derive(Default)]
-struct Walk {
-    outcome: Outcome,
-    ledger: Ledger,
-    /// The places of the commands that are applied, and what each has changed.
-    changes: Vec<(usize, Before)>,
-    /// Where the next input begins.
-    begins: usize,
-}
+    /// The bytes of the applied commands, one after another.
+    pub(crate) fn applied_bytes(&self) -> Vec<u8> {
+        let applied = self.applied().map(|applied| applied.command.to_bytes());
+        applied.flatten().collect()
+    }
 
-impl Walk {
-    fn enter(&mut self, input: Input, answer: Answer) {
-        let mut clock = input.command().and_then(Command::clock);
-        match input.command().filter(|_| answer.is_accepted()) {
-            Some(Command::Undo) => self.undo(),
-            Some(command) => {
-                let before = self.ledger.enter(command, &answer);
-                clock = Some(before.clock);
-                self.changes.push((self.outcome.steps.len(), before));
-                self.give_again(&input);
-            }
-            None => {}
-        }
-        let begins = self.begins;
-        self.begins += input.width();
-        self.outcome.steps.push(Step {
+    /// Where the input begins that comes next in the list.
+    pub(crate) fn answered_bytes(&self) -> usize {
+        let last = self.steps.last();
+        last.map_or(0, |step| step.begins + step.input.width())
+    }
+
+    /// Adds the input that comes next, with its answer. An undone command leaves the clocks as the engine's UNDO leaves the queue.
+    pub(crate) fn enter(&mut self, input: Input, answer: Answer) {
+        let begins = self.answered_bytes();
+        let mut step = Step {
+            clock: input.command().and_then(Command::clock),
+            applied: false,
             input,
             begins,
             answer,
-            clock,
-            applied: false,
-        });
+        };
+        match step.input.command().filter(|_| answer.is_accepted()) {
+            Some(Command::Undo) => self.undo(),
+            Some(command) => {
+                let before = enter(&mut self.clocks, command, &answer);
+                (step.clock, step.applied) = (Some(before.clock), true);
+                self.applied.push((self.steps.len(), before));
+                self.give_again(&step.input);
+            }
+            None => {}
+        }
+        self.end = answer.refusal.filter(|refusal| refusal.ends_a_run());
+        if self.end.is_none() {
+            self.bytes_read += step.input.width() as u64;
+        }
+        self.steps.push(step);
     }
 
     fn undo(&mut self) {
-        let change = self.changes.pop();
-        let (place, before) = change.expect("UNDO is accepted only after a command");
-        self.ledger.revert(before);
-        self.outcome.undone.push((place, self.outcome.steps.len()));
+        let last = self.applied.pop();
+        let (place, before) = last.expect("UNDO is accepted only after a command");
+        revert(&mut self.clocks, before);
+        self.steps[place].applied = false;
+        self.undone.push((place, self.steps.len()));
     }
 
     /// The undone command that comes next is done again by an equal one; by another all that were undone are gone.
     fn give_again(&mut self, input: &Input) {
-        let next = self.outcome.undone.pop();
-        let same = |place: usize| self.outcome.steps[place].input.to_bytes() == input.to_bytes();
+        let next = self.undone.pop();
+        let same = |place: usize| self.steps[place].input.to_bytes() == input.to_bytes();
         if next.is_some_and(|(place, _)| !same(place)) {
-            self.outcome.undone.clear();
+            self.undone.clear();
         }
     }
-}
 
-/// The clocks after the applied commands.
-fn clocks(outcome: &Outcome) -> Vec<Clock> {
-    let mut ledger = Ledger::default();
-    let mut clocks: [Option<Clock>; CLOCKS] = Default::default();
-    for Applied {
-        command,
-        answer,
-        clock,
-    } in outcome.applied()
-    {
-        ledger.enter(command, &answer);
-        let slot = &mut clocks[usize::from(clock)];
-        *slot = Clock::created(command).or(slot.take());
-        if let Some(present) = slot {
-            present.follow(command, &answer);
-            present.events = ledger.account(clock);
+    /// Takes the last step away where it was refused, which has changed nothing. Returns whether it was.
+    pub(crate) fn take_refused(&mut self) -> bool {
+        let last = self.steps.pop_if(|step| !step.answer.is_accepted());
+        if let Some(step) = &last
+            && self.end.take().is_none()
+        {
+            self.bytes_read -= step.input.width() as u64;
         }
+        last.is_some()
     }
-    clocks.into_iter().flatten().collect()
 }

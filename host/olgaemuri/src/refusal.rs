@@ -9,7 +9,7 @@ use std::fmt;
 #[repr(u8)]
 #[non_exhaustive]
 pub enum Refusal {
-    /// 1: the state is not valid. It never comes in a run, which begins with an opened engine.
+    /// 1: the state is not valid. It never comes in a run or of an [`Engine`](crate::Engine), which begin with an opened one.
     InvalidState = 1,
     /// 2: no command has this code. It ends a run.
     UnknownCode = 2,
@@ -33,7 +33,7 @@ pub enum Refusal {
     QueueEmpty = 11,
     /// 12: UNDO while no command is applied.
     NothingApplied = 12,
-    /// 13: the applied commands do not give the present state. It never comes in a run.
+    /// 13: the applied commands do not give the present state. It never comes in a run or of an [`Engine`](crate::Engine).
     NotReplayable = 13,
     /// 14: the command is longer than the free part of the journal.
     JournalFull = 14,
@@ -83,6 +83,11 @@ impl Refusal {
         Self::ALL
             .into_iter()
             .find(|refusal| refusal.number() == number)
+    }
+
+    /// Whether a run ends where an input is refused by it.
+    pub(crate) fn ends_a_run(self) -> bool {
+        matches!(self, Self::UnknownCode | Self::CutShort)
     }
 
     /// Its number.

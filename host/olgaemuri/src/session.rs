@@ -1,19 +1,22 @@
 //! A session: recorded thresholds and a list of commands, run by the proved engine.
 
+use crate::answer::Answer;
 use crate::command::Command;
-use crate::draws::draws;
+use crate::engine::Engine;
 use crate::history::Groups;
 use crate::input::Input;
 use crate::outcome::Outcome;
+use crate::refusal::Refusal;
 use crate::text::MAX_JOURNAL;
 use crate::thresholds::thresholds_to_bytes;
 use std::sync::OnceLock;
 
 /// Recorded thresholds and a list of commands, with an undo button.
 ///
-/// A session keeps the list and gives it to the engine when something is asked that only the engine knows; until the list is
-/// changed the outcome is kept. Running it again gives the same outcome. Two sessions are equal where thresholds, list and journal
-/// length are.
+/// A session keeps the list. When something is asked that only the engine knows, it runs the list once, as a batch. From then on an
+/// [`Engine`] stays open, and each command that is added is given to it alone: a thousand edits, each looked at, cost a thousand
+/// commands. The outcome is at all times the one that a run of the whole list gives. Two sessions are equal where thresholds, list and
+/// journal length are.
 ///
 /// ```
 /// use olgaemuri::{Command, Hazard, Policy, Session, Tie};
@@ -54,9 +57,8 @@ use std::sync::OnceLock;
 ///
 /// # Threads and stack
 ///
-/// Sessions are `Send` and `Sync`, and runs in several threads do not disturb each other. A run needs less than 256 KiB of stack,
-/// whatever the session holds; that is measured, not proved. All other memory is allocated, some 32 bytes for each command beside
-/// what the outcome holds.
+/// Sessions are `Send` and `Sync`, and runs in several threads do not disturb each other. A run needs less than 64 KiB of stack,
+/// whatever the session holds; that is measured, not proved. All other memory is allocated.
 ///
 /// # Panics
 ///
@@ -69,7 +71,8 @@ pub struct Session {
     groups: Groups,
     /// What is known of the list as it is.
     outcome: OnceLock<Outcome>,
-    draws: OnceLock<usize>,
+    /// An engine that was given the outcome's applied commands.
+    engine: OnceLock<Engine>,
 }
 
 impl Session {
@@ -95,7 +98,7 @@ impl Session {
     /// there is room for all.
     #[must_use]
     pub fn with_journal_length(mut self, length: usize) -> Self {
-        self.changed();
+        self.forget();
         self.journal_length = Some(length);
         self
     }
@@ -128,8 +131,15 @@ impl Session {
 
     /// Adds thresholds behind those that are there. A command that was refused by 15 may be accepted then.
     pub fn push_thresholds(&mut self, thresholds: &[f64]) {
-        self.changed();
         self.thresholds.extend_from_slice(thresholds);
+        let exhausted = |answer: &Answer| answer.refusal == Some(Refusal::StreamExhausted);
+        let run = self.outcome.get();
+        if run.is_some_and(|run| run.answers().any(exhausted)) {
+            self.forget();
+        }
+        if let Some(engine) = self.engine.get_mut() {
+            engine.push_thresholds(thresholds);
+        }
     }
 
     /// Adds a command at the end of the list.
@@ -139,15 +149,24 @@ impl Session {
 
     /// Adds any bytes at the end of the list. They may be commands, or none: a run ends where no whole command begins.
     pub fn push_raw(&mut self, bytes: &[u8]) {
-        self.changed();
         self.commands.extend_from_slice(bytes);
+        self.answer_rest();
     }
 
     /// Takes the end of the list away, leaving that many bytes. Unlike [`Session::undo`] it takes refused commands and UNDOs away too.
+    /// Where accepted ones are among it, the next run is one of the whole list.
     pub fn truncate(&mut self, bytes: usize) {
-        self.changed();
         self.commands.truncate(bytes);
         self.groups.truncate(bytes);
+        let Some(outcome) = self.outcome.get_mut() else {
+            return;
+        };
+        let length = self.commands.len();
+        while outcome.answered_bytes() > length && outcome.take_refused() {}
+        if outcome.answered_bytes() > length {
+            self.forget();
+        }
+        self.answer_rest();
     }
 
     /// The thresholds.
@@ -180,7 +199,7 @@ impl Session {
         self.journal_length.unwrap_or(self.commands.len())
     }
 
-    /// Opens an engine and runs the list. Where nothing was changed since the last run, that one's outcome is there already.
+    /// What the list gives. It is run at the first call; later ones find the outcome, which [`Session::push`] goes on with.
     #[must_use]
     pub fn run(&self) -> &Outcome {
         self.outcome.get_or_init(|| {
@@ -191,17 +210,47 @@ impl Session {
         })
     }
 
-    /// How many thresholds the applied commands have drawn; the next draw takes the one at this place. Under the policy retain it
-    /// may take a second run to know it.
+    /// How many thresholds the applied commands have drawn; the next draw takes the one at this place.
     #[must_use]
     pub fn draws(&self) -> usize {
-        let found = || draws(self.run(), &self.thresholds);
-        *self.draws.get_or_init(found)
+        self.engine().draw_position()
     }
 
-    /// Forgets the outcome of the list as it was.
-    fn changed(&mut self) {
-        (self.outcome, self.draws) = (OnceLock::new(), OnceLock::new());
+    /// The engine that stays open, made where there is none yet.
+    fn engine(&self) -> &Engine {
+        self.engine.get_or_init(|| {
+            let longest = self.journal_length.unwrap_or(usize::MAX);
+            Engine::with_applied(&self.thresholds, longest, &self.run().applied_bytes())
+        })
+    }
+
+    /// Gives the engine what the list has behind the inputs that are answered, where an outcome is known. Bytes that were no whole
+    /// command may be one with those behind them.
+    fn answer_rest(&mut self) {
+        if self
+            .outcome
+            .get()
+            .is_none_or(|run| run.end.is_none() && run.answered_bytes() == self.commands.len())
+        {
+            return;
+        }
+        self.engine();
+        let (Some(outcome), Some(engine)) = (self.outcome.get_mut(), self.engine.get_mut()) else {
+            return;
+        };
+        if outcome.end.is_some() {
+            outcome.take_refused();
+        }
+        let inputs = Input::split(&self.commands[outcome.answered_bytes()..]);
+        let answers = engine.answers(&inputs);
+        for (input, answer) in inputs.into_iter().zip(answers) {
+            outcome.enter(input, answer);
+        }
+    }
+
+    /// Forgets what is known of the list.
+    fn forget(&mut self) {
+        (self.outcome, self.engine) = (OnceLock::new(), OnceLock::new());
     }
 
     pub(crate) fn groups(&mut self) -> &mut Groups {
@@ -231,6 +280,7 @@ impl Extend<Command> for Session {
 mod tests {
     use super::*;
     use crate::batch::counted::runs;
+    use crate::engine::counted::commands;
 
     /// A press that is due at tick 40, under this policy.
     fn press(policy: &str) -> Session {
@@ -241,33 +291,93 @@ mod tests {
         text.parse().unwrap()
     }
 
+    fn line(text: &str) -> Command {
+        text.parse().unwrap()
+    }
+
     #[test]
-    fn each_run_is_one_run_of_the_engine() {
+    fn there_is_one_run_and_then_a_command_for_each_edit() {
         let mut session = press("retain");
         assert_eq!(runs(|| session.run().pending()), 1);
-        let looked_at = || {
-            let (undo, redo) = (session.can_undo(), session.can_redo());
-            (undo, redo, session.run().clocks.len(), session.draws())
-        };
-        assert_eq!(runs(looked_at), 0);
-        assert_eq!(looked_at(), (true, false, 1, 1));
-        session.push(Command::Pause { clock: 0, now: 1.0 });
-        assert_eq!(runs(|| session.undo()), 1);
-        assert_eq!(runs(|| session.run().pending()), 1);
-        assert_eq!(runs(|| session.redo()), 0);
-        assert_eq!(runs(|| session.run().pending()), 1);
-        assert_eq!(runs(|| session.clone().run().pending()), 0);
+        let ran_again = runs(|| {
+            // the engine is made of the three commands that are in force
+            assert_eq!(commands(|| session.draws()), 3);
+            assert_eq!(commands(|| session.draws()), 0);
+            assert_eq!(commands(|| session.push(line("pause machine=0 now=1"))), 1);
+            assert_eq!(commands(|| session.run().pending()), 0);
+            assert_eq!(commands(|| session.undo()), 1);
+            assert_eq!(commands(|| session.redo()), 1);
+            assert_eq!(commands(|| session.clone().run().pending()), 0);
+            // refused, and taken away
+            let length = session.commands().len();
+            assert_eq!(
+                commands(|| session.push(line("remove machine=1 cause=1"))),
+                1
+            );
+            assert_eq!(commands(|| session.truncate(length)), 0);
+            assert_eq!(session.run().steps.len(), 6);
+        });
+        assert_eq!(ran_again, 0);
     }
 
     /// SET of a cause that is there draws under the policy retain only where its threshold is used up.
     #[test]
-    fn only_draws_that_are_not_sure_take_a_second_run() {
-        for (policy, more) in [("restart", 0), ("retain", 1)] {
+    fn no_draws_take_a_second_run() {
+        for (policy, draws) in [("restart", 2), ("retain", 1)] {
             let mut session = press(policy);
-            session.push("set machine=0 cause=1 now=1 hazard=zero".parse().unwrap());
-            assert_eq!(runs(|| session.run().pending()), 1);
-            assert_eq!(runs(|| session.draws()), more);
-            assert_eq!(runs(|| session.draws()), 0);
+            session.push(line("set machine=0 cause=1 now=1 hazard=zero"));
+            assert_eq!(runs(|| session.draws()), 1);
+            assert_eq!(session.draws(), draws);
         }
+    }
+
+    #[test]
+    fn edits_that_are_looked_at_one_by_one() {
+        let mut session = press("restart");
+        let pending = session.run().pending();
+        let edits = 10_000;
+        let mut given = 0;
+        let ran = runs(|| {
+            given = commands(|| {
+                for _ in 0..edits {
+                    session.push(line("reschedule machine=0 now=0"));
+                    assert_eq!(session.run().pending()[0].ticks, pending[0].ticks);
+                }
+            });
+        });
+        // each once, those before when the engine is made, and all in force at each doubling of the journal
+        assert_eq!(ran, 0);
+        assert!(given < 4 * edits, "{given}");
+        assert_eq!(session.run().steps.len(), 3 + edits);
+    }
+
+    /// Commands that are undone together are undone by one replay.
+    #[test]
+    fn a_group_is_undone_at_the_cost_of_one_command() {
+        let mut session = press("restart");
+        let before = session.run().clone();
+        session.begin_group();
+        (0..100).for_each(|_| session.push(line("reschedule machine=0 now=0")));
+        session.end_group();
+        assert_eq!(commands(|| session.undo()), 3);
+        assert_eq!(session.run().clocks, before.clocks);
+        assert_eq!(commands(|| session.redo()), 100);
+    }
+
+    #[test]
+    fn thresholds_are_added_without_a_run_unless_one_was_missing() {
+        let mut session = press("restart");
+        session.push(line("set machine=0 cause=2 now=0 hazard=zero"));
+        assert_eq!(session.draws(), 2);
+        assert_eq!(runs(|| session.push_thresholds(&[4.0])), 0);
+        assert_eq!(
+            runs(|| session.push(line("set machine=0 cause=3 now=0 hazard=zero"))),
+            0
+        );
+        session.push(line("set machine=0 cause=4 now=0 hazard=zero"));
+        assert_eq!(session.run().applied().len(), 5);
+        session.push_thresholds(&[5.0]);
+        assert_eq!(runs(|| session.draws()), 1);
+        assert_eq!((session.run().applied().len(), session.draws()), (6, 4));
     }
 }

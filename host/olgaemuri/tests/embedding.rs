@@ -1,8 +1,19 @@
-//! The program that the README shows to those who embed the engine: it ends without a failed assertion.
+//! The programs that the README shows to those who embed the engine: they end without a failed assertion.
 
-include!("../examples/embed.rs");
+mod embed {
+    include!("../examples/embed.rs");
 
-#[test]
-fn it_runs_to_its_end() {
-    main();
+    #[test]
+    fn it_runs_to_its_end() {
+        main();
+    }
+}
+
+mod engine {
+    include!("../examples/engine.rs");
+
+    #[test]
+    fn it_runs_to_its_end() {
+        main();
+    }
 }

@@ -2,7 +2,8 @@
 
 ``run`` gives a list of commands to a newly opened engine and returns every answer. ``Session`` is for editing: it takes commands one by
 one, raises ``Refused`` where the engine refuses one, and has undo and redo, also of several commands as one step. Rows are lists of
-dicts, which ``pandas.DataFrame`` takes as they are. ``rate_for_wait`` gives the constant rate for a breakdown on a known day.
+dicts, which ``pandas.DataFrame`` takes as they are. ``Engine`` is what stays open under it: answers with refusals among them, and all
+that the state holds. ``rate_for_wait`` gives the constant rate for a breakdown on a known day.
 
     >>> import olgaemuri as om
     >>> session = om.Session([2.0, 1.0])     # the thresholds that causes will draw
@@ -25,6 +26,7 @@ from .batch import Outcome, Step, run
 from .choices import Policy, Refusal, Tie
 from .commands import Command, Create, Deliver, Pause, Raw, Remove, Reschedule, Resume, Set, Undo, split
 from .container import load, loads
+from .engine import CauseState, ClockState, Engine, Request
 from .hazards import Constant, Gompertz, Hazard, Pair, PiecewiseConstant, Zero
 from .layout import ANSWER_BYTES, CLOCKS, MAX_CAUSES, MAX_PAIRS, NO_CAUSE
 from .ledger import Event
@@ -33,7 +35,8 @@ from .refused import Refused
 from .session import NothingToRedo, Session
 
 __all__ = [
-    "ANSWER_BYTES", "Answer", "CLOCKS", "Command", "Constant", "Create", "Deliver", "Event", "Gompertz", "Hazard", "MAX_CAUSES",
-    "MAX_PAIRS", "NO_CAUSE", "NothingToRedo", "Outcome", "Pair", "Pause", "PiecewiseConstant", "Policy", "Raw", "Refusal", "Refused",
-    "Remove", "Reschedule", "Resume", "Session", "Set", "Step", "Tie", "Undo", "Zero", "load", "loads", "rate_for_wait", "run", "split",
+    "ANSWER_BYTES", "Answer", "CLOCKS", "CauseState", "ClockState", "Command", "Constant", "Create", "Deliver", "Engine", "Event",
+    "Gompertz", "Hazard", "MAX_CAUSES", "MAX_PAIRS", "NO_CAUSE", "NothingToRedo", "Outcome", "Pair", "Pause", "PiecewiseConstant",
+    "Policy", "Raw", "Refusal", "Refused", "Remove", "Request", "Reschedule", "Resume", "Session", "Set", "Step", "Tie", "Undo", "Zero",
+    "load", "loads", "rate_for_wait", "run", "split",
 ]

@@ -8,6 +8,11 @@ THRESHOLD_BYTES = 8
 ANSWER_BYTES = 32
 RESULT_BYTES = 16
 
+# A state: rows of eight words and rows of eight floats.
+ROW = 8
+STATE_WORD_ROWS = 177
+STATE_FLOAT_ROWS = 400
+
 # The cause of a censored event. No cause that is set may have this number.
 NO_CAUSE = 0xFFFFFFFF
 

@@ -1,4 +1,4 @@
-"""The engine's shared library: made from the static one by gcc, and its two functions.
+"""The engine's shared library: made from the static one by gcc, and its nine functions.
 
 OLGAEMURI_SHARED names a finished shared library instead; OLGAEMURI_LIB_DIR the folder with the static one.
 """
@@ -13,13 +13,25 @@ import tempfile
 from functools import lru_cache
 from pathlib import Path
 
-# The crate that the static library is made of, which names the archive, and the functions that it exports: five buffers, each a pointer
-# and a length; a threshold, a wait and where the rate goes. Both return a number.
+from . import structs
+
+# The crate that the static library is made of, which names the archive, and the functions that it exports: what each returns, and its
+# parameters. A buffer is a pointer and a length; rows of a state are a pointer and their number.
 CRATE = "olgaemuri"
 ARCHIVE = f"lib{CRATE}.a"
+_BUFFER = [ctypes.c_char_p, ctypes.c_size_t]
+_WORDS = _FLOATS = [ctypes.c_void_p, ctypes.c_size_t]
+_PLACE = [ctypes.c_size_t]
 SYMBOLS = {
-    "olgaemuri_run": [ctypes.c_char_p, ctypes.c_size_t] * 5,
-    "olgaemuri_rate_for_wait": [ctypes.c_double, ctypes.c_double, ctypes.POINTER(ctypes.c_double)],
+    "olgaemuri_run": (ctypes.c_uint8, _BUFFER * 5),
+    "olgaemuri_open": (ctypes.c_uint8, _WORDS + _FLOATS + _BUFFER),
+    "olgaemuri_execute": (ctypes.c_uint8, _WORDS + _FLOATS + _BUFFER * 4),
+    "olgaemuri_applied": (ctypes.c_uint8, _WORDS + _PLACE + [ctypes.POINTER(ctypes.c_uint64)]),
+    "olgaemuri_counts": (structs.Counts, _WORDS),
+    "olgaemuri_request": (structs.Request, _WORDS + _PLACE),
+    "olgaemuri_clock": (structs.Clock, _WORDS + _FLOATS + _PLACE),
+    "olgaemuri_cause": (structs.Cause, _WORDS + _FLOATS + _PLACE * 2),
+    "olgaemuri_rate_for_wait": (ctypes.c_uint8, [ctypes.c_double, ctypes.c_double, ctypes.POINTER(ctypes.c_double)]),
 }
 
 SHARED = "libolgaemuri.so"
@@ -66,13 +78,12 @@ def path() -> Path:
 def function(symbol: str):
     """The function with this name, to be called from Python."""
     found = getattr(ctypes.CDLL(str(path())), symbol)
-    found.argtypes = SYMBOLS[symbol]
-    found.restype = ctypes.c_uint8
+    found.restype, found.argtypes = SYMBOLS[symbol]
     return found
 
 
 def call(commands: bytes, stream: bytes, journal_length: int, answers_length: int, result_length: int) -> tuple:
-    """The number that ended the run, then journal, answers and result. Other threads run meanwhile; a run needs 256 KiB of stack."""
+    """The number that ended the run, then journal, answers and result. Other threads run meanwhile; a run needs 64 KiB of stack."""
     lengths = (journal_length, answers_length, result_length)
     # no buffer is at NULL, not even an empty one
     buffers = [ctypes.create_string_buffer(max(length, 1)) for length in lengths]

@@ -10,6 +10,7 @@ from .answer import Answer
 from .batch import Outcome, run, thresholds_bytes
 from .choices import Refusal
 from .commands import Command, Raw, Undo, check
+from .engine import ClockState, Engine, Request
 from .refused import Refused
 
 
@@ -20,10 +21,11 @@ class NothingToRedo(Exception):
 class Session:
     """Recorded thresholds and the commands given so far.
 
-    The engine is opened anew for each call and given the whole list; ``extend`` gives many commands in one call. Undo is the
-    engine's own, so what is undone is what the engine says. A step is what one undo takes back: one ``execute``, or all that is
-    executed in a ``group``. Sessions share nothing, so different ones may be used in different threads. ``thresholds`` are floats or
-    their bytes, as ``load`` gives them; ``commands`` are typed: ``split`` makes them of bytes.
+    An engine stays open, and each command is given to it alone; ``queue`` and ``clocks`` tell what it holds. Rows and ``outcome`` are of
+    the whole list, which is run for them. Undo is the engine's own, so what is undone is what the engine says. A step is what one undo
+    takes back: one ``execute``, or all that is executed in a ``group``. Sessions share nothing, so different ones may be used in
+    different threads, but one session is for one call at a time. ``thresholds`` are floats or their bytes, as ``load`` gives them;
+    ``commands`` are typed: ``split`` makes them of bytes.
     """
 
     def __init__(
@@ -31,6 +33,7 @@ class Session:
     ):
         self._thresholds = [value for value, in struct.iter_unpack("<d", thresholds_bytes(thresholds))]
         self._journal_length = journal_length
+        self._engine = Engine(self._thresholds, journal_length)
         self._outcome: Optional[Outcome] = None
         self._list: list[Command] = []  # every command accepted, Undo among them
         self._done: list[list[Command]] = []  # the steps in force
@@ -52,8 +55,21 @@ class Session:
     def outcome(self) -> Outcome:
         """What the engine says to the whole list."""
         if self._outcome is None:
-            self._outcome = self._run(self._list)
+            self._outcome = run(self._list, self._thresholds, self._journal_length)
         return self._outcome
+
+    def queue(self) -> list[Request]:
+        """The events that are scheduled, in the order in which Deliver would take them."""
+        return self._engine.queue()
+
+    def clocks(self) -> list[ClockState]:
+        """The clocks that are present with their causes, by ascending number."""
+        return self._engine.clocks()
+
+    @property
+    def draws(self) -> int:
+        """How many thresholds the commands in force have drawn."""
+        return self._engine.draw_position
 
     def execute(self, command: Command) -> Answer:
         """Gives a command to the engine and returns its answer. Raises ``Refused`` where it is refused; then nothing has changed.
@@ -63,7 +79,7 @@ class Session:
         return self.extend([command])[0]
 
     def extend(self, commands: Iterable[Command]) -> list[Answer]:
-        """Executes several commands in one run of the engine, each a step of its own. One refused refuses all of them."""
+        """Executes several commands, each a step of its own. One refused refuses all of them."""
         if isinstance(commands, (bytes, bytearray, memoryview)):
             raise TypeError("a session executes typed commands, not bytes: `split` makes them of bytes")
         commands = list(commands)
@@ -92,6 +108,7 @@ class Session:
             yield
         except BaseException:
             length, self._undone = before
+            self._engine.undo_last(len(self._list) - length)
             del self._list[length:]
             self._outcome = None
             raise
@@ -126,7 +143,8 @@ class Session:
         self._outside()
         if not self._done:
             raise Refused(Refusal.NOTHING_APPLIED, Undo())
-        self._given([Undo()] * len(self._done[-1]))
+        count = self._engine.undo_last(len(self._done[-1]))
+        self._keep([Undo()] * count)
         self._undone.append(self._done.pop())
         return self.next_redo
 
@@ -155,15 +173,19 @@ class Session:
         if self._group is not None:
             raise RuntimeError("undo and redo take whole steps: close the group first")
 
-    def _run(self, commands: list[Command]) -> Outcome:
-        return run(commands, self._thresholds, self._journal_length)
-
     def _given(self, commands: list[Command]) -> list[Answer]:
-        """Runs the list with these behind it and keeps them, if none is refused."""
-        outcome = self._run(self._list + commands)
-        for step in outcome.steps[len(self._list):]:
-            if step.answer.refusal is not None:
-                raise Refused(step.answer.refusal, step.command)
+        """Gives these to the engine and keeps them, if none is refused."""
+        given = [command.to_bytes() for command in commands]
+        answers: list[Answer] = []
+        for command, bytes_given in zip(commands, given):
+            answer = self._engine.execute_raw(bytes_given)
+            if answer.refusal is not None:
+                self._engine.undo_last(len(answers))
+                raise Refused(answer.refusal, command)
+            answers.append(answer)
+        self._keep(commands)
+        return answers
+
+    def _keep(self, commands: list[Command]) -> None:
         self._list += commands
-        self._outcome = outcome
-        return outcome.answers[len(self._list) - len(commands):]
+        self._outcome = None

@@ -62,7 +62,7 @@ struct Place {
 
 /// The two lists, what is to be said of them, and in how many places they differ.
 fn side_by_side(left: &Report, right: &Report, width: Option<usize>) -> (String, usize) {
-    let lists = [breakdowns(&left.events), breakdowns(&right.events)];
+    let lists = [breakdowns(left.events()), breakdowns(right.events())];
     let longest = lists[0].len().max(lists[1].len());
     let places: Vec<Place> = (0..longest)
         .map(|index| {

@@ -33,8 +33,8 @@ impl Csv {
     pub fn write(self, report: &Report, out: &mut dyn Write) -> io::Result<()> {
         match self {
             Self::Answers => write_answers(report, out),
-            Self::Events => write_events(&report.events, report.names(), out),
-            Self::Breakdowns => write_events(&breakdowns(&report.events), report.names(), out),
+            Self::Events => write_events(report.events(), report.names(), out),
+            Self::Breakdowns => write_events(&breakdowns(report.events()), report.names(), out),
         }
     }
 }

@@ -60,10 +60,13 @@ pub fn write_json(report: &Report, out: &mut dyn Write) -> io::Result<()> {
     let rows = report.rows().map(|row| row_object(&row, names));
     write_array(out, "answers", rows)?;
     writeln!(out, ",")?;
-    let events = report.events.iter().map(|event| event_object(event, names));
+    let events = report
+        .events()
+        .iter()
+        .map(|event| event_object(event, names));
     write_array(out, "events", events)?;
     writeln!(out, ",")?;
-    let list = breakdowns(&report.events);
+    let list = breakdowns(report.events());
     let list = list.iter().map(|event| event_object(event, names));
     write_array(out, "breakdowns", list)?;
     writeln!(out, "\n}}")

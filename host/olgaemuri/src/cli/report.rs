@@ -1,8 +1,10 @@
 //! A session that was run: each command with its line, its answer and whether it was undone.
 
 use super::events::{Event, events};
-use olgaemuri::text::Names;
+use super::wording::refused_words;
+use olgaemuri::text::{Item, Line, Names, Reader};
 use olgaemuri::{Command, Outcome, Session, SessionText, Step};
+use std::sync::OnceLock;
 
 /// One input with its answer. Rows are numbered from 1.
 #[derive(Clone, Copy, Debug)]
@@ -27,23 +29,98 @@ struct Mark {
 pub struct Report {
     pub text: SessionText,
     pub session: Session,
-    pub events: Vec<Event>,
     marks: Vec<Mark>,
+    /// The rows of the commands in force.
+    applied: Vec<usize>,
+    events: OnceLock<Vec<Event>>,
 }
 
 impl Report {
     /// Runs a session.
     pub fn new(text: SessionText) -> Self {
-        let session = text.session();
-        let outcome = session.run();
-        let lines = text.lines_of(outcome.steps.iter().map(|step| &step.input));
-        let (marks, events) = (marks(&outcome.steps, &lines), events(outcome));
-        Self {
+        let mut report = Self {
+            session: text.session(),
             text,
-            session,
-            events,
-            marks,
+            marks: Vec::new(),
+            applied: Vec::new(),
+            events: OnceLock::new(),
+        };
+        report.mark(0);
+        report
+    }
+
+    /// Adds lines to a session in which every command is accepted; or tells why one would be refused then, and adds nothing.
+    pub fn add(&mut self, lines: Vec<Line>, reader: &Reader) -> Result<(), String> {
+        let is_journal = |line: &Line| matches!(line.item, Some(Item::Journal(_)));
+        if lines.iter().any(is_journal) {
+            return self.add_journal(lines, reader);
         }
+        let (known, length) = (self.given(), self.session.commands().len());
+        for thresholds in lines
+            .iter()
+            .filter_map(|line| line.item.as_ref()?.thresholds())
+        {
+            self.session.push_thresholds(thresholds);
+        }
+        let items = lines.iter().filter_map(|line| line.item.as_ref());
+        let bytes: Vec<u8> = items.flat_map(Item::bytes).collect();
+        self.session.push_raw(&bytes);
+        if let Some(refused) = self.outcome().steps[known..].iter().find_map(refused_words) {
+            self.session.truncate(length);
+            return Err(refused);
+        }
+        let lines_before = self.text.lines().len();
+        for line in lines {
+            self.text.push(line, reader);
+        }
+        self.mark(lines_before);
+        Ok(())
+    }
+
+    /// The same with a line that chooses the journal's length, which earlier commands may exceed: all are run anew.
+    fn add_journal(&mut self, lines: Vec<Line>, reader: &Reader) -> Result<(), String> {
+        let mut text = self.text.clone();
+        for line in lines {
+            text.push(line, reader);
+        }
+        let report = Self::new(text);
+        match report.outcome().steps.iter().find_map(refused_words) {
+            Some(refused) => Err(refused),
+            None => {
+                *self = report;
+                Ok(())
+            }
+        }
+    }
+
+    /// Marks the steps that have no mark yet; they begin behind so many lines.
+    fn mark(&mut self, lines_before: usize) {
+        let steps = &self.session.run().steps[self.marks.len()..];
+        let inputs = steps.iter().map(|step| &step.input);
+        let lines = self.text.lines_behind(lines_before, inputs);
+        for (step, line) in steps.iter().zip(lines) {
+            let number = self.marks.len() + 1;
+            let mut undoes = None;
+            match step.input.command().filter(|_| step.answer.is_accepted()) {
+                Some(Command::Undo) => undoes = self.applied.pop(),
+                Some(_) => self.applied.push(number),
+                None => {}
+            }
+            if let Some(undone) = undoes {
+                self.marks[undone - 1].undone_by = Some(number);
+            }
+            self.marks.push(Mark {
+                line,
+                undone_by: None,
+                undoes,
+            });
+        }
+        self.events = OnceLock::new();
+    }
+
+    /// The events that the commands in force have scheduled.
+    pub fn events(&self) -> &[Event] {
+        self.events.get_or_init(|| events(self.outcome()))
     }
 
     pub fn outcome(&self) -> &Outcome {
@@ -60,7 +137,12 @@ impl Report {
     }
 
     pub fn rows(&self) -> impl Iterator<Item = Row<'_>> {
-        (1..=self.given()).map(|number| self.row(number))
+        self.rows_behind(0)
+    }
+
+    /// The rows behind so many.
+    pub fn rows_behind(&self, known: usize) -> impl Iterator<Item = Row<'_>> {
+        (known + 1..=self.given()).map(|number| self.row(number))
     }
 
     /// The row with this number, which is one of them.
@@ -96,26 +178,4 @@ impl Report {
     pub fn unread(&self) -> u64 {
         self.session.commands().len() as u64 - self.outcome().bytes_read
     }
-}
-
-fn marks(steps: &[Step], lines: &[usize]) -> Vec<Mark> {
-    let mut marks: Vec<Mark> = Vec::with_capacity(steps.len());
-    let mut applied = Vec::new();
-    for ((step, line), number) in steps.iter().zip(lines).zip(1..) {
-        let mut undoes = None;
-        match step.input.command().filter(|_| step.answer.is_accepted()) {
-            Some(Command::Undo) => undoes = applied.pop(),
-            Some(_) => applied.push(number),
-            None => {}
-        }
-        if let Some(undone) = undoes {
-            marks[undone - 1].undone_by = Some(number);
-        }
-        marks.push(Mark {
-            line: *line,
-            undone_by: None,
-            undoes,
-        });
-    }
-    marks
 }

@@ -10,7 +10,7 @@ use std::io::{self, Write};
 /// Writes everything that `run` prints, in at most so many columns where that is said.
 pub fn write_report(report: &Report, most: Option<usize>, out: &mut dyn Write) -> io::Result<()> {
     write_answers(report, most, out)?;
-    let list = breakdowns(&report.events);
+    let list = breakdowns(report.events());
     let table = breakdown_table(&list, report.names(), most);
     let summary = summary(report);
     let lines = summary

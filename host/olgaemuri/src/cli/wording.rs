@@ -146,11 +146,16 @@ pub fn ends_run(refusal: Refusal) -> bool {
     matches!(refusal, Refusal::UnknownCode | Refusal::CutShort)
 }
 
+/// By which number a step was refused, and why; none where it was accepted.
+pub fn refused_words(step: &Step) -> Option<String> {
+    why(step).map(|why| format!("refused by {}: {why}", step.answer.number()))
+}
+
 /// A row's answer as a sentence.
 pub fn told(report: &Report, row: &Row) -> String {
     let answer = &row.step.answer;
-    if let Some(why) = why(row.step) {
-        return format!("refused by {}: {why}", answer.number());
+    if let Some(refused) = refused_words(row.step) {
+        return refused;
     }
     if let Some(undone) = row.undoes {
         return format!("took back: {}", report.row(undone).step.input);

@@ -61,6 +61,15 @@ impl Item {
             _ => 0,
         }
     }
+
+    /// The thresholds that the line gives, where it gives any.
+    #[must_use]
+    pub fn thresholds(&self) -> Option<&[f64]> {
+        match self {
+            Self::Thresholds(values) | Self::ThresholdsFrom(_, values) => Some(values),
+            _ => None,
+        }
+    }
 }
 
 impl From<Input> for Item {

@@ -91,10 +91,7 @@ impl SessionText {
     /// The thresholds of all lines.
     #[must_use]
     pub fn thresholds(&self) -> Vec<f64> {
-        let values = self.items().filter_map(|item| match item {
-            Item::Thresholds(values) | Item::ThresholdsFrom(_, values) => Some(values),
-            _ => None,
-        });
+        let values = self.items().filter_map(Item::thresholds);
         values.flatten().copied().collect()
     }
 
@@ -111,7 +108,17 @@ impl SessionText {
     /// The line, from 1, in which each of these inputs of the list begins.
     #[must_use]
     pub fn lines_of<'a>(&self, inputs: impl Iterator<Item = &'a Input>) -> Vec<usize> {
-        let numbered = self.lines.iter().zip(1..);
+        self.lines_behind(0, inputs)
+    }
+
+    /// The same for the inputs that begin behind so many lines.
+    #[must_use]
+    pub fn lines_behind<'a>(
+        &self,
+        lines: usize,
+        inputs: impl Iterator<Item = &'a Input>,
+    ) -> Vec<usize> {
+        let numbered = self.lines.iter().zip(1..).skip(lines);
         let ends = numbered.scan(0, |end, (line, number)| {
             *end += line.item.as_ref().map_or(0, Item::width);
             Some((*end, number))

@@ -67,13 +67,16 @@ fn without_layout(program: &str) -> String {
         .replace(",}", "}")
 }
 
-/// The program itself is run by tests/embedding.rs.
+/// The programs themselves are run by tests/embedding.rs.
 #[test]
-fn the_rust_program_is_the_one_that_is_tested() {
+fn the_rust_programs_are_those_that_are_tested() {
     let shown = blocks_in(README, "rust");
-    assert_eq!(shown.len(), 1);
-    let tested = text_of("host/olgaemuri/examples/embed.rs");
-    assert_eq!(without_layout(&shown[0]), without_layout(&tested));
+    let tested =
+        ["embed", "engine"].map(|name| text_of(&format!("host/olgaemuri/examples/{name}.rs")));
+    assert_eq!(shown.len(), tested.len());
+    for (shown, tested) in shown.iter().zip(&tested) {
+        assert_eq!(without_layout(shown), without_layout(tested));
+    }
 }
 
 #[test]

@@ -6,6 +6,7 @@ mod commands;
 mod common;
 mod document;
 mod headings;
+mod lent;
 mod limits;
 mod order;
 mod rates;

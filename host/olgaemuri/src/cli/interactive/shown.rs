@@ -8,7 +8,7 @@ use crate::cli::wording::told;
 /// What lines did: the answers behind this many rows, with the commands where these are done again; or that they were noted, where
 /// they are no commands.
 pub fn answers(report: &Report, known: usize, again: bool) -> String {
-    let answers = report.rows().skip(known).map(|row| {
+    let answers = report.rows_behind(known).map(|row| {
         let told = told(report, &row);
         match (again, told.as_str()) {
             (false, _) => told,

@@ -2,11 +2,10 @@
 
 use super::shown;
 use crate::cli::report::Report;
-use crate::cli::wording::{counted, told};
+use crate::cli::wording::counted;
 use olgaemuri::Command;
 use olgaemuri::text::{Item, Line, Reader, Source, visible};
 use std::io::{self, Write};
-use std::mem::replace;
 
 pub struct Typed<'a> {
     pub report: Report,
@@ -99,13 +98,10 @@ impl<'a> Typed<'a> {
         let Some(times) = self.times(times)? else {
             return Ok(());
         };
-        let mut session = self.report.session.clone();
-        let mut lines = Vec::new();
-        while lines.len() < times && session.can_redo() {
-            let next = session.next_redo().into_iter().cloned();
-            lines.extend(next.map(|command| Line::from(Item::Command(command))));
-            session.redo();
-        }
+        let undone = self.report.session.undone().take(times).cloned();
+        let lines: Vec<Line> = undone
+            .map(|command| Line::from(Item::Command(command)))
+            .collect();
         match lines.len() {
             0 => self.say("nothing to do again; nothing has changed"),
             found if found < times => {
@@ -130,19 +126,13 @@ impl<'a> Typed<'a> {
         Ok(times)
     }
 
-    /// Runs the session with more lines, and keeps them if nothing is refused then.
+    /// Adds lines to the session, and keeps them if nothing is refused then.
     fn attempt(&mut self, lines: Vec<Line>, again: bool) -> io::Result<bool> {
-        let mut text = self.report.text.clone();
-        for line in lines {
-            text.push(line, &self.reader);
-        }
-        let report = Report::new(text);
-        let refused = report.rows().find(|row| !row.step.answer.is_accepted());
-        if let Some(row) = refused {
-            self.say(&format!("{}; nothing has changed", told(&report, &row)))?;
+        let known = self.report.given();
+        if let Err(refused) = self.report.add(lines, &self.reader) {
+            self.say(&format!("{refused}; nothing has changed"))?;
             return Ok(false);
         }
-        let known = replace(&mut self.report, report).given();
         self.changed = true;
         let answers = shown::answers(&self.report, known, again);
         self.say(&answers)?;

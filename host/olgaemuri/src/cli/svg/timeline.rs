@@ -45,7 +45,7 @@ impl<'a> Timeline<'a> {
     pub fn new(report: &'a Report) -> Self {
         let clocks = &report.outcome().clocks;
         let last = last_command_time(report.outcome());
-        let end = end_time(&report.events, last);
+        let end = end_time(report.events(), last);
         let names = clocks
             .iter()
             .map(|clock| lane_name(clock.number, report.names()));
@@ -60,7 +60,7 @@ impl<'a> Timeline<'a> {
                 left,
                 width: WIDTH - left - RIGHT,
             },
-            palette: Palette::new(&report.events),
+            palette: Palette::new(report.events()),
             last,
             left,
             lanes: clocks
@@ -87,7 +87,7 @@ impl<'a> Timeline<'a> {
             .map(|time| self.axis_mark(time));
         let spans = spans(self.report.outcome(), self.axis.end);
         let bars = spans.iter().map(|span| self.bar(span));
-        let marks = drawing_order(&self.report.events).map(|event| self.mark(event));
+        let marks = drawing_order(self.report.events()).map(|event| self.mark(event));
         let labels = lanes().map(|(machine, centre)| self.labels(machine, centre));
         let parts = names
             .chain(grid)
@@ -97,7 +97,7 @@ impl<'a> Timeline<'a> {
             .chain(labels);
         let top = self.bottom + 64.0;
         let (legend, height) = legend(
-            &self.report.events,
+            self.report.events(),
             &self.palette,
             self.names,
             (MARGIN, WIDTH - MARGIN),
@@ -191,7 +191,7 @@ impl<'a> Timeline<'a> {
     fn labels(&self, machine: u8, centre: f64) -> String {
         let events = self
             .report
-            .events
+            .events()
             .iter()
             .filter(|event| event.machine == machine);
         let shown = events
