@@ -2,7 +2,8 @@
 // are 1, 6, 10, 23, 33 or 156; the commands before it stay, and so do the bytes behind it.
 use crate::session;
 use crate::tally::Tally;
-use engine::state::EngineState;
+use engine::state_rows::STATE_FLOATS;
+use engine::state_rows::STATE_WORDS;
 
 // The session's bytes up to a place, then zero up to its end, then A5 hex.
 fn journal_after(applied: usize) -> [u8; 300] {
@@ -16,33 +17,38 @@ fn journal_after(applied: usize) -> [u8; 300] {
     journal
 }
 
-// The state after the whole session.
-fn played(stream: &[u8]) -> EngineState {
+// The state after the whole session, in the rows.
+fn play(words: &mut [[u64; 8]], floats: &mut [[f64; 8]], stream: &[u8]) {
     let commands = session::commands();
     let mut journal = [0x5au8; 300];
-    let mut state = engine::opening::open(&mut journal);
+    engine::opening::open(words, floats, &mut journal);
     let mut i: usize = 0;
     while i < session::COMMANDS {
         let at = session::place(i);
-        let executed = engine::execute::execute(state, stream, &mut journal, &commands[at..]);
-        state = executed.state;
+        engine::execute::execute(words, floats, stream, &mut journal, &commands[at..]);
         i += 1;
     }
-    state
 }
 
 pub fn try_all() -> Tally {
     let stream = session::stream();
-    let mut state = played(&stream);
+    let mut words = [[0u64; 8]; STATE_WORDS];
+    let mut floats = [[0.0; 8]; STATE_FLOATS];
+    play(&mut words, &mut floats, &stream);
     let mut journal = journal_after(session::place(session::COMMANDS));
     let mut tally = Tally::new();
     let mut left: usize = session::COMMANDS;
     while left > 0 {
         left -= 1;
-        let executed = engine::execute::execute(state, &stream, &mut journal, b"\x08");
-        state = executed.state;
+        let answer = engine::execute::execute(
+            &mut words,
+            &mut floats,
+            &stream,
+            &mut journal,
+            b"\x08",
+        );
         let due = journal_after(session::place(left));
-        let accepted = executed.answer.number == 0;
+        let accepted = answer.number == 0;
         let right = accepted & check::same(&journal, &due);
         if !right {
             crate::report::print_command(left as u64);

@@ -1,6 +1,6 @@
 // A step's answer, draw position and clock, compared with the expected ones.
+ghost use Rattle.clocks.specs.Layout.{Sized};
 use crate::steps::Played;
-use clocks::clocks::SurvivalClock;
 use hazards::answers::ANSWER_WIDTH;
 use hazards::fields::put_u64;
 
@@ -25,17 +25,20 @@ fn answer_agrees(played: Played, case: &[u8]) -> bool {
 }
 
 // The clock after a step, as the list has it.
-fn clock_agrees(clock: SurvivalClock, case: &[u8]) -> bool {
+fn clock_agrees(words: &[[u64; 8]], floats: &[[f64; 8]], case: &[u8]) -> bool
+    requires { ⌜ Sized (now words) (now floats) ⌝ }
+{
     let mut out = [0u8; CLOCK_WIDTH];
-    engine_probe::clock_encoding::put_clock(&mut out, 0, clock);
+    crate::clock_record::put_clock(&mut out, words, floats);
     if case.len() < STEP_WIDTH {
         return false;
     }
     check::same(&out, &case[CLOCK_PLACE..STEP_WIDTH])
 }
 
-pub fn agrees(played: Played, case: &[u8]) -> bool {
+pub fn agrees(words: &[[u64; 8]], floats: &[[f64; 8]], played: Played, case: &[u8]) -> bool
+    requires { ⌜ Sized (now words) (now floats) ⌝ }
+{
     let answer = answer_agrees(played, case);
-    let clock = played.clock;
-    answer & clock_agrees(clock, case)
+    answer & clock_agrees(words, floats, case)
 }

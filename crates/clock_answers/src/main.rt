@@ -2,9 +2,13 @@
 // unchanged Rust has them, and says how many steps there are and how many differ. The list's layout, and how it was made, are in
 // host/README.md.
 mod agreement;
+mod clock_record;
 mod steps;
 
 ghost use Prim.Native.Nat.{_≤_};
+use clocks::layout::CLOCK_FLOATS;
+use clocks::layout::CLOCK_WORDS;
+use clocks::ticks::Ticks;
 use libc::STDOUT_FILENO;
 
 fn one_unless(agrees: bool) -> u64
@@ -21,7 +25,9 @@ struct Count {
 
 fn replay(fd: i32, stream: &[u8]) -> Count {
     let mut case = [0u8; agreement::STEP_WIDTH];
-    let mut played = steps::start();
+    let mut words = [[0u64; 8]; CLOCK_WORDS];
+    let mut floats = [[0.0; 8]; CLOCK_FLOATS];
+    let mut ticks = Ticks { low: 0, high: 0 };
     let mut cases: u64 = 0;
     let mut differing: u64 = 0;
     let mut left: u64 = 1000000;
@@ -29,9 +35,10 @@ fn replay(fd: i32, stream: &[u8]) -> Count {
         if io::read_full(fd, &mut case) < agreement::STEP_WIDTH {
             break;
         }
-        played = steps::play(played, &case, stream);
+        let played = steps::play(&mut words, &mut floats, ticks, &case, stream);
+        ticks = played.ticks;
         cases += 1;
-        differing += one_unless(agreement::agrees(played, &case));
+        differing += one_unless(agreement::agrees(&words, &floats, played, &case));
         left -= 1;
     }
     Count { cases, differing }

@@ -1,136 +1,175 @@
-// One step of a clock, decoded from its command's bytes.
-use clocks::clocks::SurvivalClock;
+// One step of a clock, decoded from its command's bytes and done in the clock's rows.
+ghost use Rattle.clocks.specs.Layout.{Sized};
+use clocks::clocks::EntityId;
+use clocks::clocks::policy_of;
+use clocks::scheduling::QueueChange;
 use clocks::scheduling::RealizedEvent;
-use clocks::scheduling::Rescheduled;
 use clocks::ticks::Ticks;
+use engine::commands::CAUSE_FIELD;
+use engine::commands::CREATE;
+use engine::commands::ENTITY_INDEX_FIELD;
+use engine::commands::GENERATION_FIELD;
+use engine::commands::HAS_ENTITY_FIELD;
+use engine::commands::NOW_FIELD;
+use engine::commands::PAUSE;
+use engine::commands::POLICY_FIELD;
+use engine::commands::PROCESS_FIELD;
+use engine::commands::REMOVE;
+use engine::commands::RESCHEDULE;
+use engine::commands::RESUME;
+use engine::commands::SCALE_FIELD;
+use engine::commands::SET;
+use engine::commands::TIE_FIELD;
 use engine::commands::censor_of;
-use engine::commands::created_clock;
 use engine::commands::setting_of;
 use hazards::answers::Answer;
+use hazards::answers::no_event;
 use hazards::fields::f64_at;
 use hazards::fields::u8_at;
 use hazards::fields::u32_at;
 use hazards::fields::u64_at;
+use hazards::ties::tie_breaker;
 
-// A clock, the ticks of its pending request, and the answer and draw position of its last step.
+// Where a step's requests so far and its draw position stand.
+const REQUESTS_FIELD: usize = 156;
+
+const POSITION_FIELD: usize = 164;
+
+// The ticks of the clock's pending request, and the answer and draw position of its last step.
 pub struct Played {
-    pub clock: SurvivalClock,
     pub ticks: Ticks,
     pub answer: Answer,
     pub position: usize,
 }
 
-pub fn start() -> Played {
-    let clock = created_clock(b"");
-    Played {
-        clock,
-        ticks: Ticks { low: 0, high: 0 },
-        answer: hazards::answers::no_event(0),
-        position: 0,
-    }
-}
-
-// The answer to a step: what was realized, what was withdrawn, and the ticks of the request.
+// What was realized, what was withdrawn, and the ticks of the request.
 fn answer_of(event: RealizedEvent, withdrawn: bool, ticks: Ticks) -> Answer {
-    let mut answer = hazards::answers::no_event(0);
-    answer.withdrawn = withdrawn;
-    if event.present {
-        answer.event = true;
-        answer.censored = event.is_censored;
-        answer.cause = event.winning_cause;
-        answer.delta = event.delta_time;
-        answer.ticks_low = ticks.low;
-        answer.ticks_high = ticks.high;
+    Answer {
+        number: 0,
+        event: event.present,
+        censored: event.is_censored,
+        withdrawn,
+        cause: event.winning_cause,
+        delta: event.delta_time,
+        ticks_low: ticks.low,
+        ticks_high: ticks.high,
     }
-    answer
 }
 
-fn after_schedule(r: Rescheduled, position: usize) -> Played {
-    let clock = r.clock;
-    let ticks = r.ticks;
-    let answer = answer_of(r.event, r.withdrawn.present, ticks);
+fn create(words: &mut [[u64; 8]], floats: &mut [[f64; 8]], case: &[u8])
+    requires { ⌜ Sized (now words) (now floats) ⌝ }
+{
+    let entity = EntityId {
+        index: u64_at(case, ENTITY_INDEX_FIELD),
+        generation: u32_at(case, GENERATION_FIELD),
+    };
+    let policy = policy_of(u8_at(case, POLICY_FIELD));
+    let tie = tie_breaker(u8_at(case, TIE_FIELD));
+    clocks::clocks::create(
+        words,
+        floats,
+        u64_at(case, PROCESS_FIELD),
+        u8_at(case, HAS_ENTITY_FIELD) == 1,
+        entity,
+        policy,
+        tie,
+        f64_at(case, SCALE_FIELD),
+    );
+}
+
+fn after_schedule(change: QueueChange, position: usize) -> Played {
+    let ticks = change.ticks;
+    let answer = answer_of(change.event, change.withdrawn.present, ticks);
     Played {
-        clock,
         ticks,
         answer,
         position,
     }
 }
 
-fn after_set(
-    clock: SurvivalClock,
+fn idle(number: u8, ticks: Ticks, position: usize) -> Played {
+    Played {
+        ticks,
+        answer: no_event(number),
+        position,
+    }
+}
+
+fn after_pause(withdrawn: bool, ticks: Ticks, position: usize) -> Played {
+    let mut answer = no_event(0);
+    answer.withdrawn = withdrawn;
+    Played {
+        ticks,
+        answer,
+        position,
+    }
+}
+
+fn after_delivery(event: RealizedEvent, ticks: Ticks, position: usize) -> Played {
+    Played {
+        ticks,
+        answer: answer_of(event, false, ticks),
+        position,
+    }
+}
+
+// A step that schedules nothing: CREATE, SET or REMOVE.
+fn change(
+    words: &mut [[u64; 8]],
+    floats: &mut [[f64; 8]],
     ticks: Ticks,
     case: &[u8],
     stream: &[u8],
-    position: usize,
-) -> Played {
-    let set = clocks::setting::set_channel(clock, setting_of(case), stream, position);
-    let after = set.clock;
-    Played {
-        clock: after,
-        ticks,
-        answer: hazards::answers::no_event(set.number),
-        position: set.position,
-    }
-}
-
-fn after_pause(clock: SurvivalClock, ticks: Ticks, now: f64, position: usize) -> Played {
-    let paused = clocks::scheduling::pause(clock, now);
-    let after = paused.clock;
-    let nothing = RealizedEvent {
-        present: false,
-        winning_cause: 0,
-        delta_time: 0.0,
-        is_censored: false,
-    };
-    Played {
-        clock: after,
-        ticks,
-        answer: answer_of(nothing, paused.withdrawn.present, ticks),
-        position,
-    }
-}
-
-fn after_delivery(clock: SurvivalClock, ticks: Ticks, position: usize) -> Played {
-    let dispatched = clocks::scheduling::on_event_dispatched(clock);
-    let after = dispatched.clock;
-    Played {
-        clock: after,
-        ticks,
-        answer: answer_of(dispatched.event, false, ticks),
-        position,
-    }
-}
-
-fn idle(clock: SurvivalClock, ticks: Ticks, position: usize) -> Played {
-    Played {
-        clock,
-        ticks,
-        answer: hazards::answers::no_event(0),
-        position,
-    }
-}
-
-pub fn play(played: Played, case: &[u8], stream: &[u8]) -> Played {
-    let clock = played.clock;
-    let ticks = played.ticks;
-    let index = u64_at(case, 156);
-    let position = u64_at(case, 164) as usize;
-    let now = f64_at(case, 2);
+) -> Played
+    requires { ⌜ Sized (now words) (now floats) ⌝ }
+{
+    let position = u64_at(case, POSITION_FIELD) as usize;
     let code = u8_at(case, 0);
     match code {
-        1 => idle(created_clock(case), ticks, position),
-        2 => after_set(clock, ticks, case, stream, position),
-        3 => idle(clock.remove_channel(u32_at(case, 2)), ticks, position),
-        4 => after_schedule(
-            clocks::scheduling::reschedule(clock, now, censor_of(case), index),
-            position,
-        ),
-        5 => after_pause(clock, ticks, now, position),
-        6 => after_schedule(
-            clocks::scheduling::resume(clock, now, censor_of(case), index),
-            position,
-        ),
-        _ => after_delivery(clock, ticks, position),
+        CREATE => create(words, floats, case),
+        SET => {
+            let setting = setting_of(case);
+            let set = clocks::setting::set_channel(words, floats, setting, stream, position);
+            return idle(set.number, ticks, set.position);
+        }
+        _ => clocks::clocks::remove_channel(words, floats, u32_at(case, CAUSE_FIELD)),
+    }
+    idle(0, ticks, position)
+}
+
+pub fn play(
+    words: &mut [[u64; 8]],
+    floats: &mut [[f64; 8]],
+    ticks: Ticks,
+    case: &[u8],
+    stream: &[u8],
+) -> Played
+    requires { ⌜ Sized (now words) (now floats) ⌝ }
+{
+    let code = u8_at(case, 0);
+    if code <= REMOVE {
+        return change(words, floats, ticks, case, stream);
+    }
+    let index = u64_at(case, REQUESTS_FIELD);
+    let position = u64_at(case, POSITION_FIELD) as usize;
+    let time = f64_at(case, NOW_FIELD);
+    let censor = censor_of(case);
+    match code {
+        RESCHEDULE => {
+            let asked = clocks::scheduling::reschedule(words, floats, time, censor, index);
+            after_schedule(asked, position)
+        }
+        RESUME => {
+            let asked = clocks::scheduling::resume(words, floats, time, censor, index);
+            after_schedule(asked, position)
+        }
+        PAUSE => {
+            let withdrawn = clocks::scheduling::pause(words, floats, time);
+            after_pause(withdrawn.present, ticks, position)
+        }
+        _ => {
+            let event = clocks::scheduling::on_event_dispatched(words, floats);
+            after_delivery(event, ticks, position)
+        }
     }
 }

@@ -140,26 +140,25 @@ noCause = record {
   rates = replicate 8 z;
 }
 
-unfoldable pub causeWhere : Bool → HazardChannelState → CauseFields
-causeWhere used c =
-    cond used
-    (record {
-      found = true;
-      kind = kindNumber (c .hazard);
-      cause = c .«cause_id»;
-      priority = c .priority;
-      pairs = c .intervals .count;
-      rate = ownRate (c .hazard);
-      accumulated = c .«accumulated_hazard»;
-      threshold = c .«target_threshold»;
-      «interval_start» = c .«interval_start_time»;
-      ends = c .intervals .ends;
-      rates = c .intervals .rates;
-    })
-    noCause
+abbrev pub causeOf : HazardChannelState → CauseFields
+causeOf c = record {
+  found = true;
+  kind = kindNumber (c .hazard);
+  cause = c .«cause_id»;
+  priority = c .priority;
+  pairs = c .intervals .count;
+  rate = ownRate (c .hazard);
+  accumulated = c .«accumulated_hazard»;
+  threshold = c .«target_threshold»;
+  «interval_start» = c .«interval_start_time»;
+  ends = c .intervals .ends;
+  rates = c .intervals .rates;
+}
+
+-- of a clock that is present, at a place that is used
+unfoldable pub causeIn : Bool → SurvivalClock → ℕ → CauseFields
+causeIn present k j =
+    cond (present && ltb j (min (k .«channel_count») 8)) (causeOf (getD (k .channels) j emptyChannel)) noCause
 
 unfoldable pub causeFields : WordRows → FloatRows → ℕ → ℕ → CauseFields
-causeFields w f k j =
-    let slot = slotAt (stateFrom w f) k in
-    causeWhere (hasSizes w f && (slot .present && ltb j (min (slot .clock .«channel_count») 8)))
-    (getD (slot .clock .channels) j emptyChannel)
+causeFields w f k j = causeIn (hasSizes w f && slotAt (stateFrom w f) k .present) (slotAt (stateFrom w f) k .clock) j

@@ -4,8 +4,8 @@ ghost use mathlib.Core.Path.{_≡_};
 ghost use Prim.Native.Nat.{_<_};
 ghost use lib.ListN.{length};
 ghost use Rattle.clocks.specs.Layout.{Sized, clockFrom, presentIn};
-ghost use Rattle.olgaemuri.specs.Inspection.{noCounts, countsOf, appliedOf, applied, noRequest, queuedRequest, noClock};
-ghost use Rattle.olgaemuri.specs.Inspection.{clockWhere, clockFields, noCause, causeWhere, causeFields};
+ghost use Rattle.olgaemuri.specs.Inspection.{countsOf, appliedOf, applied, noRequest, queuedRequest, noClock};
+ghost use Rattle.olgaemuri.specs.Inspection.{clockWhere, clockFields, noCause, causeOf, causeIn, causeFields};
 use clocks::channels::HazardChannelState;
 use clocks::layout::ACTIVE;
 use clocks::layout::CLOCK_FLOATS;
@@ -260,7 +260,7 @@ fn no_cause() -> CauseFields
 }
 
 fn channel_fields(c: HazardChannelState) -> CauseFields
-    ensures { λ r. ⌜ r ≡ causeWhere true c ⌝ }
+    ensures { λ r. ⌜ r ≡ causeOf c ⌝ }
 {
     let hazard = c.hazard;
     let ends = c.intervals.ends;
@@ -280,6 +280,21 @@ fn channel_fields(c: HazardChannelState) -> CauseFields
     }
 }
 
+// The cause at a place of a clock in its own rows.
+fn own_cause<'a>(words: &'a [[u64; 8]], floats: &'a [[f64; 8]], place: usize) -> CauseFields
+    requires { ⌜ Sized (now words) (now floats) ⌝ }
+    ensures { λ r. ⌜ r ≡ causeIn (presentIn (now (words .entry))) (clockFrom (now (words .entry)) (now (floats .entry))) place ⌝ }
+{
+    let settings = words[SETTINGS];
+    if settings[PRESENT] != 1 {
+        return no_cause();
+    }
+    if place >= at_most_eight(settings[COUNT] as usize) {
+        return no_cause();
+    }
+    channel_fields(clocks::channels::channel_at(words, floats, place))
+}
+
 // The cause at a place of a clock, in ascending order.
 pub fn cause_fields<'a>(
     words: &'a [[u64; 8]],
@@ -289,19 +304,20 @@ pub fn cause_fields<'a>(
 ) -> CauseFields
     ensures { λ r. ⌜ r ≡ causeFields (now (words .entry)) (now (floats .entry)) clock place ⌝ }
 {
-    let fields = clock_fields(words, floats, clock);
-    if !fields.found {
+    if words.len() != STATE_WORDS {
         return no_cause();
     }
-    if place >= at_most_eight(fields.causes as usize) {
+    if floats.len() != STATE_FLOATS {
+        return no_cause();
+    }
+    if clock >= CLOCKS {
         return no_cause();
     }
     let w = CLOCK_WORDS * clock;
     let f = CLOCK_FLOATS * clock;
-    let channel = clocks::channels::channel_at(
+    own_cause(
         &words[w..w + CLOCK_WORDS],
         &floats[f..f + CLOCK_FLOATS],
         place,
-    );
-    channel_fields(channel)
+    )
 }

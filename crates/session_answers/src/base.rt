@@ -1,5 +1,4 @@
 // What is tampered with: the journal with four commands on clock 0, the stream, and the state that commands give.
-use engine::state::EngineState;
 use hazards::fields::put_f64;
 use hazards::fields::put_u8;
 
@@ -39,28 +38,32 @@ fn put_piecewise(bytes: &mut [u8]) {
     put_f64(bytes, 233, 5.0);
 }
 
-// CREATE, two SETs and RESCHEDULE: 368 bytes of the 400.
-pub fn journal() -> [u8; 400] {
-    let mut bytes = [0u8; 400];
-    put_create(&mut bytes);
-    put_constant(&mut bytes);
-    put_piecewise(&mut bytes);
-    put_u8(&mut bytes, 345, engine::commands::RESCHEDULE);
-    bytes
-}
-
-// The state that so many of the commands give.
-pub fn state<'a>(commands: &'a [u8], stream: &'a [u8], count: usize) -> EngineState {
+// The rows become the state that the first `count` of the commands give from opening.
+pub fn give(
+    words: &mut [[u64; 8]],
+    floats: &mut [[f64; 8]],
+    commands: &[u8],
+    stream: &[u8],
+    count: usize,
+) {
     let mut journal = [0x5Au8; 400];
-    let mut state = engine::opening::open(&mut journal);
+    engine::opening::open(words, floats, &mut journal);
     let mut at: usize = 0;
     let mut left = count;
     while left > 0 {
         let input = crate::commands::rest_from(commands, at);
-        let executed = engine::execute::execute(state, stream, &mut journal, input);
-        state = executed.state;
+        engine::execute::execute(words, floats, stream, &mut journal, input);
         at = crate::commands::place_after(commands, at);
         left -= 1;
     }
-    state
+}
+
+// CREATE, two SETs and RESCHEDULE: 368 bytes of the 400, and the state that they give.
+pub fn play(words: &mut [[u64; 8]], floats: &mut [[f64; 8]], journal: &mut [u8], stream: &[u8]) {
+    engine::journal::clear(journal, 400);
+    put_create(journal);
+    put_constant(journal);
+    put_piecewise(journal);
+    put_u8(journal, 345, engine::commands::RESCHEDULE);
+    give(words, floats, journal, stream, 4);
 }

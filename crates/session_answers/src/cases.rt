@@ -1,66 +1,76 @@
 // The tampered states and journals by number: first those that state validation refuses, then those that UNDO refuses by 13.
-use crate::changes::with_shared;
+ghost use Prim.Native.Nat.{_≤_};
+use crate::changes;
 use crate::invalid_states;
 use crate::other_journals;
 use crate::other_states;
-use engine::state::EngineState;
+use crate::uncoded_states;
+use engine::state_rows::STATE_FLOATS;
+use engine::state_rows::STATE_WORDS;
 
-// A state with its journal.
-pub struct Handed {
-    pub state: EngineState,
-    pub journal: [u8; 400],
-}
+// Invalid, uncoded and of another size.
+const UNCODED: u64 = invalid_states::CASES;
 
-pub const CASES: u64 = 52;
+const SIZES: u64 = UNCODED + uncoded_states::CASES;
+
+const REFUSED_BY_1: u64 = SIZES + 4;
+
+// Another state, another journal, and the older rule's.
+const JOURNALS: u64 = REFUSED_BY_1 + other_states::CASES;
+
+const OLDER_RULE: u64 = JOURNALS + other_journals::CASES;
+
+pub const CASES: u64 = OLDER_RULE + 1;
 
 // The number that is due.
 pub fn number_of(case: u64) -> u8 {
-    if case < invalid_states::CASES { 1 } else { 13 }
+    if case < REFUSED_BY_1 { 1 } else { 13 }
 }
 
-// An UNDO after the command that it would revert: together they would give the present state.
-fn with_appended_undo(base: Handed) -> Handed {
-    let state = base.state;
-    let mut shared = state.shared;
-    shared.applied_length = 392;
-    let tampered = with_shared(state, shared);
-    let applied = base.journal;
-    let journal = other_journals::with_undo(applied);
-    Handed {
-        state: tampered,
-        journal,
+// How many rows of words are lent: a state's, one fewer or one more.
+pub fn word_rows(case: u64) -> usize
+    ensures { λ r. ⌜ r ≤ 178 ⌝ }
+{
+    if case == SIZES {
+        return STATE_WORDS - 1;
     }
+    if case == SIZES + 1 {
+        return STATE_WORDS + 1;
+    }
+    STATE_WORDS
 }
 
-fn other(case: u64, base: Handed) -> Handed {
-    let state = base.state;
-    let journal = base.journal;
+// The same of floats.
+pub fn float_rows(case: u64) -> usize
+    ensures { λ r. ⌜ r ≤ 401 ⌝ }
+{
+    if case == SIZES + 2 {
+        return STATE_FLOATS - 1;
+    }
+    if case == SIZES + 3 {
+        return STATE_FLOATS + 1;
+    }
+    STATE_FLOATS
+}
+
+// A case that UNDO refuses by 13, numbered from 0.
+fn tamper_for_13(case: u64, words: &mut [[u64; 8]], floats: &mut [[f64; 8]], journal: &mut [u8]) {
     if case < other_states::CASES {
-        let tampered = other_states::tampered(case, state);
-        return Handed {
-            state: tampered,
-            journal,
-        };
+        changes::make(other_states::change(case), words, floats);
+    } else if case < other_states::CASES + other_journals::CASES {
+        other_journals::tamper(case - other_states::CASES, words, journal);
+    } else {
+        crate::older_rule::tamper(words, floats, journal);
     }
-    let rest = case - other_states::CASES;
-    if rest < other_journals::CASES {
-        let tampered = other_journals::tampered(rest, journal);
-        return Handed {
-            state,
-            journal: tampered,
-        };
-    }
-    if rest == other_journals::CASES {
-        return with_appended_undo(base);
-    }
-    crate::older_rule::delivered(0, 1)
 }
 
-pub fn tampered(case: u64, base: Handed) -> Handed {
-    if case >= invalid_states::CASES {
-        return other(case - invalid_states::CASES, base);
+// The state and the journal of base, tampered with; where another size is lent they stay as they are.
+pub fn tamper(case: u64, words: &mut [[u64; 8]], floats: &mut [[f64; 8]], journal: &mut [u8]) {
+    if case < UNCODED {
+        changes::make(invalid_states::change(case), words, floats);
+    } else if case < SIZES {
+        changes::make(uncoded_states::change(case - UNCODED), words, floats);
+    } else if case >= REFUSED_BY_1 {
+        tamper_for_13(case - REFUSED_BY_1, words, floats, journal);
     }
-    let journal = base.journal;
-    let state = invalid_states::tampered(case, base.state);
-    Handed { state, journal }
 }

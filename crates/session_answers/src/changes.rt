@@ -1,57 +1,56 @@
-// One field of a state changed: in the first clock, in its second channel, or in the shared state.
-use clocks::channels::HazardChannelState;
-use clocks::clocks::SurvivalClock;
-use engine::state::EngineState;
-use engine::state::Request;
-use engine::state::SharedState;
-use hazards::rates::Intervals;
-
-pub fn infinite() -> f64 {
-    1.0 / 0.0
+// One word or float of a state's rows changed.
+pub struct Change {
+    in_words: bool,
+    row: usize,
+    place: usize,
+    word: u64,
+    float: f64,
 }
 
-pub fn not_a_number() -> f64 {
-    0.0 / 0.0
-}
-
-pub fn with_presence(state: EngineState, at: usize, present: bool) -> EngineState {
-    let mut after = state;
-    if at < 16 {
-        let mut slot = state.slots[at];
-        slot.present = present;
-        after.slots[at] = slot;
+pub fn word(row: usize, place: usize, value: u64) -> Change {
+    Change {
+        in_words: true,
+        row,
+        place,
+        word: value,
+        float: 0.0,
     }
-    after
 }
 
-pub fn with_clock(state: EngineState, clock: SurvivalClock) -> EngineState {
-    let mut after = state;
-    let mut slot = state.slots[0];
-    slot.clock = clock;
-    after.slots[0] = slot;
-    after
+pub fn float(row: usize, place: usize, value: f64) -> Change {
+    Change {
+        in_words: false,
+        row,
+        place,
+        word: 0,
+        float: value,
+    }
 }
 
-pub fn with_shared(state: EngineState, shared: SharedState) -> EngineState {
-    let mut after = state;
-    after.shared = shared;
-    after
+pub fn put_word(words: &mut [[u64; 8]], row: usize, place: usize, value: u64) {
+    if row < words.len() {
+        if place < 8 {
+            let mut after = words[row];
+            after[place] = value;
+            words[row] = after;
+        }
+    }
 }
 
-pub fn with_channel(clock: SurvivalClock, channel: HazardChannelState) -> SurvivalClock {
-    let mut after = clock;
-    after.channels[1] = channel;
-    after
+fn put_float(floats: &mut [[f64; 8]], row: usize, place: usize, value: f64) {
+    if row < floats.len() {
+        if place < 8 {
+            let mut after = floats[row];
+            after[place] = value;
+            floats[row] = after;
+        }
+    }
 }
 
-pub fn with_intervals(channel: HazardChannelState, intervals: Intervals) -> HazardChannelState {
-    let mut after = channel;
-    after.intervals = intervals;
-    after
-}
-
-pub fn with_request(shared: SharedState, request: Request) -> SharedState {
-    let mut after = shared;
-    after.queue[0] = request;
-    after
+pub fn make(change: Change, words: &mut [[u64; 8]], floats: &mut [[f64; 8]]) {
+    if change.in_words {
+        put_word(words, change.row, change.place, change.word);
+    } else {
+        put_float(floats, change.row, change.place, change.float);
+    }
 }

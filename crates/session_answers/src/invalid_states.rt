@@ -1,89 +1,85 @@
-// States with one field changed, by every condition of refusal 1 that a state can express.
-use crate::changes::infinite;
-use crate::changes::not_a_number;
-use crate::changes::with_channel;
-use crate::changes::with_clock;
-use crate::changes::with_presence;
-use crate::changes::with_shared;
-use crate::invalid_channels;
-use clocks::clocks::SurvivalClock;
-use engine::state::EngineState;
-use engine::state::SharedState;
+// Changes of the state of base, by every condition of refusal 1 that a state can express.
+use crate::changes::Change;
+use crate::changes::float;
+use crate::changes::word;
+use clocks::layout::ACCUMULATED;
+use clocks::layout::CAUSE;
+use clocks::layout::CHANNEL_FLOATS;
+use clocks::layout::CHANNELS;
+use clocks::layout::COUNT;
+use clocks::layout::ENDS;
+use clocks::layout::EVENT;
+use clocks::layout::EVENT_INDEX;
+use clocks::layout::LAST_UPDATE;
+use clocks::layout::NUMBERS;
+use clocks::layout::PAIRS;
+use clocks::layout::PRESENT;
+use clocks::layout::RATE;
+use clocks::layout::RATES;
+use clocks::layout::SCALE;
+use clocks::layout::SCHEDULE;
+use clocks::layout::SETTINGS;
+use clocks::layout::START;
+use clocks::layout::THRESHOLD;
+use clocks::layout::TIMES;
+use clocks::layout::WINNER;
+use clocks::layout::WINNER_TIME;
+use engine::state_rows::APPLIED_LENGTH;
+use engine::state_rows::COUNTS;
+use engine::state_rows::POSITION;
+use engine::state_rows::QUEUED;
+use engine::state_rows::REQUEST_CLOCK;
+use engine::state_rows::REQUEST_COUNT;
+use engine::state_rows::REQUESTS;
 
-const CLOCK_CASES: u64 = 7;
-
-const PROGRESS_CASES: u64 = 8;
-
-// Those of a channel, a clock and the shared state, and a queued request's clock that is not there.
 pub const CASES: u64 = 25;
 
-// Over 8 channels; a float that is not finite; a queued request that its clock does not name, or that has no winner.
-fn tampered_clock(case: u64, clock: SurvivalClock) -> SurvivalClock {
-    let unbounded = infinite();
-    let mut after = clock;
+// The rows of the second channel.
+const CHANNEL: usize = CHANNELS + 1;
+
+const CHANNEL_NUMBERS: usize = NUMBERS + CHANNEL_FLOATS;
+
+const CHANNEL_ENDS: usize = ENDS + CHANNEL_FLOATS;
+
+const CHANNEL_RATES: usize = RATES + CHANNEL_FLOATS;
+
+// Of the second channel: over 8 pairs; a rate or an end that 5 or 6 would refuse; a float that is not finite; a cause that is not above
+// the one before it.
+fn of_channel(case: u64) -> Change {
     match case {
-        0 => after.channel_count = 9,
-        1 => after.tick_scale = unbounded,
-        2 => after.last_update_time = not_a_number(),
-        3 => after.current_winner.time = unbounded,
-        4 => after.scheduled_event_id.present = false,
-        5 => after.scheduled_event_id.index = 1,
-        _ => after.current_winner.present = false,
+        0 => word(CHANNEL, PAIRS, 9),
+        1 => float(CHANNEL_RATES, 1, 1099511627777.0),
+        2 => float(CHANNEL_ENDS, 1, 2.0),
+        3 => float(CHANNEL_NUMBERS, RATE, 0.0 / 0.0),
+        4 => float(CHANNEL_NUMBERS, ACCUMULATED, 1.0 / 0.0),
+        5 => float(CHANNEL_NUMBERS, THRESHOLD, 0.0 / 0.0),
+        6 => float(CHANNEL_NUMBERS, START, -1.0 / 0.0),
+        7 => word(CHANNEL, CAUSE, 1),
+        _ => word(CHANNEL, CAUSE, 0),
     }
-    after
 }
 
-// An index twice.
-fn with_request_twice(shared: SharedState) -> SharedState {
-    let mut after = shared;
-    let request = shared.queue[0];
-    after.queue[1] = request;
-    after.queued = 2;
-    after
-}
-
-// A queued request of another clock: an absent one, or none of the sixteen.
-fn with_owner(shared: SharedState, clock: usize) -> SharedState {
-    let mut request = shared.queue[0];
-    request.clock = clock;
-    crate::changes::with_request(shared, request)
-}
-
-fn tampered_counts(case: u64, shared: SharedState) -> SharedState {
-    let mut after = shared;
+// Of the clock: over 8 channels; a float that is not finite; a queued request that the clock does not name, or that has no winner. Of the
+// rest: over 16 requests; an index not below the requests made; more of these than applied bytes; a draw position or an applied length past
+// the end; an index twice, since an empty place reads as index 0; a queued request of an absent clock, or of none of the sixteen.
+pub fn change(case: u64) -> Change {
     match case {
-        0 => after.queued = 17,
-        1 => after.request_count = 0,
-        2 => after.request_count = 369,
-        3 => after.position = 4,
-        _ => after.applied_length = 401,
+        9 => word(SETTINGS, COUNT, 9),
+        10 => float(TIMES, SCALE, 1.0 / 0.0),
+        11 => float(TIMES, LAST_UPDATE, 0.0 / 0.0),
+        12 => float(TIMES, WINNER_TIME, 1.0 / 0.0),
+        13 => word(SCHEDULE, EVENT, 0),
+        14 => word(SCHEDULE, EVENT_INDEX, 1),
+        15 => word(SCHEDULE, WINNER, 0),
+        16 => word(COUNTS, QUEUED, 17),
+        17 => word(COUNTS, REQUEST_COUNT, 0),
+        18 => word(COUNTS, REQUEST_COUNT, 369),
+        19 => word(COUNTS, POSITION, 4),
+        20 => word(COUNTS, APPLIED_LENGTH, 401),
+        21 => word(COUNTS, QUEUED, 2),
+        22 => word(REQUESTS, REQUEST_CLOCK, 1),
+        23 => word(REQUESTS, REQUEST_CLOCK, 16),
+        24 => word(SETTINGS, PRESENT, 0),
+        _ => of_channel(case),
     }
-    after
-}
-
-fn tampered_shared(case: u64, shared: SharedState) -> SharedState {
-    match case {
-        5 => with_request_twice(shared),
-        6 => with_owner(shared, 1),
-        7 => with_owner(shared, 16),
-        _ => tampered_counts(case, shared),
-    }
-}
-
-pub fn tampered(case: u64, state: EngineState) -> EngineState {
-    let slot = state.slots[0];
-    let clock = slot.clock;
-    if case < invalid_channels::CASES {
-        let channel = invalid_channels::tampered(case, clock.channels[1]);
-        return with_clock(state, with_channel(clock, channel));
-    }
-    let rest = case - invalid_channels::CASES;
-    if rest < CLOCK_CASES {
-        return with_clock(state, tampered_clock(rest, clock));
-    }
-    let last = rest - CLOCK_CASES;
-    if last < PROGRESS_CASES {
-        return with_shared(state, tampered_shared(last, state.shared));
-    }
-    with_presence(state, 0, false)
 }

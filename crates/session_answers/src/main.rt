@@ -5,17 +5,18 @@ mod batch;
 mod cases;
 mod changes;
 mod commands;
-mod invalid_channels;
 mod invalid_states;
 mod older_rule;
 mod other_journals;
 mod other_states;
 mod parts;
 mod report;
+mod same_rows;
 mod sessions;
 mod stepwise;
 mod tally;
 mod tampered;
+mod uncoded_states;
 
 fn main() {
     let list = os::open_read(b"sessions.bin");

@@ -1,7 +1,7 @@
 // A delivery from before change 2 of document 02, when of two events at one tick the lower priority number came first.
-use crate::cases::Handed;
-use crate::changes::with_clock;
-use crate::changes::with_shared;
+use crate::changes::put_word;
+use engine::state_rows::REQUEST_PRIORITY;
+use engine::state_rows::REQUESTS;
 use hazards::fields::put_f64;
 use hazards::fields::put_u8;
 
@@ -27,24 +27,18 @@ fn put_requests(bytes: &mut [u8], first: u8, second: u8) {
     put_u8(bytes, 108, second);
 }
 
-// These and DELIVER: 113 bytes of the 400.
-fn journal(first: u8, second: u8) -> [u8; 400] {
-    let mut bytes = [0u8; 400];
-    put_clocks(&mut bytes);
-    put_requests(&mut bytes, first, second);
-    put_u8(&mut bytes, 112, engine::commands::DELIVER);
-    bytes
+// These and DELIVER: 113 bytes. By today's rule the event of clock 0 is delivered, whose priority is the higher one.
+pub fn play(words: &mut [[u64; 8]], floats: &mut [[f64; 8]], journal: &mut [u8]) {
+    engine::journal::clear(journal, 400);
+    put_clocks(journal);
+    put_requests(journal, 1, 0);
+    put_u8(journal, 112, engine::commands::DELIVER);
+    crate::base::give(words, floats, journal, b"", 5);
 }
 
-// The event of clock 0 is delivered, whichever of the priorities is higher: today's rule does so with 1 and 0, the older one did with 0
-// and 1.
-pub fn delivered(first: u8, second: u8) -> Handed {
-    let journal = journal(first, second);
-    let queued = crate::base::state(&journal, b"", 4);
-    let mut shared = engine::queue::taken_out(queued.shared, 0);
-    shared.applied_length = 113;
-    let slot = queued.slots[0];
-    let dispatched = clocks::scheduling::on_event_dispatched(slot.clock);
-    let state = with_clock(with_shared(queued, shared), dispatched.clock);
-    Handed { state, journal }
+// The same with the two priorities the other way round: the older rule delivered the event of clock 0, today's does not.
+pub fn tamper(words: &mut [[u64; 8]], floats: &mut [[f64; 8]], journal: &mut [u8]) {
+    play(words, floats, journal);
+    put_requests(journal, 0, 1);
+    put_word(words, REQUESTS, REQUEST_PRIORITY, 1);
 }

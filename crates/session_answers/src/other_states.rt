@@ -1,92 +1,63 @@
-// States that pass state validation and that the applied commands do not give.
-use crate::changes::with_channel;
-use crate::changes::with_clock;
-use crate::changes::with_presence;
-use crate::changes::with_shared;
-use clocks::channels::HazardChannelState;
-use clocks::clocks::SurvivalClock;
-use engine::state::EngineState;
-use engine::state::SharedState;
+// Changes of the state of base to states that pass state validation and that the applied commands do not give.
+use crate::changes::Change;
+use crate::changes::float;
+use crate::changes::word;
+use clocks::layout::ACCUMULATED;
+use clocks::layout::ACTIVE;
+use clocks::layout::CHANNEL_FLOATS;
+use clocks::layout::CHANNELS;
+use clocks::layout::CLOCK_WORDS;
+use clocks::layout::HAS_ENTITY;
+use clocks::layout::LAST_UPDATE;
+use clocks::layout::NUMBERS;
+use clocks::layout::PRESENT;
+use clocks::layout::PRIORITY;
+use clocks::layout::PROCESS;
+use clocks::layout::SCALE;
+use clocks::layout::SCHEDULE;
+use clocks::layout::SETTINGS;
+use clocks::layout::START;
+use clocks::layout::THRESHOLD;
+use clocks::layout::TIMES;
+use clocks::layout::WINNER_CAUSE;
+use clocks::layout::WINNER_TIME;
+use engine::state_rows::APPLIED_LENGTH;
+use engine::state_rows::COUNTS;
+use engine::state_rows::POSITION;
+use engine::state_rows::QUEUED;
+use engine::state_rows::REQUEST_COUNT;
+use engine::state_rows::REQUEST_PRIORITY;
+use engine::state_rows::REQUESTS;
+use engine::state_rows::TICKS_LOW;
 
-const CHANNEL_CASES: u64 = 4;
-
-const CLOCK_CASES: u64 = 7;
-
-const PROGRESS_CASES: u64 = 7;
-
-// Those of a channel, a clock and the shared state, and a clock too many.
 pub const CASES: u64 = 19;
 
-fn other_channel(case: u64, channel: HazardChannelState) -> HazardChannelState {
-    let mut after = channel;
+// The numbers of the second channel.
+const CHANNEL_NUMBERS: usize = NUMBERS + CHANNEL_FLOATS;
+
+// Of the second channel; of the clock, whose winner is cause 2 at time 1, and whose last update time is +0.0; of the queued request, which
+// has ticks 10 and priority 0; of the counts: one threshold more is drawn, one request more is made, none is queued, the applied commands
+// are a byte shorter or longer; and a clock too many.
+pub fn change(case: u64) -> Change {
     match case {
-        0 => after.accumulated_hazard = 1.0,
-        1 => after.target_threshold = 3.0,
-        2 => after.interval_start_time = 1.0,
-        _ => after.priority = 1,
+        0 => float(CHANNEL_NUMBERS, ACCUMULATED, 1.0),
+        1 => float(CHANNEL_NUMBERS, THRESHOLD, 3.0),
+        2 => float(CHANNEL_NUMBERS, START, 1.0),
+        3 => word(CHANNELS + 1, PRIORITY, 1),
+        4 => word(SETTINGS, PROCESS, 1),
+        5 => word(SETTINGS, HAS_ENTITY, 1),
+        6 => float(TIMES, SCALE, 11.0),
+        7 => word(SCHEDULE, WINNER_CAUSE, 1),
+        8 => float(TIMES, WINNER_TIME, 5.0),
+        9 => word(SCHEDULE, ACTIVE, 0),
+        10 => float(TIMES, LAST_UPDATE, -0.0),
+        11 => word(REQUESTS, TICKS_LOW, 41),
+        12 => word(REQUESTS, REQUEST_PRIORITY, 1),
+        13 => word(COUNTS, POSITION, 3),
+        14 => word(COUNTS, REQUEST_COUNT, 2),
+        15 => word(COUNTS, QUEUED, 0),
+        16 => word(COUNTS, APPLIED_LENGTH, 367),
+        17 => word(COUNTS, APPLIED_LENGTH, 369),
+        _ => word(CLOCK_WORDS * 5 + SETTINGS, PRESENT, 1),
     }
-    after
-}
-
-// The winner is cause 2 at time 1, and the last update time +0.0.
-fn other_clock(case: u64, clock: SurvivalClock) -> SurvivalClock {
-    let mut after = clock;
-    match case {
-        0 => after.process_id = 1,
-        1 => after.has_entity = true,
-        2 => after.tick_scale = 11.0,
-        3 => after.current_winner.cause_id = 1,
-        4 => after.current_winner.time = 5.0,
-        5 => after.is_active = false,
-        _ => after.last_update_time = -0.0,
-    }
-    after
-}
-
-// The queued request has ticks 10 and priority 0.
-fn other_request(case: u64, shared: SharedState) -> SharedState {
-    let mut request = shared.queue[0];
-    match case {
-        0 => request.ticks.low = 41,
-        _ => request.priority = 1,
-    }
-    crate::changes::with_request(shared, request)
-}
-
-// One threshold more is drawn, one request more is made, none is queued; the applied commands are a byte shorter or longer.
-fn other_counts(case: u64, shared: SharedState) -> SharedState {
-    let mut after = shared;
-    match case {
-        2 => after.position = 3,
-        3 => after.request_count = 2,
-        4 => after.queued = 0,
-        5 => after.applied_length = 367,
-        _ => after.applied_length = 369,
-    }
-    after
-}
-
-fn other_shared(case: u64, shared: SharedState) -> SharedState {
-    if case < 2 {
-        return other_request(case, shared);
-    }
-    other_counts(case, shared)
-}
-
-pub fn tampered(case: u64, state: EngineState) -> EngineState {
-    let slot = state.slots[0];
-    let clock = slot.clock;
-    if case < CHANNEL_CASES {
-        let channel = other_channel(case, clock.channels[1]);
-        return with_clock(state, with_channel(clock, channel));
-    }
-    let rest = case - CHANNEL_CASES;
-    if rest < CLOCK_CASES {
-        return with_clock(state, other_clock(rest, clock));
-    }
-    let last = rest - CLOCK_CASES;
-    if last < PROGRESS_CASES {
-        return with_shared(state, other_shared(last, state.shared));
-    }
-    with_presence(state, 5, true)
 }

@@ -2,6 +2,8 @@
 ghost use Prim.Native.Nat.{_≤_};
 use crate::parts::within;
 use crate::tally::Tally;
+use engine::state_rows::STATE_FLOATS;
+use engine::state_rows::STATE_WORDS;
 use hazards::answers::ANSWER_WIDTH;
 use hazards::answers::Answer;
 
@@ -31,14 +33,15 @@ fn play_commands(
     requires { ⌜ answered ≤ 128 ⌝ }
 {
     let mut after = tally;
-    let mut state = engine::opening::open(journal);
+    let mut words = [[0u64; 8]; STATE_WORDS];
+    let mut floats = [[0.0; 8]; STATE_FLOATS];
+    engine::opening::open(&mut words, &mut floats, journal);
     let mut at: usize = 0;
     let mut i: usize = 0;
     while i < answered {
         let input = crate::commands::rest_from(commands, at);
-        let executed = engine::execute::execute(state, stream, journal, input);
-        state = executed.state;
-        let agrees = answer_agrees(executed.answer, answers, i);
+        let answer = engine::execute::execute(&mut words, &mut floats, stream, journal, input);
+        let agrees = answer_agrees(answer, answers, i);
         if !agrees {
             crate::report::print_command(tally.sessions, i as u64 + 1);
         }

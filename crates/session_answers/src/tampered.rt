@@ -1,9 +1,11 @@
-// States and journals that were tampered with: refusal 1 by every condition of its row, whatever the input, and refusal 13 of UNDO. Each
-// refusal has to leave state and journal as they were.
+// States and journals that were tampered with: refusal 1 by every condition of its row and by rows that are no state, whatever the input,
+// and refusal 13 of UNDO. Each refusal has to leave state and journal as they were.
 use crate::cases;
-use crate::cases::Handed;
 use crate::tally::one_more;
+use engine::state_rows::STATE_FLOATS;
+use engine::state_rows::STATE_WORDS;
 use hazards::answers::ANSWER_WIDTH;
+use hazards::answers::Answer;
 
 // How many were refused by 1 and by 13, and how many were not.
 pub struct Verdicts {
@@ -28,54 +30,79 @@ impl Verdicts {
     }
 }
 
-// Whether an input is answered by a number, with zero elsewhere in the answer, and changes nothing.
-fn is_refused<'a>(handed: Handed, stream: &'a [u8], input: &'a [u8], number: u8) -> bool {
-    let state = handed.state;
-    let journal = handed.journal;
-    let mut own = journal;
-    let executed = engine::execute::execute(state, stream, &mut own, input);
-    let after = executed.state;
+// A number, and zero elsewhere in the answer.
+fn is_refusal(answer: Answer, number: u8) -> bool {
     let mut given = [0u8; ANSWER_WIDTH];
-    hazards::answers::put_answer(&mut given, 0, executed.answer);
+    hazards::answers::put_answer(&mut given, 0, answer);
     let mut expected = [0u8; ANSWER_WIDTH];
     expected[0] = number;
-    let answer = check::same(&given, &expected);
-    let bytes = check::same(&own, &journal);
-    answer & (bytes & engine::comparison::same_state(after, state))
+    check::same(&given, &expected)
+}
+
+// Whether an input is answered by a number and changes nothing. There is room for a row more than a state's of either kind.
+fn is_refused(case: u64, input: &[u8], number: u8) -> bool {
+    let stream = crate::base::stream();
+    let mut words = [[0u64; 8]; STATE_WORDS + 1];
+    let mut floats = [[0.0; 8]; STATE_FLOATS + 1];
+    let mut journal = [0u8; 400];
+    let state_words = &mut words[..STATE_WORDS];
+    let state_floats = &mut floats[..STATE_FLOATS];
+    crate::base::play(state_words, state_floats, &mut journal, &stream);
+    cases::tamper(case, state_words, state_floats, &mut journal);
+    let words_before = words;
+    let floats_before = floats;
+    let journal_before = journal;
+    let lent_words = &mut words[..cases::word_rows(case)];
+    let lent_floats = &mut floats[..cases::float_rows(case)];
+    let answer = engine::execute::execute(lent_words, lent_floats, &stream, &mut journal, input);
+    let refused = is_refusal(answer, number);
+    let same_journal = check::same(&journal, &journal_before);
+    let same_words = crate::same_rows::same_words(&words, &words_before);
+    let same_floats = crate::same_rows::same_floats(&floats, &floats_before);
+    refused & (same_journal & (same_words & same_floats))
 }
 
 // No bytes, no command, REMOVE, DELIVER and UNDO.
-fn is_invalid(handed: Handed, stream: &[u8]) -> bool {
-    let nothing = is_refused(handed, stream, b"", 1);
-    let junk = is_refused(handed, stream, b"\x00", 1);
-    let remove = is_refused(handed, stream, b"\x03\x00\x01\x00\x00\x00", 1);
-    let deliver = is_refused(handed, stream, b"\x07", 1);
-    let undo = is_refused(handed, stream, b"\x08", 1);
+fn is_invalid(case: u64) -> bool {
+    let nothing = is_refused(case, b"", 1);
+    let junk = is_refused(case, b"\x00", 1);
+    let remove = is_refused(case, b"\x03\x00\x01\x00\x00\x00", 1);
+    let deliver = is_refused(case, b"\x07", 1);
+    let undo = is_refused(case, b"\x08", 1);
     nothing & (junk & (remove & (deliver & undo)))
 }
 
 // By the number that is due: 1 whatever the input, 13 for UNDO.
-fn is_refused_as_due(case: u64, handed: Handed, stream: &[u8]) -> bool {
+fn is_refused_as_due(case: u64) -> bool {
     if cases::number_of(case) == 1 {
-        return is_invalid(handed, stream);
+        return is_invalid(case);
     }
-    is_refused(handed, stream, b"\x08", 13)
+    is_refused(case, b"\x08", 13)
 }
 
-fn is_undone(handed: Handed, stream: &[u8]) -> bool {
-    let mut journal = handed.journal;
-    let executed = engine::execute::execute(handed.state, stream, &mut journal, b"\x08");
-    let number = executed.answer.number;
-    if number != 0 {
-        crate::report::print_untampered(number as u64);
+fn is_undone(
+    words: &mut [[u64; 8]],
+    floats: &mut [[f64; 8]],
+    journal: &mut [u8],
+    stream: &[u8],
+) -> bool {
+    let answer = engine::execute::execute(words, floats, stream, journal, b"\x08");
+    if answer.number != 0 {
+        crate::report::print_untampered(answer.number as u64);
     }
-    number == 0
+    answer.number == 0
 }
 
 // Without tampering UNDO is accepted, so that a refusal comes from the change.
-fn try_untampered(base: Handed, stream: &[u8]) -> Verdicts {
-    let one_clock = is_undone(base, stream);
-    let two_clocks = is_undone(crate::older_rule::delivered(1, 0), stream);
+fn try_untampered() -> Verdicts {
+    let stream = crate::base::stream();
+    let mut words = [[0u64; 8]; STATE_WORDS];
+    let mut floats = [[0.0; 8]; STATE_FLOATS];
+    let mut journal = [0u8; 400];
+    crate::base::play(&mut words, &mut floats, &mut journal, &stream);
+    let one_clock = is_undone(&mut words, &mut floats, &mut journal, &stream);
+    crate::older_rule::play(&mut words, &mut floats, &mut journal);
+    let two_clocks = is_undone(&mut words, &mut floats, &mut journal, &stream);
     Verdicts {
         invalid: 0,
         not_replayable: 0,
@@ -83,20 +110,12 @@ fn try_untampered(base: Handed, stream: &[u8]) -> Verdicts {
     }
 }
 
-fn try_each(base: Handed, stream: &[u8]) -> Verdicts {
-    let mut verdicts = try_untampered(base, stream);
+pub fn try_all() -> Verdicts {
+    let mut verdicts = try_untampered();
     let mut case: u64 = 0;
     while case < cases::CASES {
-        let handed = cases::tampered(case, base);
-        verdicts = verdicts.with(case, is_refused_as_due(case, handed, stream));
+        verdicts = verdicts.with(case, is_refused_as_due(case));
         case += 1;
     }
     verdicts
-}
-
-pub fn try_all() -> Verdicts {
-    let stream = crate::base::stream();
-    let journal = crate::base::journal();
-    let state = crate::base::state(&journal, &stream, 4);
-    try_each(Handed { state, journal }, &stream)
 }

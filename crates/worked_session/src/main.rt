@@ -1,29 +1,34 @@
-// A session of one press: two causes of breakdown, a pause and what it does to the breakdown that is due. Times are in hours, ticks in
-// tenths.
-// The thresholds are those of rows 9 and 10 of document 01, 2.0 and 1.0.
+// A session of one press, whose clock lies in rows of this program: two causes of breakdown, a pause and what it does to the breakdown
+// that is due. Times are in hours, ticks in tenths. The thresholds are those of rows 9 and 10 of document 01, 2.0 and 1.0.
+ghost use Rattle.clocks.specs.Layout.{Sized};
 use clocks::clocks::EntityId;
 use clocks::clocks::HazardInterruptionPolicy;
-use clocks::clocks::SurvivalClock;
+use clocks::layout::CLOCK_FLOATS;
+use clocks::layout::CLOCK_WORDS;
 use clocks::scheduling::Censor;
-use clocks::scheduling::Rescheduled;
+use clocks::scheduling::QueueChange;
 use clocks::setting::CauseSetting;
 use hazards::rates::HazardRate;
 use hazards::ties::TieBreaker;
 use libc::STDOUT_FILENO;
 
-fn press() -> SurvivalClock {
+fn create_press(words: &mut [[u64; 8]], floats: &mut [[f64; 8]])
+    requires { ⌜ Sized (now words) (now floats) ⌝ }
+{
     let entity = EntityId {
         index: 0,
         generation: 0,
     };
-    SurvivalClock::new(
+    clocks::clocks::create(
+        words,
+        floats,
         7,
         false,
         entity,
         HazardInterruptionPolicy::RetainResidual,
         TieBreaker::LowestCauseId,
         10.0,
-    )
+    );
 }
 
 // A cause with a constant rate.
@@ -44,47 +49,47 @@ fn say(what: &[u8], number: u64) {
     io::write_all(STDOUT_FILENO, b"\n");
 }
 
-fn tell(what: &[u8], r: Rescheduled) {
+fn tell(what: &[u8], asked: QueueChange) {
     io::write_all(STDOUT_FILENO, what);
     io::write_all(STDOUT_FILENO, b"breakdown by cause ");
-    io::print_decimal(STDOUT_FILENO, r.event.winning_cause as u64);
-    say(b" at tick ", r.ticks.low);
+    io::print_decimal(STDOUT_FILENO, asked.event.winning_cause as u64);
+    say(b" at tick ", asked.ticks.low);
 }
 
-fn play(stream: &[u8]) {
+fn play(words: &mut [[u64; 8]], floats: &mut [[f64; 8]], stream: &[u8])
+    requires { ⌜ Sized (now words) (now floats) ⌝ }
+{
     let no_censor = Censor {
         present: false,
         time: 0.0,
     };
-    let set = clocks::setting::set_channel(press(), constant(1, 0.5, 0.0), stream, 0);
+    create_press(words, floats);
+    let set = clocks::setting::set_channel(words, floats, constant(1, 0.5, 0.0), stream, 0);
     say(
         b"hour 0: cause 1 set at rate 0.5; thresholds drawn: ",
         set.position as u64,
     );
-    let first = clocks::scheduling::reschedule(set.clock, 0.0, no_censor, 0);
+    let first = clocks::scheduling::reschedule(words, floats, 0.0, no_censor, 0);
     tell(b"hour 0: ", first);
-    let paused = clocks::scheduling::pause(first.clock, 1.0);
-    say(
-        b"hour 1: paused; withdrawn request: ",
-        paused.withdrawn.index,
-    );
-    let second = clocks::scheduling::resume(paused.clock, 3.0, no_censor, 1);
+    let withdrawn = clocks::scheduling::pause(words, floats, 1.0);
+    say(b"hour 1: paused; withdrawn request: ", withdrawn.index);
+    let second = clocks::scheduling::resume(words, floats, 3.0, no_censor, 1);
     tell(b"hour 3: resumed; ", second);
     let other = constant(2, 1.0, 3.0);
-    let again = clocks::setting::set_channel(second.clock, other, stream, set.position);
+    let again = clocks::setting::set_channel(words, floats, other, stream, set.position);
     say(
         b"hour 3: cause 2 set at rate 1; thresholds drawn: ",
         again.position as u64,
     );
-    tell(
-        b"hour 3: ",
-        clocks::scheduling::reschedule(again.clock, 3.0, no_censor, 2),
-    );
+    let third = clocks::scheduling::reschedule(words, floats, 3.0, no_censor, 2);
+    tell(b"hour 3: ", third);
 }
 
 fn main() {
+    let mut words = [[0u64; 8]; CLOCK_WORDS];
+    let mut floats = [[0.0; 8]; CLOCK_FLOATS];
     let mut stream = [0u8; 16];
     hazards::fields::put_f64(&mut stream, 0, 2.0);
     hazards::fields::put_f64(&mut stream, 8, 1.0);
-    play(&stream);
+    play(&mut words, &mut floats, &stream);
 }

@@ -1,4 +1,4 @@
-//! The fields of a state's record: where each stands, what it holds, and its name.
+//! The fields of a state: where each stands in the record and lies in the rows, what it holds, and its name.
 
 use reference::clock::CHANNELS;
 use reference::command_fields::CLOCKS;
@@ -27,7 +27,32 @@ impl Kind {
     }
 }
 
-/// Which part of the record a field belongs to.
+/// A number of the rows: which row, and which of its eight.
+#[derive(Clone, Copy, Debug, PartialEq)]
+pub enum Place {
+    Word(usize, usize),
+    Float(usize, usize),
+}
+
+impl Place {
+    /// The same place further on.
+    fn after(self, words: usize, floats: usize) -> Self {
+        match self {
+            Place::Word(row, at) => Place::Word(words + row, at),
+            Place::Float(row, at) => Place::Float(floats + row, at),
+        }
+    }
+}
+
+/// The rows of a state, of a clock, and those that the counts and the queue begin with.
+pub const STATE_WORDS: usize = 177;
+pub const STATE_FLOATS: usize = 400;
+const CLOCK_WORDS: usize = 10;
+const CLOCK_FLOATS: usize = 25;
+const COUNTS_ROW: usize = 160;
+const QUEUE_ROW: usize = 161;
+
+/// Which part of the state a field belongs to.
 #[derive(Clone, Copy, Debug, PartialEq)]
 pub enum Part {
     Counts,
@@ -36,9 +61,27 @@ pub enum Part {
     Channel(usize, usize),
 }
 
+impl Part {
+    /// Its first row of words and of floats.
+    fn rows(self) -> (usize, usize) {
+        match self {
+            Part::Counts => (COUNTS_ROW, 0),
+            Part::Request(place) => (QUEUE_ROW + place, 0),
+            Part::Clock(clock) => (CLOCK_WORDS * clock, CLOCK_FLOATS * clock),
+            Part::Channel(clock, place) => (
+                CLOCK_WORDS * clock + 2 + place,
+                CLOCK_FLOATS * clock + 1 + 3 * place,
+            ),
+        }
+    }
+}
+
 #[derive(Clone, Debug)]
 pub struct Field {
+    /// In the record.
     pub at: usize,
+    /// In the rows.
+    pub place: Place,
     pub kind: Kind,
     pub part: Part,
     name: &'static str,
@@ -59,68 +102,90 @@ impl Field {
     pub fn bytes<'a>(&self, record: &'a [u8]) -> &'a [u8] {
         &record[self.at..][..self.kind.width()]
     }
+
+    /// What a record holds, as a word; a float's bits.
+    pub fn bits(&self, record: &[u8]) -> u64 {
+        let bytes = self.bytes(record);
+        let mut word = [0; 8];
+        word[..bytes.len()].copy_from_slice(bytes);
+        u64::from_le_bytes(word)
+    }
 }
 
-type Row = (Kind, &'static str);
+/// A field of a part: its place is told from the part's first rows.
+type Row = (Kind, &'static str, Place);
+
+const fn word(kind: Kind, name: &'static str, row: usize, at: usize) -> Row {
+    (kind, name, Place::Word(row, at))
+}
+
+const fn float(name: &'static str, row: usize, at: usize) -> Row {
+    (Kind::Float, name, Place::Float(row, at))
+}
 
 const COUNTS: [Row; 4] = [
-    (Kind::Word64, "draw position"),
-    (Kind::Word64, "applied length"),
-    (Kind::Word64, "request counter"),
-    (Kind::Word64, "queue length"),
+    word(Kind::Word64, "draw position", 0, 2),
+    word(Kind::Word64, "applied length", 0, 3),
+    word(Kind::Word64, "request counter", 0, 1),
+    word(Kind::Word64, "queue length", 0, 0),
 ];
 
 const REQUEST: [Row; 5] = [
-    (Kind::Byte, "clock"),
-    (Kind::Word64, "index"),
-    (Kind::Word64, "ticks, low word"),
-    (Kind::Word64, "ticks, high word"),
-    (Kind::Word32, "priority"),
+    word(Kind::Byte, "clock", 0, 0),
+    word(Kind::Word64, "index", 0, 4),
+    word(Kind::Word64, "ticks, low word", 0, 1),
+    word(Kind::Word64, "ticks, high word", 0, 2),
+    word(Kind::Word32, "priority", 0, 3),
 ];
 
 const CLOCK_HEAD: [Row; 9] = [
-    (Kind::Flag, "presence"),
-    (Kind::Word64, "process"),
-    (Kind::Flag, "has-entity"),
-    (Kind::Word64, "entity index"),
-    (Kind::Word32, "entity generation"),
-    (Kind::Choice(2), "policy"),
-    (Kind::Choice(3), "tie"),
-    (Kind::Float, "scale"),
-    (Kind::Byte, "channel count"),
+    word(Kind::Flag, "presence", 0, 0),
+    word(Kind::Word64, "process", 0, 1),
+    word(Kind::Flag, "has-entity", 0, 2),
+    word(Kind::Word64, "entity index", 0, 3),
+    word(Kind::Word32, "entity generation", 0, 4),
+    word(Kind::Choice(2), "policy", 0, 5),
+    word(Kind::Choice(3), "tie", 0, 6),
+    float("scale", 0, 0),
+    word(Kind::Byte, "channel count", 0, 7),
 ];
 
 const CHANNEL_HEAD: [Row; 5] = [
-    (Kind::Word32, "cause"),
-    (Kind::Word32, "priority"),
-    (Kind::Choice(4), "kind"),
-    (Kind::Float, "first"),
-    (Kind::Byte, "pair count"),
+    word(Kind::Word32, "cause", 0, 0),
+    word(Kind::Word32, "priority", 0, 1),
+    word(Kind::Choice(4), "kind", 0, 2),
+    float("first", 0, 3),
+    word(Kind::Byte, "pair count", 0, 3),
 ];
 
-const PAIR: [Row; 2] = [(Kind::Float, "end"), (Kind::Float, "rate")];
-
 const CHANNEL_TAIL: [Row; 3] = [
-    (Kind::Float, "accumulated hazard"),
-    (Kind::Float, "threshold"),
-    (Kind::Float, "interval start"),
+    float("accumulated hazard", 0, 0),
+    float("threshold", 0, 1),
+    float("interval start", 0, 2),
 ];
 
 const CLOCK_TAIL: [Row; 7] = [
-    (Kind::Flag, "scheduled"),
-    (Kind::Word64, "scheduled index"),
-    (Kind::Flag, "has-winner"),
-    (Kind::Word32, "winner's cause"),
-    (Kind::Float, "winner's time"),
-    (Kind::Flag, "active flag"),
-    (Kind::Float, "last update time"),
+    word(Kind::Flag, "scheduled", 1, 0),
+    word(Kind::Word64, "scheduled index", 1, 1),
+    word(Kind::Flag, "has-winner", 1, 2),
+    word(Kind::Word32, "winner's cause", 1, 3),
+    float("winner's time", 0, 1),
+    word(Kind::Flag, "active flag", 1, 4),
+    float("last update time", 0, 2),
 ];
 
+/// Pair `i` of a channel.
+fn pair(i: usize) -> [Row; 2] {
+    [float("end", 1, i), float("rate", 2, i)]
+}
+
 fn add(fields: &mut Vec<Field>, part: Part, rows: &[Row]) {
-    for (kind, name) in rows.iter().copied() {
+    let (words, floats) = part.rows();
+    for (kind, name, place) in rows.iter().copied() {
         let at = fields.last().map_or(0, |f| f.at + f.kind.width());
         fields.push(Field {
             at,
+            place: place.after(words, floats),
             kind,
             part,
             name,
@@ -128,8 +193,41 @@ fn add(fields: &mut Vec<Field>, part: Part, rows: &[Row]) {
     }
 }
 
+/// The fields of a state, and the places of the rows that no field takes.
+pub struct Layout {
+    pub fields: Vec<Field>,
+    pub spare: Vec<Place>,
+}
+
+impl Layout {
+    pub fn new() -> Self {
+        let fields = fields();
+        let taken = |place: &Place| fields.iter().any(|f| f.place == *place);
+        let spare = places().filter(|place| !taken(place)).collect();
+        Self { fields, spare }
+    }
+
+    /// A number of the rows, in words.
+    pub fn words(&self, place: Place) -> String {
+        match self.fields.iter().find(|f| f.place == place) {
+            Some(field) => field.words(),
+            None => format!("spare {place:?}"),
+        }
+    }
+}
+
+/// Every number of the rows.
+pub fn places() -> impl Iterator<Item = Place> {
+    let words = (0..STATE_WORDS).flat_map(|row| (0..8).map(move |at| Place::Word(row, at)));
+    let floats = (0..STATE_FLOATS).flat_map(|row| (0..8).map(move |at| Place::Float(row, at)));
+    words.chain(floats)
+}
+
+/// The place of the applied length.
+pub const APPLIED_LENGTH: Place = Place::Word(COUNTS_ROW, 3);
+
 /// Every field, in the record's order.
-pub fn fields() -> Vec<Field> {
+fn fields() -> Vec<Field> {
     let mut all = Vec::new();
     add(&mut all, Part::Counts, &COUNTS);
     for place in 0..QUEUE {
@@ -140,7 +238,7 @@ pub fn fields() -> Vec<Field> {
         for place in 0..CHANNELS {
             let part = Part::Channel(clock, place);
             add(&mut all, part, &CHANNEL_HEAD);
-            (0..PAIRS).for_each(|_| add(&mut all, part, &PAIR));
+            (0..PAIRS).for_each(|i| add(&mut all, part, &pair(i)));
             add(&mut all, part, &CHANNEL_TAIL);
         }
         add(&mut all, Part::Clock(clock), &CLOCK_TAIL);
@@ -175,5 +273,17 @@ mod tests {
         assert_eq!(at(Part::Clock(1)), Some(SLOTS_AT + SLOT_BYTES));
         let channel = SLOTS_AT + 33 + CHANNEL_BYTES;
         assert_eq!(at(Part::Channel(0, 1)), Some(channel));
+    }
+
+    #[test]
+    fn fields_and_spare_places_fill_the_rows() {
+        let layout = Layout::new();
+        let spare = 16 * (3 + 5 + 8 * (4 + 4)) + 4 + 16 * 3;
+        assert_eq!(layout.spare.len(), spare);
+        assert_eq!(layout.fields.len() + spare, places().count());
+        let mut places: Vec<Place> = layout.fields.iter().map(|f| f.place).collect();
+        places.sort_by_key(|place| format!("{place:?}"));
+        places.dedup();
+        assert_eq!(places.len(), layout.fields.len());
     }
 }

@@ -1,6 +1,7 @@
-//! One field of a state's record, or one byte of the applied commands, changed at random.
+//! One field of a state's record, one number of its rows, or one bit of the applied commands, changed at random.
 
-use crate::layout::{Field, Kind, Part, is_used};
+use crate::layout::{Field, Kind, Part, Place, STATE_FLOATS, STATE_WORDS, is_used};
+use crate::rows::Rows;
 use cases::random::Random;
 use reference::dump::QUEUED_BYTES;
 use reference::record::HEAD_BYTES;
@@ -19,6 +20,30 @@ const FLOATS: [f64; 12] = [
     f64::INFINITY,
     f64::NEG_INFINITY,
     f64::NAN,
+];
+
+/// Words around the bounds of flags, choices, counts, bytes and numbers of 32 bits.
+const WORDS: [u64; 20] = [
+    0,
+    1,
+    2,
+    3,
+    4,
+    7,
+    8,
+    9,
+    15,
+    16,
+    17,
+    255,
+    256,
+    1 << 31,
+    (1 << 32) - 1,
+    1 << 32,
+    (1 << 32) + 1,
+    1 << 63,
+    u64::MAX - 1,
+    u64::MAX,
 ];
 
 /// A change of a record, in words: one used field of the counts, the queue, a clock or a channel, or the order of the queue.
@@ -77,5 +102,66 @@ fn near(random: &mut Random, bytes: &[u8]) -> Vec<u8> {
 pub fn tamper_journal(random: &mut Random, journal: &mut [u8], applied: usize) {
     if applied > 0 {
         journal[random.index(applied)] ^= 1 << random.below(8);
+    }
+}
+
+/// Another number at one place of the rows: any place, or one of a row that is not all zero.
+pub fn tamper_rows(random: &mut Random, rows: &mut Rows) -> Place {
+    let place = if random.chance(50) {
+        any_place(random)
+    } else {
+        used_place(random, rows)
+    };
+    let bits = rows.bits(place);
+    let other = match place {
+        Place::Word(..) => other_word(random, bits),
+        Place::Float(..) => other_float(random, f64::from_bits(bits)).to_bits(),
+    };
+    rows.put(place, if other == bits { bits ^ 1 } else { other });
+    place
+}
+
+fn any_place(random: &mut Random) -> Place {
+    let (row, at) = (random.index(STATE_WORDS + STATE_FLOATS), random.index(8));
+    if row < STATE_WORDS {
+        Place::Word(row, at)
+    } else {
+        Place::Float(row - STATE_WORDS, at)
+    }
+}
+
+/// In a row that holds something; as often a word as a float.
+fn used_place(random: &mut Random, rows: &Rows) -> Place {
+    let words: Vec<usize> = (0..STATE_WORDS)
+        .filter(|row| rows.words[*row] != [0; 8])
+        .collect();
+    let floats: Vec<usize> = (0..STATE_FLOATS)
+        .filter(|row| rows.floats[*row] != [0.0; 8])
+        .collect();
+    let at = random.index(8);
+    if random.chance(50) && !words.is_empty() {
+        Place::Word(random.pick(&words), at)
+    } else {
+        Place::Float(random.pick(&floats), at)
+    }
+}
+
+fn other_word(random: &mut Random, word: u64) -> u64 {
+    match random.below(5) {
+        0 => random.pick(&WORDS),
+        1 => word.wrapping_add(random.pick(&[1, u64::MAX, 1 << 32])),
+        2 => word ^ 1 << random.below(64),
+        3 => random.below(600),
+        _ => random.word(),
+    }
+}
+
+fn other_float(random: &mut Random, x: f64) -> f64 {
+    match random.below(5) {
+        0 => random.pick(&FLOATS),
+        1 => random.pick(&[x.next_up(), x.next_down(), -x]),
+        2 => f64::from_bits(x.to_bits() ^ 1 << random.below(64)),
+        3 => random.below(600) as f64,
+        _ => f64::from_bits(random.word()),
     }
 }
