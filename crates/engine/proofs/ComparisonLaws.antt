@@ -32,7 +32,7 @@ flag-same : (b : Bool) → sameFlag b b ≡ true
 flag-same true = refl
 flag-same false = refl
 
-integer-same : (x : ℤ) → sameInteger x x ≡ true
+pub integer-same : (x : ℤ) → sameInteger x x ≡ true
 integer-same x = rw (is-true (leZ x x) (≤ℤ-refl x .le))
 
 float-same : (x : Float) → sameFloat x x ≡ true

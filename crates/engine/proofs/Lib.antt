@@ -44,6 +44,7 @@ pub mod Asking
 pub mod ReplaySteps
 pub mod Replays
 pub mod Splits
+pub mod ReplayParts
 pub mod ReplayLaws
 pub mod ExecuteLaws
 -- commands in lent memory
@@ -54,9 +55,17 @@ pub mod RescheduledInPlace
 pub mod PerformedInPlace
 pub mod ReadyStates
 pub mod SizedRows
+pub mod ExecutedInPlace
 pub mod OpenedRows
 pub mod KeptParts
 pub mod RevertedInPlace
+pub mod ReplayInPlace
+pub mod LastInPlace
+pub mod UndoneInPlace
+-- states in lent memory compared
+pub mod SameWords
+pub mod SameClocks
+pub mod SameRows
 -- demand 3: of any engine that meets the laws, then of this one
 pub mod DemandHalves
 pub mod Supplied
@@ -74,11 +83,14 @@ pub mod RunOpening
 pub mod RunStates
 pub mod RunNumbers
 pub mod RunStops
+pub mod FrontRefusals
 pub mod RunAnswers
 pub mod RunTurns
 pub mod RunUndos
 pub mod RunReverts
 pub mod RunCommands
+-- demand 3 in lent memory
+pub mod LentDemand3
 -- the table of rows, and a list worked through
 pub mod Computed
 pub mod Rows

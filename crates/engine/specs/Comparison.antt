@@ -6,8 +6,7 @@ use lib.Dec.{eqb}
 use lib.IntN.{ℤ}
 use lib.Signed.{leZ}
 use lib.ListN.{getD}
-use lib.Ieee.{Float, binary64, isNan, toBits}
-use Rattle.hazards.specs.Floats.{z}
+use lib.Ieee.{Float, nan, binary64, isNan, toBits}
 use Rattle.hazards.specs.Rates.{kindNumber, ownRate}
 use Rattle.hazards.specs.Ties.{tieNumber}
 use Rattle.hazards.specs.declared.rates.HazardRate.{HazardRate}
@@ -36,7 +35,7 @@ sameFloat x y = cond (isNan x) (isNan y) (cond (isNan y) false (eqb (toBits bina
 -- ---- channels
 
 abbrev pub sameFloats : List Float → List Float → Bool
-sameFloats xs ys = everyBelow 8 (λ i. sameFloat (getD xs i z) (getD ys i z))
+sameFloats xs ys = everyBelow 8 (λ i. sameFloat (getD xs i nan) (getD ys i nan))
 
 unfoldable pub sameHazard : HazardRate → HazardRate → Bool
 sameHazard a b = eqb (kindNumber a) (kindNumber b) && sameFloat (ownRate a) (ownRate b)

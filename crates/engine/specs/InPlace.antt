@@ -1,10 +1,12 @@
 -- The calls over lent memory: an engine is opened in it, and one input is executed on it. Rows of other sizes, and rows that are not coded
 -- as a state's, are no state that could be handed in: both calls refuse by 1 and change nothing.
 use mathlib.Core.Path.{_≡_}
-use mathlib.Core.Bool.{Bool, _&&_}
+use mathlib.Core.Bool.{Bool, true, false, _&&_}
 use Prim.Native.Nat.{ℕ}
 use lib.Dec.{eqb}
 use lib.ListN.{length, replicate}
+use Rattle.hazards.specs.Answers.{noEvent}
+use Rattle.hazards.specs.Refusals.{invalidState}
 use Rattle.hazards.specs.declared.answers.Answer.{Answer}
 use Rattle.clocks.specs.Layout.{WordRows, FloatRows}
 use Rattle.engine.specs.Opening.{openedState}
@@ -53,3 +55,9 @@ pub record Refuses (w : WordRows) (f : FloatRows) (j : Bytes) (w′ : WordRows) 
   pub words : w′ ≡ w
   pub floats : f′ ≡ f
   pub journal : j′ ≡ j
+
+-- one input on any rows: as it is defined where they stand for a state, else refused by 1
+abbrev pub ExecutesInput : Bytes → WordRows → FloatRows → Bytes → Bytes → WordRows → FloatRows → Bytes → Answer → Type 0
+ExecutesInput stream w f j input w′ f′ j′ a =
+    (isState w f ≡ true → Executes w f (inputOn stream w f j input) w′ f′ j′ a)
+    × (isState w f ≡ false → (a ≡ noEvent invalidState) × Refuses w f j w′ f′ j′)

@@ -1,5 +1,5 @@
 -- The definitions of the engine crate, in the order in which they build on each other. A file has the name of the module of src/ that it
--- defines, or is what several of them share; theorem.rt has DeliveryOrder, Demand3 and Rows.
+-- defines, or is what several of them share; theorem.rt has DeliveryOrder, Demand3, LentDemand3 and Rows.
 
 -- commands and refusals
 pub mod Refusals
@@ -31,6 +31,7 @@ pub mod Rows
 pub mod StateRows
 pub mod KeptRows
 pub mod InPlace
+pub mod LentDemand3
 -- internals: what the answers of the code's inner functions mean; no call that document 01 names cites these
 pub mod QueueInternals
 pub mod ExecutionInternals

@@ -5,7 +5,6 @@ ghost use lib.ListN.{length};
 ghost use Rattle.engine.specs.StateRows.{stateFrom, SizedState, CodedState};
 ghost use Rattle.engine.specs.ComparisonInternals.{sameWordRow, sameFloatRow, sameWords, sameFloats};
 
-
 pub(crate) fn same_float(a: f64, b: f64) -> bool
     ensures { λ r. ⌜ r ≡ sameFloat a b ⌝ }
 {

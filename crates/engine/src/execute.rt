@@ -1,18 +1,16 @@
 // Executing one input on a state in lent memory: a command, UNDO, or bytes that are no command (document 01: the command door).
 ghost use mathlib.Core.Path.{_≡_};
-ghost use mathlib.Core.Bool.{true, false, _&&_};
+ghost use mathlib.Core.Bool.{true, _&&_};
 ghost use Prim.Native.Nat.{_<_};
 ghost use lib.ListN.{length};
-ghost use Rattle.hazards.specs.Answers.{noEvent};
-ghost use Rattle.hazards.specs.Refusals.{invalidState};
 ghost use Rattle.engine.specs.Execute.{act};
 ghost use Rattle.engine.specs.Engine.{carryOut};
 ghost use Rattle.engine.specs.Commands.{widthOf, byteAt};
 ghost use Rattle.engine.specs.Instance.{engineOf};
 ghost use Rattle.engine.specs.Answers.{after};
 ghost use Rattle.engine.specs.Validation.{validState};
-ghost use Rattle.engine.specs.StateRows.{stateFrom, SizedState, CodedState};
-ghost use Rattle.engine.specs.InPlace.{isState, Executes, inputOn, Refuses};
+ghost use Rattle.engine.specs.StateRows.{stateFrom, SizedState};
+ghost use Rattle.engine.specs.InPlace.{isState, Executes, ExecutesInput};
 use crate::commands::UNDO;
 use crate::state_rows::APPLIED_LENGTH;
 use crate::state_rows::COUNTS;
@@ -48,7 +46,7 @@ fn perform_command<'a>(
     journal: &'a mut [u8],
     command: &'a [u8],
 ) -> Answer
-    requires { ⌜ SizedState (now words) (now floats) × CodedState (now words) (now floats)
+    requires { ⌜ SizedState (now words) (now floats)
         × (validState (now stream) (length (now journal)) (stateFrom (now words) (now floats)) ≡ true)
         × (0 < widthOf (byteAt (now command) 0)) × (byteAt (now command) 0 ≡ 8 → ⊥) ⌝ }
     ensures { λ r. ⌜ Executes (now (words .entry)) (now (floats .entry))
@@ -73,13 +71,8 @@ pub fn execute<'a>(
     journal: &'a mut [u8],
     input: &'a [u8],
 ) -> Answer
-    ensures { λ r. ⌜ (isState (now (words .entry)) (now (floats .entry)) ≡ true
-        → Executes (now (words .entry)) (now (floats .entry))
-        (inputOn (now (stream .entry)) (now (words .entry)) (now (floats .entry)) (now (journal .entry)) (now (input .entry)))
-        (now (words .exit)) (now (floats .exit)) (now (journal .exit)) r)
-        × (isState (now (words .entry)) (now (floats .entry)) ≡ false
-        → (r ≡ noEvent invalidState) × Refuses (now (words .entry)) (now (floats .entry)) (now (journal .entry)) (now (words .exit))
-        (now (floats .exit)) (now (journal .exit))) ⌝ }
+    ensures { λ r. ⌜ ExecutesInput (now (stream .entry)) (now (words .entry)) (now (floats .entry)) (now (journal .entry))
+        (now (input .entry)) (now (words .exit)) (now (floats .exit)) (now (journal .exit)) r ⌝ }
 {
     if !is_valid(words, floats, stream, journal.len()) {
         return no_event(hazards::refusals::INVALID_STATE);

@@ -14,7 +14,7 @@ use clocks::layout::CLOCK_WORDS;
 pub const KEPT_WORDS: usize = 27;
 
 // Rows over as many others.
-fn copy_words<'a, 'b>(to: &'a mut [[u64; 8]], from: &'b [[u64; 8]])
+pub(crate) fn copy_words<'a, 'b>(to: &'a mut [[u64; 8]], from: &'b [[u64; 8]])
     requires { ⌜ length (now to) ≡ length (now from) ⌝ }
     ensures { λ _. ⌜ now (to .exit) ≡ now (from .entry) ⌝ }
 {
@@ -25,7 +25,7 @@ fn copy_words<'a, 'b>(to: &'a mut [[u64; 8]], from: &'b [[u64; 8]])
     }
 }
 
-fn copy_floats<'a, 'b>(to: &'a mut [[f64; 8]], from: &'b [[f64; 8]])
+pub(crate) fn copy_floats<'a, 'b>(to: &'a mut [[f64; 8]], from: &'b [[f64; 8]])
     requires { ⌜ length (now to) ≡ length (now from) ⌝ }
     ensures { λ _. ⌜ now (to .exit) ≡ now (from .entry) ⌝ }
 {

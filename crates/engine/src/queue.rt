@@ -9,17 +9,17 @@ ghost use Rattle.engine.specs.State.{emptyRequest, queuedRequests, withQ
 ghost use Rattle.engine.specs.QueueInternals.{pickOf, MovedUp, ClearedFrom};
 ghost use lib.ListN.{length};
 ghost use Rattle.engine.specs.StateRows.{sharedFrom, LeavesShared};
-use clocks::ticks::Ticks;
 use crate::state::Request;
 use crate::state_rows::APPLIED_LENGTH;
 use crate::state_rows::COUNTS;
 use crate::state_rows::POSITION;
 use crate::state_rows::QUEUED;
-use crate::state_rows::REQUESTS;
 use crate::state_rows::REQUEST_COUNT;
 use crate::state_rows::REQUEST_INDEX;
+use crate::state_rows::REQUESTS;
 use crate::state_rows::request_at;
 use crate::state_rows::request_row;
+use clocks::ticks::Ticks;
 
 // The earliest request, where there is one.
 pub struct Pick {

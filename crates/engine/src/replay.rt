@@ -13,7 +13,6 @@ ghost use mathlib.Core.Option.{none, some};
 ghost use Rattle.engine.specs.StateRows.{sharedFrom, stateFrom, SizedState, CodedState};
 ghost use Rattle.engine.specs.KeptRows.{SizedKept, CodedKept};
 ghost use Rattle.engine.specs.InPlace.{Executes};
-use clocks::layout::CLOCK_FLOATS;
 use crate::execution::perform;
 use crate::kept_rows::KEPT_WORDS;
 use crate::refusals::NOTHING_APPLIED;
@@ -22,6 +21,7 @@ use crate::state_rows::APPLIED_LENGTH;
 use crate::state_rows::COUNTS;
 use crate::state_rows::STATE_FLOATS;
 use crate::state_rows::STATE_WORDS;
+use clocks::layout::CLOCK_FLOATS;
 use hazards::answers::Answer;
 use hazards::answers::no_event;
 
@@ -161,7 +161,8 @@ fn replay_to_last(
     }
 }
 
-// UNDO (document 01: strikes the last standing command), by a replay of the applied commands; refused by 12 or 13.
+// UNDO (document 01: strikes the last standing command), by a replay of the applied commands; refused by 12 or 13. What is left is the
+// state of the replay with the last command taken back: the comparison holds all NaNs alike, so that the caller's rows may be others.
 pub(crate) fn undo(
     words: &mut [[u64; 8]],
     floats: &mut [[f64; 8]],
@@ -180,13 +181,13 @@ pub(crate) fn undo(
     if applied == 0 {
         return no_event(NOTHING_APPLIED);
     }
-    let mut replayed: [[u64; 8]; STATE_WORDS] = [[0; 8]; STATE_WORDS];
-    let mut replayed_floats: [[f64; 8]; STATE_FLOATS] = [[0.0; 8]; STATE_FLOATS];
+    let mut end: [[u64; 8]; STATE_WORDS] = [[0; 8]; STATE_WORDS];
+    let mut end_floats: [[f64; 8]; STATE_FLOATS] = [[0.0; 8]; STATE_FLOATS];
     let mut kept: [[u64; 8]; KEPT_WORDS] = [[0; 8]; KEPT_WORDS];
     let mut kept_floats: [[f64; 8]; CLOCK_FLOATS] = [[0.0; 8]; CLOCK_FLOATS];
     let last = replay_to_last(
-        &mut replayed,
-        &mut replayed_floats,
+        &mut end,
+        &mut end_floats,
         &mut kept,
         &mut kept_floats,
         stream,
@@ -196,10 +197,12 @@ pub(crate) fn undo(
     if !last.ok {
         return no_event(REPLAY_FAILS);
     }
-    if !crate::comparison::same_state(&replayed, &replayed_floats, words, floats) {
+    if !crate::comparison::same_state(&end, &end_floats, words, floats) {
         return no_event(REPLAY_FAILS);
     }
-    crate::kept_rows::put_back(words, floats, last.clock, &kept, &kept_floats);
+    crate::kept_rows::put_back(&mut end, &mut end_floats, last.clock, &kept, &kept_floats);
+    crate::kept_rows::copy_words(words, &end);
+    crate::kept_rows::copy_floats(floats, &end_floats);
     let place = last.place;
     crate::journal::clear(&mut journal[place..], applied - place);
     no_event(0)

@@ -14,10 +14,10 @@ ghost use Rattle.engine.specs.StateRows.{sharedFrom};
 ghost use Rattle.engine.specs.ExecutionInternals.{Ready};
 ghost use Rattle.engine.specs.RunInternals.{stop, stopAt, journalAndAnswers, answerAt, isUndone, AnswersCommand, AnswersUndone};
 ghost use Rattle.engine.specs.RunInternals.{openedRun};
-use crate::refusals::BAD_BUFFERS;
-use crate::refusals::ANSWERS_FULL;
 use crate::execution::perform;
 use crate::execution::perform_reverted;
+use crate::refusals::ANSWERS_FULL;
+use crate::refusals::BAD_BUFFERS;
 use crate::replay::replay;
 use crate::state_rows::APPLIED_LENGTH;
 use crate::state_rows::COUNTS;
@@ -206,7 +206,15 @@ fn run_commands(
         }
         let command = &commands[start..at];
         if is_undone(&commands[at..], answers, place) {
-            if answer_undone(&mut words, &mut floats, stream, size, answers, place, command) {
+            if answer_undone(
+                &mut words,
+                &mut floats,
+                stream,
+                size,
+                answers,
+                place,
+                command,
+            ) {
                 at = at + 1;
                 answered = answered + 1;
             }

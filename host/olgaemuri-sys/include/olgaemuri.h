@@ -1,27 +1,40 @@
 /*
  * Olgaemuri for C and C++: survival clocks with competing causes, and an undo that gives every event back.
  *
- * A session is a list of commands and a list of recorded thresholds. `olgaemuri_run` opens an engine, gives it the
- * commands one after another and writes an answer of 32 bytes to each. To go on with a session, add to the list and
- * run it again: the same list gives the same answers, byte for byte.
+ * A session is a list of commands and a list of recorded thresholds. There are two ways to have it answered, and they give the same
+ * answers, byte for byte:
  *
- *     uint8_t list[512], stream[16], journal[512], answers[16 * OLGAEMURI_ANSWER_BYTES], result[OLGAEMURI_RESULT_BYTES];
- *     size_t length = 0;
+ * - An engine that stays open, for programs that edit as they go: `olgaemuri_open` opens it in memory of the caller, `olgaemuri_execute`
+ *   answers one command at a time, UNDO among them, and what the engine holds can be asked at any time.
+ * - The batch run, for a list that is there as a whole: `olgaemuri_run` opens an engine of its own, gives it the commands one after another
+ *   and writes an answer of 32 bytes to each. Several UNDOs in a row cost little more than one there.
+ *
+ *     static struct olgaemuri_state state;
+ *     uint8_t stream[16], journal[512], command[OLGAEMURI_SET_BYTES];
+ *     size_t length;
  *
  *     olgaemuri_put_f64(olgaemuri_put_f64(stream, 2.0), 1.0);
- *     length += olgaemuri_put_create(list + length, 0, 7, OLGAEMURI_RETAIN_RESIDUAL, OLGAEMURI_LOWEST_CAUSE, 10.0, NULL);
- *     length += olgaemuri_put_set(list + length, 0, 1, 0, olgaemuri_constant(0.5), 0.0);
- *     length += olgaemuri_put_reschedule(list + length, 0, 0.0, NULL, 0);
- *     olgaemuri_run(list, length, stream, sizeof stream, journal, sizeof journal, answers, sizeof answers, result, sizeof result);
+ *     olgaemuri_state_open(&state, journal, sizeof journal);
+ *     length = olgaemuri_put_create(command, 0, 7, OLGAEMURI_RETAIN_RESIDUAL, OLGAEMURI_LOWEST_CAUSE, 10.0, NULL);
+ *     olgaemuri_state_execute(&state, stream, sizeof stream, journal, sizeof journal, command, length);
+ *     length = olgaemuri_put_set(command, 0, 1, 0, olgaemuri_constant(0.5), 0.0);
+ *     olgaemuri_state_execute(&state, stream, sizeof stream, journal, sizeof journal, command, length);
+ *     length = olgaemuri_put_reschedule(command, 0, 0.0, NULL, 0);
  *
- *     the third answer: the threshold 2.0 is used up at 0.5 an hour, after 4 hours, at ten ticks an hour
+ *     the threshold 2.0 is used up at 0.5 an hour, after 4 hours, at ten ticks an hour
+ *     olgaemuri_state_execute(&state, stream, sizeof stream, journal, sizeof journal, command, length).ticks_low == 40
+ *
+ * The same as a batch run: the commands go to one list, and the third answer is read.
+ *
+ *     olgaemuri_run(list, list_length, stream, sizeof stream, journal, sizeof journal, answers, sizeof answers, result, sizeof result);
  *     olgaemuri_get_answer(answers + 2 * OLGAEMURI_ANSWER_BYTES).ticks_low == 40
  *
  * `olgaemuri_rate_for_wait` needs no session: it gives the constant rate with which a threshold is used up on a given day.
  *
- * Link libolgaemuri.a, which `rt staticlib olgaemuri` writes to target/staticlib. It is for x86-64, has two symbols that others
- * see, `olgaemuri_run` and `olgaemuri_rate_for_wait`, calls nothing but memcpy and memset, and has no state of its own, so that
- * calls may go on at the same time in several threads, each with its own buffers. It counts on the floating-point settings with
+ * Link libolgaemuri.a, which `rt staticlib olgaemuri` writes to target/staticlib. It is for x86-64, has nine symbols that others see
+ * (`olgaemuri_run`, `olgaemuri_open`, `olgaemuri_execute`, `olgaemuri_applied`, `olgaemuri_counts`, `olgaemuri_request`,
+ * `olgaemuri_clock`, `olgaemuri_cause` and `olgaemuri_rate_for_wait`), calls nothing but memcpy and memset, and has no state of its own,
+ * so that calls may go on at the same time in several threads, each with its own memory. It counts on the floating-point settings with
  * which a C program starts: round to nearest, subnormal numbers kept. Linking with -ffast-math changes them.
  *
  * All fields of commands, answers and results are little-endian; f64 is the 8 bytes of a double.
@@ -29,6 +42,7 @@
 #ifndef OLGAEMURI_H
 #define OLGAEMURI_H
 
+#include <stdbool.h>
 #include <stddef.h>
 #include <stdint.h>
 #include <string.h>
@@ -44,7 +58,10 @@ enum {
     OLGAEMURI_PAIRS = 8,             /* at most so many pairs in a hazard */
     OLGAEMURI_THRESHOLD_BYTES = 8,   /* one recorded threshold, an f64 */
     OLGAEMURI_ANSWER_BYTES = 32,     /* one answer */
-    OLGAEMURI_RESULT_BYTES = 16,     /* the result */
+    OLGAEMURI_RESULT_BYTES = 16,     /* the result of a batch run */
+    OLGAEMURI_ROW = 8,               /* numbers in a row of a state */
+    OLGAEMURI_STATE_WORD_ROWS = 177, /* rows of uint64_t in a state */
+    OLGAEMURI_STATE_FLOAT_ROWS = 400,/* rows of double in a state */
     OLGAEMURI_CREATE_BYTES = 33,
     OLGAEMURI_SET_BYTES = 156,       /* the widest command */
     OLGAEMURI_REMOVE_BYTES = 6,
@@ -85,13 +102,13 @@ enum olgaemuri_tie {
     OLGAEMURI_EXPLICIT_PRIORITY = 2 /* the higher priority, then the lower cause */
 };
 
-/* The number of an answer and the number that a run returns, up to 18; then the numbers, beside 0, that olgaemuri_rate_for_wait
+/* The number of an answer and the number that a call returns, up to 18; then the numbers, beside 0, that olgaemuri_rate_for_wait
    returns. A refused command changes nothing. */
 enum olgaemuri_refusal {
     OLGAEMURI_ACCEPTED = 0,
-    OLGAEMURI_INVALID_STATE = 1,     /* never in a run, which begins with an opened engine */
-    OLGAEMURI_UNKNOWN_CODE = 2,      /* code not 1 to 8; ends the run */
-    OLGAEMURI_CUT_SHORT = 3,         /* fewer bytes than the width; ends the run */
+    OLGAEMURI_INVALID_STATE = 1,     /* never in a run, nor of an engine that is open and that nobody else writes */
+    OLGAEMURI_UNKNOWN_CODE = 2,      /* code not 1 to 8; ends a run */
+    OLGAEMURI_CUT_SHORT = 3,         /* fewer bytes than the width; ends a run */
     OLGAEMURI_INVALID_CHOICE = 4,    /* policy, tie, kind or has-byte off its list, or an unused entity, censor or first not zero */
     OLGAEMURI_OUT_OF_RANGE = 5,      /* a time not from +0.0 to 2^40, or a rate or scale not finite or above 2^40 in size */
     OLGAEMURI_INVALID_PAIRS = 6,     /* count above 8, count or pairs not zero where unused, or ends not above 0, at most 2^40
@@ -102,11 +119,11 @@ enum olgaemuri_refusal {
     OLGAEMURI_TOO_MANY_CAUSES = 10,  /* SET of a ninth cause */
     OLGAEMURI_QUEUE_EMPTY = 11,      /* DELIVER while no event is pending */
     OLGAEMURI_NOTHING_APPLIED = 12,  /* UNDO while no command is applied */
-    OLGAEMURI_NOT_REPLAYABLE = 13,   /* never in a run */
+    OLGAEMURI_NOT_REPLAYABLE = 13,   /* never in a run, nor of an engine that is open and that nobody else writes */
     OLGAEMURI_JOURNAL_FULL = 14,     /* the command is longer than the free part of the journal */
     OLGAEMURI_STREAM_EXHAUSTED = 15, /* a draw is due and the recorded thresholds are used up */
     OLGAEMURI_INVALID_THRESHOLD = 16,/* the threshold due is not finite, below 0 or above 1024 */
-    OLGAEMURI_ANSWERS_FULL = 17,     /* only returned: under 32 answer bytes are left for a command, which is not done */
+    OLGAEMURI_ANSWERS_FULL = 17,     /* only returned: under 32 answer bytes for a command, which is not done */
     OLGAEMURI_INVALID_BUFFERS = 18,  /* only returned: the stream is no multiple of 8 bytes or the result not 16 */
     OLGAEMURI_OUTSIDE_LIMITS = 23,   /* the threshold is not above 0 and at most 1024, or the wait is not from 2^-40 to 2^40 */
     OLGAEMURI_NO_RATE = 24           /* no rate above 0 and at most 2^40 gives exactly the wait */
@@ -134,6 +151,110 @@ uint8_t olgaemuri_run(const uint8_t *commands, size_t commands_len, const uint8_
                       size_t journal_len, uint8_t *answers, size_t answers_len, uint8_t *result, size_t result_len);
 
 /*
+ * An engine that stays open.
+ *
+ * Its state lies in memory that the caller lends to each call: 177 rows of eight words and 400 rows of eight floats, 36,928 bytes, laid
+ * out as docs/SPECIFICATION.md sets out under "An engine in lent memory". Lengths of rows are counted in rows: word_rows is 177 and
+ * float_rows 400. `struct olgaemuri_state` below has both, and an `olgaemuri_state_...` function for each call.
+ *
+ * Stream and journal belong to the state: each call is given the same stream and the journal that the call before left. A state with its
+ * journal may be copied, kept and gone on with like any other memory. Rows that are no valid state (other sizes, a flag that is neither 0
+ * nor 1, a spare place that is not zero, ...) are refused by 1, and nothing changes.
+ *
+ * No pointer may be NULL, also where its length is 0. What a call writes overlaps nothing else that it is given.
+ */
+
+/* Opens an engine: no clock, nothing queued, a journal filled with zero. The rows may hold anything before.
+   Returns 0; or 1, with nothing changed, where the rows are not 177 and 400. */
+uint8_t olgaemuri_open(uint64_t (*words)[OLGAEMURI_ROW], size_t word_rows, double (*floats)[OLGAEMURI_ROW], size_t float_rows,
+                       uint8_t *journal, size_t journal_len);
+
+/*
+ * Executes one input: a command, UNDO, or bytes that are none.
+ *
+ * stream   the recorded thresholds, read only: f64s, drawn from the front, each from 0 to 1024
+ * journal  the applied commands, one after another, and zero behind them: an accepted command is added, UNDO takes the last one off
+ * input    read only; bytes past the command's width are ignored
+ * answer   its first 32 bytes are written
+ *
+ * Returns the answer's number; 0 where the input was accepted. 17, with nothing done and nothing written, where the answer has under 32
+ * bytes. UNDO runs the applied commands but the last again, so it takes the longer the more there are.
+ */
+uint8_t olgaemuri_execute(uint64_t (*words)[OLGAEMURI_ROW], size_t word_rows, double (*floats)[OLGAEMURI_ROW], size_t float_rows,
+                          const uint8_t *stream, size_t stream_len, uint8_t *journal, size_t journal_len, const uint8_t *input,
+                          size_t input_len, uint8_t *answer, size_t answer_len);
+
+/* How many bytes at the front of the journal are the applied commands. Returns 0 and writes the length; or 1, and writes 0, where the
+   rows are not 177 or the length is above the journal's. */
+uint8_t olgaemuri_applied(const uint64_t (*words)[OLGAEMURI_ROW], size_t word_rows, size_t journal_len, uint64_t *length);
+
+/* What a state counts; all zero where the rows are not 177. */
+struct olgaemuri_counts {
+    uint64_t queued;         /* requests in the queue: events that are pending */
+    uint64_t requests_made;  /* requests made by the applied commands, which is the next one's index */
+    uint64_t draw_position;  /* thresholds drawn by the applied commands; the next draw takes the one at this place */
+    uint64_t applied_length; /* bytes of the applied commands */
+};
+
+struct olgaemuri_counts olgaemuri_counts(const uint64_t (*words)[OLGAEMURI_ROW], size_t word_rows);
+
+/* A queued request. DELIVER takes the one with the fewest ticks, then the highest priority, then the lowest index. */
+struct olgaemuri_request {
+    bool found;
+    uint64_t clock;
+    int32_t priority;
+    uint64_t index;      /* how many requests were made before it */
+    uint64_t ticks_low;  /* its time in ticks, a number of 128 bits */
+    uint64_t ticks_high;
+};
+
+/* The request at a place from 0 to queued - 1, in the order in which they were made. Elsewhere found is false and all is zero. */
+struct olgaemuri_request olgaemuri_request(const uint64_t (*words)[OLGAEMURI_ROW], size_t word_rows, size_t place);
+
+/* A clock. */
+struct olgaemuri_clock {
+    bool found;
+    bool has_entity;
+    bool is_active;         /* an event was scheduled, and neither a pause nor a delivery came after */
+    bool has_event;         /* a request of its own is queued */
+    bool has_winner;
+    uint8_t policy;         /* enum olgaemuri_policy */
+    uint8_t tie;            /* enum olgaemuri_tie */
+    uint32_t generation;    /* of its entity */
+    uint32_t winner_cause;  /* OLGAEMURI_NO_CAUSE where the winner is censored */
+    uint64_t process;
+    uint64_t entity_index;
+    uint64_t causes;        /* how many causes it has */
+    uint64_t event_index;   /* the index of its request */
+    double scale;           /* ticks for one unit of time */
+    double winner_time;     /* when its event comes */
+    double last_update;     /* the time at which it was last rescheduled, paused or resumed */
+};
+
+/* The clock with this number, where it is present. Elsewhere found is false and all is zero. */
+struct olgaemuri_clock olgaemuri_clock(const uint64_t (*words)[OLGAEMURI_ROW], size_t word_rows, const double (*floats)[OLGAEMURI_ROW],
+                                       size_t float_rows, size_t clock);
+
+/* A cause of a clock. */
+struct olgaemuri_cause {
+    bool found;
+    uint8_t kind;           /* of its hazard, as in struct olgaemuri_hazard */
+    uint32_t cause;         /* its number */
+    uint32_t priority;      /* in ties; the higher one wins */
+    uint64_t pairs;         /* how many pairs of its hazard are used */
+    double rate;            /* the hazard's own: nothing, the rate, eta, the rate after the last pair */
+    double accumulated;     /* how much hazard is used up, counted up to the interval's start */
+    double threshold;       /* how much may be used up before the event comes */
+    double interval_start;  /* the time from which hazard is not counted yet */
+    double ends[OLGAEMURI_PAIRS];
+    double rates[OLGAEMURI_PAIRS];
+};
+
+/* The cause at a place from 0 to causes - 1 of a clock, by ascending number. Elsewhere found is false and all is zero. */
+struct olgaemuri_cause olgaemuri_cause(const uint64_t (*words)[OLGAEMURI_ROW], size_t word_rows, const double (*floats)[OLGAEMURI_ROW],
+                                       size_t float_rows, size_t clock, size_t place);
+
+/*
  * The rate for a wait: which constant rate uses up a threshold on the day on which the tool broke?
  *
  * threshold  above 0 and at most 1024
@@ -149,7 +270,7 @@ uint8_t olgaemuri_run(const uint8_t *commands, size_t commands_len, const uint8_
  */
 uint8_t olgaemuri_rate_for_wait(double threshold, double wait, double *rate);
 
-/* What a run says of itself. */
+/* What a batch run says of itself. */
 struct olgaemuri_result {
     uint64_t answered;   /* commands answered */
     uint64_t bytes_read; /* bytes of the list read as whole commands */
@@ -397,6 +518,62 @@ static inline uint8_t olgaemuri_run_session(const uint8_t *commands, size_t comm
     result->answered = olgaemuri_get_number(bytes, 8);
     result->bytes_read = olgaemuri_get_number(bytes + 8, 8);
     return number;
+}
+
+/* Engines that stay open. */
+
+/* The rows of a state. Any memory will do: static, on the heap, or a part of another struct. */
+struct olgaemuri_state {
+    uint64_t words[OLGAEMURI_STATE_WORD_ROWS][OLGAEMURI_ROW];
+    double floats[OLGAEMURI_STATE_FLOAT_ROWS][OLGAEMURI_ROW];
+};
+
+/* `olgaemuri_open` in these rows. A journal of length 0 may be NULL. */
+static inline void olgaemuri_state_open(struct olgaemuri_state *state, uint8_t *journal, size_t journal_len)
+{
+    uint8_t none = 0;
+    olgaemuri_open(state->words, OLGAEMURI_STATE_WORD_ROWS, state->floats, OLGAEMURI_STATE_FLOAT_ROWS,
+                   journal != NULL ? journal : &none, journal_len);
+}
+
+/* `olgaemuri_execute`, with the answer as a struct. Buffers of length 0 may be NULL. */
+static inline struct olgaemuri_answer olgaemuri_state_execute(struct olgaemuri_state *state, const uint8_t *stream, size_t stream_len,
+                                                              uint8_t *journal, size_t journal_len, const uint8_t *input,
+                                                              size_t input_len)
+{
+    uint8_t none = 0, bytes[OLGAEMURI_ANSWER_BYTES];
+    olgaemuri_execute(state->words, OLGAEMURI_STATE_WORD_ROWS, state->floats, OLGAEMURI_STATE_FLOAT_ROWS,
+                      stream != NULL ? stream : &none, stream_len, journal != NULL ? journal : &none, journal_len,
+                      input != NULL ? input : &none, input_len, bytes, sizeof bytes);
+    return olgaemuri_get_answer(bytes);
+}
+
+/* The length of the applied commands; 0 where it is above the journal's. */
+static inline uint64_t olgaemuri_state_applied(const struct olgaemuri_state *state, size_t journal_len)
+{
+    uint64_t length;
+    olgaemuri_applied(state->words, OLGAEMURI_STATE_WORD_ROWS, journal_len, &length);
+    return length;
+}
+
+static inline struct olgaemuri_counts olgaemuri_state_counts(const struct olgaemuri_state *state)
+{
+    return olgaemuri_counts(state->words, OLGAEMURI_STATE_WORD_ROWS);
+}
+
+static inline struct olgaemuri_request olgaemuri_state_request(const struct olgaemuri_state *state, size_t place)
+{
+    return olgaemuri_request(state->words, OLGAEMURI_STATE_WORD_ROWS, place);
+}
+
+static inline struct olgaemuri_clock olgaemuri_state_clock(const struct olgaemuri_state *state, size_t clock)
+{
+    return olgaemuri_clock(state->words, OLGAEMURI_STATE_WORD_ROWS, state->floats, OLGAEMURI_STATE_FLOAT_ROWS, clock);
+}
+
+static inline struct olgaemuri_cause olgaemuri_state_cause(const struct olgaemuri_state *state, size_t clock, size_t place)
+{
+    return olgaemuri_cause(state->words, OLGAEMURI_STATE_WORD_ROWS, state->floats, OLGAEMURI_STATE_FLOAT_ROWS, clock, place);
 }
 
 #ifdef __cplusplus

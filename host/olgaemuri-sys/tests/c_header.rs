@@ -6,7 +6,8 @@ use compiled::{below, output};
 use std::process::Command;
 
 /// The programs below tests/c, and what each prints.
-const PROGRAMS: [(&str, &str); 2] = [
+const PROGRAMS: [(&str, &str); 3] = [
+    ("engine", include_str!("c/engine.stdout")),
     ("session", include_str!("c/session.stdout")),
     ("rate", include_str!("c/rate.stdout")),
 ];

@@ -1,4 +1,4 @@
-//! The names that the library brings into a program: those of its two functions and no other, so that a program may have a `run` of its
+//! The names that the library brings into a program: those of its nine functions and no other, so that a program may have a `run` of its
 //! own.
 
 mod compiled;
@@ -25,9 +25,20 @@ fn names(option: &str) -> BTreeSet<String> {
 }
 
 #[test]
-fn the_library_has_two_names() {
+fn the_library_has_nine_names() {
     let names = names("--defined-only");
-    let expected = ["olgaemuri_rate_for_wait", "olgaemuri_run"];
+    let expected = [
+        "applied",
+        "cause",
+        "clock",
+        "counts",
+        "execute",
+        "open",
+        "rate_for_wait",
+        "request",
+        "run",
+    ];
+    let expected = expected.map(|name| format!("olgaemuri_{name}"));
     assert!(names.iter().eq(&expected), "{names:?}");
 }
 
@@ -41,7 +52,7 @@ fn it_asks_for_memcpy_and_memset_alone() {
 #[test]
 fn a_program_with_a_run_of_its_own_calls_the_engine() {
     let printed = output("gcc", &["-std=c99"], &below("tests/c/names.c"), "names");
-    let expected = "the engine: returned 0, answered 11 and 12; returned 0, rate 0.5; calls of the program's own: 0\n\
-                    the program's own: 15\n";
+    let expected = "the engine: returned 0, answered 11 and 12; returned 0, rate 0.5; opened 0, answered 11; calls of the program's \
+                    own: 0\nthe program's own: 21\n";
     assert_eq!(printed, expected);
 }

@@ -30,6 +30,11 @@ unsigned rate_for_wait(void)
     return ++calls;
 }
 
+unsigned open_state(void)
+{
+    return ++calls;
+}
+
 int main(void)
 {
     double rate;
@@ -38,8 +43,12 @@ int main(void)
     uint8_t number = olgaemuri_run(list, sizeof list, stream, sizeof stream, journal, sizeof journal, answers, sizeof answers, result,
                                    sizeof result);
     uint8_t found = olgaemuri_rate_for_wait(2.0, 4.0, &rate);
-    printf("the engine: returned %u, answered %u and %u; returned %u, rate %g; calls of the program's own: %u\n", number, answers[0],
-           answers[OLGAEMURI_ANSWER_BYTES], found, rate, calls);
-    printf("the program's own: %u\n", run() + execute() + undo() + clear() + rate_for_wait());
+    printf("the engine: returned %u, answered %u and %u; returned %u, rate %g; ", number, answers[0], answers[OLGAEMURI_ANSWER_BYTES],
+           found, rate);
+    static struct olgaemuri_state state;
+    number = olgaemuri_open(state.words, OLGAEMURI_STATE_WORD_ROWS, state.floats, OLGAEMURI_STATE_FLOAT_ROWS, journal, sizeof journal);
+    printf("opened %u, answered %u; calls of the program's own: %u\n", number,
+           olgaemuri_state_execute(&state, stream, sizeof stream, journal, sizeof journal, list, 1).number, calls);
+    printf("the program's own: %u\n", run() + execute() + undo() + clear() + rate_for_wait() + open_state());
     return 0;
 }

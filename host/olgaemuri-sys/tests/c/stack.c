@@ -1,5 +1,5 @@
-/* How many bytes of stack one run needs, and a thread that asks for one rate: each goes on a thread whose stack was filled with one
- * value, and the deepest byte that changed tells. */
+/* How many bytes of stack one run needs, an open engine for the same commands one by one, and a thread that asks for one rate: each goes
+ * on a thread whose stack was filled with one value, and the deepest byte that changed tells. */
 #define _POSIX_C_SOURCE 200112L
 #include "olgaemuri.h"
 
@@ -12,6 +12,7 @@ enum { STACK_BYTES = 1 << 20, UNTOUCHED = 0x5a, ROOM = 1024, MANY = 16 };
 /* A list of commands, and the buffers of its run; none of them on the stack that is measured. */
 static uint8_t list[ROOM], stream[2 * OLGAEMURI_THRESHOLD_BYTES], journal[ROOM], answers[MANY * OLGAEMURI_ANSWER_BYTES];
 static uint8_t result[OLGAEMURI_RESULT_BYTES];
+static struct olgaemuri_state state;
 static size_t length;
 
 /* Every command once, with both kinds of hazard that are evaluated differently; then UNDO again, which runs the others anew. */
@@ -43,6 +44,20 @@ static void *whole_run(void *number)
     return NULL;
 }
 
+static void *one_by_one(void *number)
+{
+    uint8_t *answer = answers;
+    *(uint8_t *)number = olgaemuri_open(state.words, OLGAEMURI_STATE_WORD_ROWS, state.floats, OLGAEMURI_STATE_FLOAT_ROWS, journal,
+                                        sizeof journal);
+    for (size_t at = 0; at < length; at += olgaemuri_width(list[at])) {
+        *(uint8_t *)number |= olgaemuri_execute(state.words, OLGAEMURI_STATE_WORD_ROWS, state.floats, OLGAEMURI_STATE_FLOAT_ROWS, stream,
+                                                sizeof stream, journal, sizeof journal, list + at, length - at, answer,
+                                                OLGAEMURI_ANSWER_BYTES);
+        answer += OLGAEMURI_ANSWER_BYTES;
+    }
+    return NULL;
+}
+
 static void *one_rate(void *number)
 {
     double rate;
@@ -70,17 +85,18 @@ static size_t touched(void *(*body)(void *), void *argument)
     return STACK_BYTES - untouched;
 }
 
-/* Prints what the run needs beyond a thread that does nothing, then what a thread with one rate needs in all. Fails where the run
- * ended early, a command was refused or there was no rate. */
+/* Prints what the run and the open engine need beyond a thread that does nothing, then what a thread with one rate needs in all. Fails
+ * where the run ended early, a command was refused or there was no rate. */
 int main(void)
 {
-    uint8_t number = 255, found = 255;
+    uint8_t number = 255, answered = 255, found = 255;
     write_list();
     size_t idle = touched(nothing, NULL);
     size_t used = touched(whole_run, &number);
-    printf("%zu\n%zu\n", used - idle, touched(one_rate, &found));
     for (size_t i = 0; i < olgaemuri_get_number(result, 8); i++)
         if (answers[OLGAEMURI_ANSWER_BYTES * i] != OLGAEMURI_ACCEPTED)
             return 2;
-    return number != 0 || found != 0;
+    printf("%zu\n%zu\n", used - idle, touched(one_by_one, &answered) - idle);
+    printf("%zu\n", touched(one_rate, &found));
+    return number != 0 || answered != 0 || found != 0;
 }

@@ -1,60 +1,75 @@
+-- `comparison::same_float_row` meets its contract: at each turn the floats below i are the same.
+use mathlib.Core.Path.{_≡_, sym, _∙_}
+use mathlib.Core.Bool.{Bool, true}
+use mathlib.Core.List.{List}
+use Prim.Native.Nat.{ℕ, _≤_, _-_}
+use lib.Ieee.{Float, nan}
+use lib.ListN.{getD}
+use borrow.Author.Tests.{not-true, not-false}
+use Rattle.clocks.specs.Layout.{everyBelow}
+use Rattle.clocks.proofs.EveryBelow.{every-none, every-more, every-fails}
+use Rattle.engine.specs.Comparison.{sameFloat}
+use Rattle.engine.specs.ComparisonInternals.{sameFloatRow}
 use borrow.Author.Needs.{needs}
 use native.Mathlib.Omega.{arith}
 use Rattle.engine.proofs.comparison.same_float_row.Statement.{statement}
 use Rattle.engine.proofs.comparison.same_float_row.Tie as tie
-use Rattle.engine.proofs.comparison.same_float_row.Reads as reads
-use Rattle.engine.proofs.comparison.same_float_row.Lts as lts
-use Rattle.engine.proofs.comparison.same_float.Reads as same-float-reads
+
+-- the test of place i
+abbrev sameAt : List Float → List Float → ℕ → Bool
+sameAt a b i = sameFloat (getD a i nan) (getD b i nan)
 
 abbrev Inv-loop : tie.InvT-loop
-Inv-loop a b i₀ i = ?
+Inv-loop a b i₀ i = (i ≤ 8) × (everyBelow i (sameAt a b) ≡ true)
 
 abbrev μ-loop : tie.MeasureT-loop
-μ-loop a b i₀ i = ?
+μ-loop a b i₀ i = 8 - i
 
--- src/comparison.rt:42:5
 loop-holds : tie.Need-loop-holds Inv-loop μ-loop
-loop-holds c = ?
+loop-holds c = (omega arith, every-none _)
 
--- src/comparison.rt:43:24
 mul-same-float : tie.Need-mul-same-float Inv-loop μ-loop
 mul-same-float c = omega arith
 
--- src/comparison.rt:43:24
 element-copy-out-same-float : tie.Need-element-copy-out-same-float Inv-loop μ-loop
 element-copy-out-same-float c = omega arith
 
--- src/comparison.rt:43:30
 mul-same-float-2 : tie.Need-mul-same-float-2 Inv-loop μ-loop
 mul-same-float-2 c = omega arith
 
--- src/comparison.rt:43:30
 element-copy-out-same-float-2 : tie.Need-element-copy-out-same-float-2 Inv-loop μ-loop
 element-copy-out-same-float-2 c = omega arith
 
--- src/comparison.rt:43:13
 same-float-requires : tie.Need-same-float-requires Inv-loop μ-loop
 same-float-requires c κs = search needs
 
--- src/comparison.rt:44:13
 returns : tie.Need-returns Inv-loop μ-loop
-returns c = ?
+unfolding sameFloatRow
+returns c =
+    let l = c .before .before .before .before .before in
+    let a = l .before .args in
+    let differs = sym (c .before .same-float .ensures) ∙ not-true _ (c .if1 .taken) in
+    sym (every-fails (sameAt (a .a .now) (a .b .now)) 8 (l .loop .i) (omega arith) differs)
 
--- src/comparison.rt:46:9
 add-i : tie.Need-add-i Inv-loop μ-loop
 add-i c = omega arith
 
--- src/comparison.rt:42:5
 loop-less : tie.Need-loop-less Inv-loop μ-loop
 loop-less c = omega arith
 
--- src/comparison.rt:42:5
 loop-again : tie.Need-loop-again Inv-loop μ-loop
-loop-again c = ?
+loop-again c =
+    let l = c .before .before .before .before .before in
+    let a = l .before .args in
+    let same = sym (c .before .same-float .ensures) ∙ not-false _ (c .if1 .left) in
+    (omega arith, every-more (sameAt (a .a .now) (a .b .now)) (l .loop .i) (l .loop .inv .1) same)
 
--- src/comparison.rt:38:1
 returns-2 : tie.Need-returns-2 Inv-loop μ-loop
-returns-2 c = ?
+unfolding sameFloatRow
+returns-2 c =
+    let l = c .before in
+    let eight : l .loop .i ≡ 8 = omega arith in
+    sym (rw eight at (l .loop .inv .1))
 
 pub same-float-row-spec : {M : Type 1} → statement M
 same-float-row-spec =

@@ -1,61 +1,74 @@
+-- `comparison::same_floats` meets its contract: at each turn the rows below i are the same.
+use mathlib.Core.Path.{_≡_, sym, _∙_}
+use mathlib.Core.Bool.{Bool, true}
+use mathlib.Core.List.{[]}
+use Prim.Native.Nat.{ℕ, _≤_, _-_}
+use lib.ListN.{length, getD}
+use borrow.Author.Tests.{not-true, not-false}
+use Rattle.clocks.specs.Layout.{FloatRows, everyBelow}
+use Rattle.clocks.proofs.EveryBelow.{every-none, every-more, every-fails}
+use Rattle.engine.specs.ComparisonInternals.{sameFloatRow, sameFloats}
 use borrow.Author.Needs.{needs}
 use native.Mathlib.Omega.{arith}
 use Rattle.engine.proofs.comparison.same_floats.Statement.{statement}
 use Rattle.engine.proofs.comparison.same_floats.Tie as tie
-use Rattle.engine.proofs.comparison.same_floats.Reads as reads
-use Rattle.engine.proofs.comparison.same_floats.Lts as lts
-use Rattle.engine.proofs.comparison.same_float_row.Reads as same-float-row-reads
+
+-- the test of row i
+abbrev sameAt : FloatRows → FloatRows → ℕ → Bool
+sameAt a b i = sameFloatRow (getD a i []) (getD b i [])
 
 abbrev Inv-loop : tie.InvT-loop
-Inv-loop a b i₀ i = ?
+Inv-loop a b i₀ i = (i ≤ length a) × (everyBelow i (sameAt a b) ≡ true)
 
 abbrev μ-loop : tie.MeasureT-loop
-μ-loop a b i₀ i = ?
+μ-loop a b i₀ i = length a - i
 
--- src/comparison.rt:56:5
 loop-holds : tie.Need-loop-holds Inv-loop μ-loop
-loop-holds c = ?
+loop-holds c = (omega arith, every-none _)
 
--- src/comparison.rt:57:28
 mul-same-float-row : tie.Need-mul-same-float-row Inv-loop μ-loop
 mul-same-float-row c = omega arith
 
--- src/comparison.rt:57:28
 shared-slice-element-same-float-row : tie.Need-shared-slice-element-same-float-row Inv-loop μ-loop
-shared-slice-element-same-float-row c = ?
+shared-slice-element-same-float-row c = omega arith
 
--- src/comparison.rt:57:35
 mul-same-float-row-2 : tie.Need-mul-same-float-row-2 Inv-loop μ-loop
 mul-same-float-row-2 c = omega arith
 
--- src/comparison.rt:57:35
 shared-slice-element-same-float-row-2 :
     tie.Need-shared-slice-element-same-float-row-2 Inv-loop μ-loop
-shared-slice-element-same-float-row-2 c = ?
+shared-slice-element-same-float-row-2 c = omega arith
 
--- src/comparison.rt:57:13
 same-float-row-requires : tie.Need-same-float-row-requires Inv-loop μ-loop
 same-float-row-requires c κs = search needs
 
--- src/comparison.rt:58:13
 returns : tie.Need-returns Inv-loop μ-loop
-returns c = ?
+unfolding sameFloats
+returns c =
+    let l = c .before .before .before .before .before in
+    let a = l .before .args in
+    let differs = sym (c .before .same-float-row .ensures) ∙ not-true _ (c .if1 .taken) in
+    sym (every-fails (sameAt (a .a .now) (a .b .now)) (length (a .a .now)) (l .loop .i) (omega arith) differs)
 
--- src/comparison.rt:60:9
 add-i : tie.Need-add-i Inv-loop μ-loop
 add-i c = omega arith
 
--- src/comparison.rt:56:5
 loop-less : tie.Need-loop-less Inv-loop μ-loop
 loop-less c = omega arith
 
--- src/comparison.rt:56:5
 loop-again : tie.Need-loop-again Inv-loop μ-loop
-loop-again c = ?
+loop-again c =
+    let l = c .before .before .before .before .before in
+    let a = l .before .args in
+    let same = sym (c .before .same-float-row .ensures) ∙ not-false _ (c .if1 .left) in
+    (omega arith, every-more (sameAt (a .a .now) (a .b .now)) (l .loop .i) (l .loop .inv .1) same)
 
--- src/comparison.rt:51:1
 returns-2 : tie.Need-returns-2 Inv-loop μ-loop
-returns-2 c = ?
+unfolding sameFloats
+returns-2 c =
+    let l = c .before in
+    let all : l .loop .i ≡ length (l .before .args .a .now) = omega arith in
+    sym (rw all at (l .loop .inv .1))
 
 pub same-floats-spec : {M : Type 1} → statement M
 same-floats-spec =

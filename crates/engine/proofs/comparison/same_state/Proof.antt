@@ -1,22 +1,20 @@
+-- `comparison::same_state` meets its contract.
+use Rattle.engine.proofs.SameRows.{same-rows}
 use borrow.Author.Needs.{needs}
 use Rattle.engine.proofs.comparison.same_state.Statement.{statement}
 use Rattle.engine.proofs.comparison.same_state.Tie as tie
-use Rattle.engine.proofs.comparison.same_state.Reads as reads
-use Rattle.engine.proofs.comparison.same_state.Lts as lts
-use Rattle.engine.proofs.comparison.same_floats.Reads as same-floats-reads
-use Rattle.engine.proofs.comparison.same_words.Reads as same-words-reads
 
--- src/comparison.rt:77:9
 same-words-requires : tie.Need-same-words-requires
 same-words-requires c κs = search needs
 
--- src/comparison.rt:78:9
 same-floats-requires : tie.Need-same-floats-requires
 same-floats-requires c κs = search needs
 
--- src/comparison.rt:66:1
 returns : tie.Need-returns
-returns c = ?
+returns c =
+    let x = c .before .before in
+    rw (c .before .same-words .ensures, c .same-floats .ensures)
+    (same-rows (x .args .a .now) (x .args .b .now) (x .args .a-floats .now) (x .args .b-floats .now) (x .pre .2) (x .pre .3) (x .pre .0))
 
 pub same-state-spec : {M : Type 1} → statement M
 same-state-spec = tie.close (tie.spec same-words-requires same-floats-requires returns)

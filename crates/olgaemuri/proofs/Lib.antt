@@ -1,0 +1,2 @@
+-- Laws about what a program asks of a state.
+pub mod Inspected
