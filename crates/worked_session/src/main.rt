@@ -43,6 +43,13 @@ fn constant(cause_id: u32, rate: f64, now: f64) -> CauseSetting {
     }
 }
 
+fn no_censor() -> Censor {
+    Censor {
+        present: false,
+        time: 0.0,
+    }
+}
+
 fn say(what: &[u8], number: u64) {
     io::write_all(STDOUT_FILENO, what);
     io::print_decimal(STDOUT_FILENO, number);
@@ -56,33 +63,39 @@ fn tell(what: &[u8], asked: QueueChange) {
     say(b" at tick ", asked.ticks.low);
 }
 
-fn play(words: &mut [[u64; 8]], floats: &mut [[f64; 8]], stream: &[u8])
+// How many thresholds are drawn.
+fn start(words: &mut [[u64; 8]], floats: &mut [[f64; 8]], stream: &[u8]) -> usize
     requires { ⌜ Sized (now words) (now floats) ⌝ }
 {
-    let no_censor = Censor {
-        present: false,
-        time: 0.0,
-    };
-    create_press(words, floats);
     let set = clocks::setting::set_channel(words, floats, constant(1, 0.5, 0.0), stream, 0);
     say(
         b"hour 0: cause 1 set at rate 0.5; thresholds drawn: ",
         set.position as u64,
     );
-    let first = clocks::scheduling::reschedule(words, floats, 0.0, no_censor, 0);
-    tell(b"hour 0: ", first);
+    let asked = clocks::scheduling::reschedule(words, floats, 0.0, no_censor(), 0);
+    tell(b"hour 0: ", asked);
+    set.position
+}
+
+fn pause_and_resume(words: &mut [[u64; 8]], floats: &mut [[f64; 8]])
+    requires { ⌜ Sized (now words) (now floats) ⌝ }
+{
     let withdrawn = clocks::scheduling::pause(words, floats, 1.0);
     say(b"hour 1: paused; withdrawn request: ", withdrawn.index);
-    let second = clocks::scheduling::resume(words, floats, 3.0, no_censor, 1);
-    tell(b"hour 3: resumed; ", second);
-    let other = constant(2, 1.0, 3.0);
-    let again = clocks::setting::set_channel(words, floats, other, stream, set.position);
+    let asked = clocks::scheduling::resume(words, floats, 3.0, no_censor(), 1);
+    tell(b"hour 3: resumed; ", asked);
+}
+
+fn add_cause(words: &mut [[u64; 8]], floats: &mut [[f64; 8]], stream: &[u8], drawn: usize)
+    requires { ⌜ Sized (now words) (now floats) ⌝ }
+{
+    let set = clocks::setting::set_channel(words, floats, constant(2, 1.0, 3.0), stream, drawn);
     say(
         b"hour 3: cause 2 set at rate 1; thresholds drawn: ",
-        again.position as u64,
+        set.position as u64,
     );
-    let third = clocks::scheduling::reschedule(words, floats, 3.0, no_censor, 2);
-    tell(b"hour 3: ", third);
+    let asked = clocks::scheduling::reschedule(words, floats, 3.0, no_censor(), 2);
+    tell(b"hour 3: ", asked);
 }
 
 fn main() {
@@ -91,5 +104,8 @@ fn main() {
     let mut stream = [0u8; 16];
     hazards::fields::put_f64(&mut stream, 0, 2.0);
     hazards::fields::put_f64(&mut stream, 8, 1.0);
-    play(&mut words, &mut floats, &stream);
+    create_press(&mut words, &mut floats);
+    let drawn = start(&mut words, &mut floats, &stream);
+    pause_and_resume(&mut words, &mut floats);
+    add_cause(&mut words, &mut floats, &stream, drawn);
 }

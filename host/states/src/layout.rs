@@ -1,5 +1,6 @@
 //! The fields of a state: where each stands in the record and lies in the rows, what it holds, and its name.
 
+use olgaemuri_sys::{STATE_FLOAT_ROWS, STATE_WORD_ROWS};
 use reference::clock::CHANNELS;
 use reference::command_fields::CLOCKS;
 use reference::hazard::PAIRS;
@@ -44,9 +45,7 @@ impl Place {
     }
 }
 
-/// The rows of a state, of a clock, and those that the counts and the queue begin with.
-pub const STATE_WORDS: usize = 177;
-pub const STATE_FLOATS: usize = 400;
+/// The rows of a clock, and those that the counts and the queue begin with.
 const CLOCK_WORDS: usize = 10;
 const CLOCK_FLOATS: usize = 25;
 const COUNTS_ROW: usize = 160;
@@ -218,8 +217,8 @@ impl Layout {
 
 /// Every number of the rows.
 pub fn places() -> impl Iterator<Item = Place> {
-    let words = (0..STATE_WORDS).flat_map(|row| (0..8).map(move |at| Place::Word(row, at)));
-    let floats = (0..STATE_FLOATS).flat_map(|row| (0..8).map(move |at| Place::Float(row, at)));
+    let words = (0..STATE_WORD_ROWS).flat_map(|row| (0..8).map(move |at| Place::Word(row, at)));
+    let floats = (0..STATE_FLOAT_ROWS).flat_map(|row| (0..8).map(move |at| Place::Float(row, at)));
     words.chain(floats)
 }
 

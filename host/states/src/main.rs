@@ -5,7 +5,7 @@
 //! and the journal are held to those of the batch run; after some sessions UNDO is given to rows with each number changed in turn. Ends with
 //! 1 at the first difference.
 
-#![deny(unsafe_code)]
+#![forbid(unsafe_code)]
 
 mod both;
 mod engine;

@@ -1,6 +1,7 @@
 //! A state in the engine's rows, between them and a state's record.
 
-use crate::layout::{Field, Kind, Layout, Place, STATE_FLOATS, STATE_WORDS};
+use crate::layout::{Field, Kind, Layout, Place};
+use olgaemuri_sys::{STATE_FLOAT_ROWS, STATE_WORD_ROWS};
 use reference::hazard::ZERO;
 use reference::record::STATE_BYTES;
 
@@ -15,8 +16,8 @@ impl Rows {
     /// The same word everywhere, and the float of its bits.
     pub fn filled(word: u64) -> Self {
         Self {
-            words: vec![[word; 8]; STATE_WORDS],
-            floats: vec![[f64::from_bits(word); 8]; STATE_FLOATS],
+            words: vec![[word; 8]; STATE_WORD_ROWS],
+            floats: vec![[f64::from_bits(word); 8]; STATE_FLOAT_ROWS],
         }
     }
 

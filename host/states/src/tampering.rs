@@ -1,8 +1,9 @@
 //! One field of a state's record, one number of its rows, or one bit of the applied commands, changed at random.
 
-use crate::layout::{Field, Kind, Part, Place, STATE_FLOATS, STATE_WORDS, is_used};
+use crate::layout::{Field, Kind, Part, Place, is_used};
 use crate::rows::Rows;
 use cases::random::Random;
+use olgaemuri_sys::{STATE_FLOAT_ROWS, STATE_WORD_ROWS};
 use reference::dump::QUEUED_BYTES;
 use reference::record::HEAD_BYTES;
 
@@ -122,20 +123,23 @@ pub fn tamper_rows(random: &mut Random, rows: &mut Rows) -> Place {
 }
 
 fn any_place(random: &mut Random) -> Place {
-    let (row, at) = (random.index(STATE_WORDS + STATE_FLOATS), random.index(8));
-    if row < STATE_WORDS {
+    let (row, at) = (
+        random.index(STATE_WORD_ROWS + STATE_FLOAT_ROWS),
+        random.index(8),
+    );
+    if row < STATE_WORD_ROWS {
         Place::Word(row, at)
     } else {
-        Place::Float(row - STATE_WORDS, at)
+        Place::Float(row - STATE_WORD_ROWS, at)
     }
 }
 
 /// In a row that holds something; as often a word as a float.
 fn used_place(random: &mut Random, rows: &Rows) -> Place {
-    let words: Vec<usize> = (0..STATE_WORDS)
+    let words: Vec<usize> = (0..STATE_WORD_ROWS)
         .filter(|row| rows.words[*row] != [0; 8])
         .collect();
-    let floats: Vec<usize> = (0..STATE_FLOATS)
+    let floats: Vec<usize> = (0..STATE_FLOAT_ROWS)
         .filter(|row| rows.floats[*row] != [0.0; 8])
         .collect();
     let at = random.index(8);
