@@ -8,6 +8,7 @@ mod compare;
 mod describe;
 mod engine_report;
 mod engine_workloads;
+mod execute_report;
 mod formats;
 mod numbers;
 mod orders;
@@ -30,10 +31,12 @@ fn main() -> ExitCode {
             report::print();
             rate_report::print();
             engine_report::print();
+            execute_report::print();
             ExitCode::SUCCESS
         }
         ["--engine"] => {
             engine_report::print();
+            execute_report::print();
             ExitCode::SUCCESS
         }
         [option, seed, count] => match (comparison(option), seed.parse(), count.parse()) {
