@@ -227,11 +227,10 @@ impl Session {
     /// Gives the engine what the list has behind the inputs that are answered, where an outcome is known. Bytes that were no whole
     /// command may be one with those behind them.
     fn answer_rest(&mut self) {
-        if self
-            .outcome
-            .get()
-            .is_none_or(|run| run.end.is_none() && run.answered_bytes() == self.commands.len())
-        {
+        let Some(run) = self.outcome.get() else {
+            return;
+        };
+        if run.end.is_none() && run.answered_bytes() == self.commands.len() {
             return;
         }
         self.engine();

@@ -4,7 +4,8 @@ mod common;
 
 use common::{Random, any_command, create, likely_command, reschedule, reschedule_on, set, set_on};
 use olgaemuri::{
-    Answer, Command, Engine, Entity, Hazard, NO_CAUSE, Pair, Policy, Refusal, Request, Session, Tie,
+    Answer, CauseState, Clock, ClockState, Command, Engine, Entity, Hazard, NO_CAUSE, Pair,
+    Pending, Policy, Refusal, Request, Session, Tie,
 };
 
 /// All that an engine tells.
@@ -44,67 +45,40 @@ fn some_command(random: &mut Random) -> Command {
 /// The engine and the run agree on what both tell.
 fn assert_agree(engine: &Engine, session: &Session) {
     let run = session.run();
-    assert!(
-        engine
-            .applied()
-            .eq(run.applied().map(|applied| applied.command.clone()))
-    );
+    let applied = run.applied().map(|applied| applied.command.clone());
+    assert!(engine.applied().eq(applied));
     assert_eq!(engine.draw_position(), session.draws());
     let made: u64 = run.clocks.iter().map(|clock| clock.events.made).sum();
     assert_eq!(engine.requests_made(), made);
-    assert_eq!(engine.clocks().count(), run.clocks.len());
-    for (held, told) in engine.clocks().zip(&run.clocks) {
-        let settings = (
-            held.number,
-            held.process,
-            held.policy,
-            held.tie,
-            held.scale,
-            held.entity,
-        );
-        let said = (
-            told.number,
-            told.process,
-            told.policy,
-            told.tie,
-            told.scale,
-            told.entity,
-        );
-        assert_eq!(settings, said);
-        assert_eq!(held.active, told.active);
-        assert_eq!(held.request, told.events.pending.map(|event| event.index));
-        let causes = held
-            .causes()
-            .map(|cause| (cause.number, cause.priority, cause.hazard));
-        let told = told
-            .causes
-            .iter()
-            .map(|cause| (cause.number, cause.priority, cause.hazard.clone()));
-        assert!(causes.eq(told));
-    }
-    let queue = engine.queue();
-    assert_eq!(queue.len(), run.pending().len());
-    for (held, told) in queue.iter().zip(run.pending()) {
-        let fields = (
-            held.clock,
-            held.ticks,
-            held.priority,
-            held.index,
-            held.cause,
-            held.censored,
-        );
-        let said = (
-            told.clock,
-            told.ticks,
-            told.priority,
-            told.index,
-            told.cause,
-            told.censored,
-        );
-        assert_eq!(fields, said);
-        assert_eq!(held.scheduled_at, told.scheduled_at);
-        assert_eq!(held.time, told.scheduled_at + told.delta);
-    }
+    let clocks: Vec<ClockState> = engine.clocks().collect();
+    assert_eq!(clocks.len(), run.clocks.len());
+    let pairs = clocks.iter().zip(&run.clocks);
+    pairs.for_each(|(held, told)| assert_same_clock(held, told));
+    let (queue, pending) = (engine.queue(), run.pending());
+    assert_eq!(queue.len(), pending.len());
+    let pairs = queue.iter().zip(&pending);
+    pairs.for_each(|(held, told)| assert_same_event(held, told));
+}
+
+fn assert_same_clock(held: &ClockState, told: &Clock) {
+    assert_eq!((held.number, held.process), (told.number, told.process));
+    assert_eq!((held.policy, held.tie), (told.policy, told.tie));
+    assert_eq!((held.scale, held.entity), (told.scale, told.entity));
+    let request = told.events.pending.map(|event| event.index);
+    assert_eq!((held.active, held.request), (told.active, request));
+    let causes = held
+        .causes()
+        .map(|cause| (cause.number, cause.priority, cause.hazard));
+    let told = told.causes.iter().cloned();
+    assert!(causes.eq(told.map(|cause| (cause.number, cause.priority, cause.hazard))));
+}
+
+fn assert_same_event(held: &Request, told: &Pending) {
+    assert_eq!(held.delivery_order(), told.delivery_order());
+    assert_eq!((held.clock, held.cause), (told.clock, told.cause));
+    assert_eq!(held.censored, told.censored);
+    assert_eq!(held.scheduled_at, told.scheduled_at);
+    assert_eq!(held.time, told.scheduled_at + told.delta);
 }
 
 #[test]
@@ -250,87 +224,67 @@ fn bytes_that_are_no_command() {
     assert_eq!(engine.applied().count(), 0);
 }
 
+/// A press with two causes, one of them piecewise, that is due at its censor time.
+const PRESS: &str = "thresholds 2 4\n\
+    create machine=15 process=7 policy=restart tie=priority scale=10 entity=3:9\n\
+    set machine=15 cause=9 now=1 hazard=piecewise pieces=2:0.25,3:-0 then=0.5 priority=6\n\
+    set machine=15 cause=2 now=1 hazard=constant rate=0\n\
+    reschedule machine=15 now=1.5 censor=4 priority=-1\n";
+
+/// An engine that was given the press.
+fn given_press() -> Engine {
+    let session: Session = PRESS.parse().unwrap();
+    let mut engine = Engine::new(session.thresholds());
+    for input in session.inputs() {
+        assert!(engine.execute_raw(&input.to_bytes()).is_accepted());
+    }
+    engine
+}
+
 #[test]
-fn every_field_of_a_clock_and_its_causes() {
-    let mut engine = Engine::new([2.0, 4.0]);
-    let entity = Some(Entity {
+fn every_field_of_a_clock() {
+    let engine = given_press();
+    let clock = engine.clock(15).unwrap();
+    let entity = Entity {
         index: 3,
         generation: 9,
-    });
-    let (policy, tie) = (Policy::Restart, Tie::ExplicitPriority);
-    engine.execute(&Command::Create {
-        clock: 15,
-        process: 7,
-        policy,
-        tie,
-        scale: 10.0,
-        entity,
-    });
-    let pairs = vec![
-        Pair {
-            end: 2.0,
-            rate: 0.25,
-        },
-        Pair {
-            end: 3.0,
-            rate: -0.0,
-        },
-    ];
-    let hazard = Hazard::PiecewiseConstant {
-        pairs,
-        trailing: 0.5,
     };
-    let set = Command::Set {
-        clock: 15,
-        cause: 9,
-        priority: 6,
-        hazard: hazard.clone(),
-        now: 1.0,
-    };
-    engine.execute(&set);
-    engine.execute(&set_on(15, 2, 0.0, 1.0));
-    let censor = Some(4.0);
-    engine.execute(&Command::Reschedule {
-        clock: 15,
-        now: 1.5,
-        censor,
-        priority: -1,
-    });
-    let clock = engine.clock(15).unwrap();
-    assert_eq!((clock.number, clock.process, clock.policy), (15, 7, policy));
-    assert_eq!((clock.tie, clock.scale, clock.entity), (tie, 10.0, entity));
+    assert_eq!((clock.number, clock.process, clock.scale), (15, 7, 10.0));
     assert_eq!(
-        (clock.active, clock.request, clock.last_update),
-        (true, Some(0), 1.5)
+        (clock.policy, clock.tie, clock.entity),
+        (Policy::Restart, Tie::ExplicitPriority, Some(entity))
     );
+    assert_eq!((clock.active, clock.request), (true, Some(0)));
     let winner = clock.winner.unwrap();
     assert_eq!((winner.cause, winner.time), (NO_CAUSE, 4.0));
-    let causes: Vec<_> = clock.causes().collect();
+    assert_eq!(clock.last_update, 1.5);
+    assert!([0, 14, 16, 255].map(|number| engine.clock(number).is_none()) == [true; 4]);
+}
+
+#[test]
+fn every_field_of_a_cause() {
+    let engine = given_press();
+    let causes: Vec<CauseState> = engine.clock(15).unwrap().causes().collect();
+    let [first, second] = causes.as_slice() else {
+        panic!("{causes:?}");
+    };
+    assert_eq!((first.number, &first.hazard), (2, &Hazard::Constant(0.0)));
+    assert_eq!((second.number, second.priority), (9, 6));
+    let pieces = [(2.0, 0.25), (3.0, -0.0)].map(|(end, rate)| Pair { end, rate });
     assert_eq!(
-        (causes[0].number, &causes[0].hazard),
-        (2, &Hazard::Constant(0.0))
+        (second.hazard.pairs(), second.hazard.first()),
+        (&pieces[..], 0.5)
     );
-    let second = &causes[1];
-    assert_eq!(
-        (second.number, second.priority, &second.hazard),
-        (9, 6, &hazard)
-    );
-    assert_eq!(
-        (second.threshold, second.accumulated, second.interval_start),
-        (2.0, 0.0, 1.0)
-    );
-    assert!(engine.clock(0).is_none() && engine.clock(16).is_none() && engine.clock(255).is_none());
-    let request = engine.queue()[0];
-    assert_eq!(
-        (
-            request.clock,
-            request.ticks,
-            request.priority,
-            request.index
-        ),
-        (15, 40, -1, 0)
-    );
-    assert!(request.censored && request.cause == NO_CAUSE);
+    assert_eq!((second.threshold, second.accumulated), (2.0, 0.0));
+    assert_eq!(second.interval_start, 1.0);
+}
+
+#[test]
+fn every_field_of_a_request() {
+    let request = given_press().queue()[0];
+    assert_eq!((request.clock, request.ticks), (15, 40));
+    assert_eq!((request.priority, request.index), (-1, 0));
+    assert_eq!((request.cause, request.censored), (NO_CAUSE, true));
     assert_eq!((request.scheduled_at, request.time), (1.5, 4.0));
 }
 

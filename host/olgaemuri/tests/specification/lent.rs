@@ -88,7 +88,7 @@ impl Lent {
             floats: vec![[7; ROW]; STATE_FLOAT_ROWS],
             journal: vec![7; 1000],
         };
-        lent.call(|words, floats, journal| open(words, floats, journal));
+        lent.call(open);
         lent
     }
 
@@ -174,38 +174,39 @@ fn edge(values: &str) -> (u64, Option<u64>) {
     }
 }
 
+/// An opened state with this value at a place of the words or floats.
+fn opened_with(head: &str, (row, place): (usize, usize), value: u64) -> Lent {
+    let mut lent = Lent::opened();
+    let rows = if head == WORDS {
+        &mut lent.words
+    } else {
+        &mut lent.floats
+    };
+    rows[row][place] = value;
+    lent
+}
+
 /// Of an opened state every clock, channel and request is unused, so that coding alone decides, but for the counts.
+fn assert_coded(head: &str, field: &Field, place: (usize, usize)) {
+    let (coded, other) = edge(field.values);
+    if head == FLOATS || place.0 != 160 {
+        let number = opened_with(head, place, coded).number(&DELIVER);
+        assert_eq!(number, QUEUE_EMPTY, "{} {place:?}", field.name);
+    }
+    if let Some(other) = other {
+        let mut lent = opened_with(head, place, other);
+        let before = lent.clone();
+        assert_eq!(lent.number(&DELIVER), INVALID_STATE, "{}", field.name);
+        assert_eq!(lent, before);
+    }
+}
+
 #[test]
 fn values_that_are_coded_and_values_that_are_not() {
     for head in [WORDS, FLOATS] {
         for field in fields(head) {
-            let (coded, other) = edge(field.values);
-            for (row, place) in field.places() {
-                let with = |value: u64| {
-                    let mut lent = Lent::opened();
-                    let rows = if head == WORDS {
-                        &mut lent.words
-                    } else {
-                        &mut lent.floats
-                    };
-                    rows[row][place] = value;
-                    lent
-                };
-                if head == FLOATS || row != 160 {
-                    assert_eq!(
-                        with(coded).number(&DELIVER),
-                        QUEUE_EMPTY,
-                        "{} {row}",
-                        field.name
-                    );
-                }
-                if let Some(other) = other {
-                    let mut lent = with(other);
-                    let before = lent.clone();
-                    assert_eq!(lent.number(&DELIVER), INVALID_STATE, "{} {row}", field.name);
-                    assert_eq!(lent, before);
-                }
-            }
+            let places = field.places().into_iter();
+            places.for_each(|place| assert_coded(head, &field, place));
         }
     }
 }
