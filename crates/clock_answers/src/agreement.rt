@@ -25,7 +25,7 @@ fn answer_agrees(played: Played, case: &[u8]) -> bool {
 }
 
 // The clock after a step, as the list has it.
-fn clock_agrees(words: &[[u64; 8]], floats: &[[f64; 8]], case: &[u8]) -> bool
+fn clock_agrees<'a, 'c>(words: &'a [[u64; 8]], floats: &'a [[f64; 8]], case: &'c [u8]) -> bool
     requires { ⌜ Sized (now words) (now floats) ⌝ }
 {
     let mut out = [0u8; CLOCK_WIDTH];
@@ -36,7 +36,12 @@ fn clock_agrees(words: &[[u64; 8]], floats: &[[f64; 8]], case: &[u8]) -> bool
     check::same(&out, &case[CLOCK_PLACE..STEP_WIDTH])
 }
 
-pub fn agrees(words: &[[u64; 8]], floats: &[[f64; 8]], played: Played, case: &[u8]) -> bool
+pub fn agrees<'a, 'c>(
+    words: &'a [[u64; 8]],
+    floats: &'a [[f64; 8]],
+    played: Played,
+    case: &'c [u8],
+) -> bool
     requires { ⌜ Sized (now words) (now floats) ⌝ }
 {
     let answer = answer_agrees(played, case);

@@ -70,7 +70,7 @@ fn put_channel(out: &mut [u8], at: usize, c: HazardChannelState)
 }
 
 // Every place for a channel, used or not.
-fn put_channels(out: &mut [u8], words: &[[u64; 8]], floats: &[[f64; 8]])
+fn put_channels<'o, 'a>(out: &'o mut [u8], words: &'a [[u64; 8]], floats: &'a [[f64; 8]])
     requires { ⌜ Sized (now words) (now floats) ⌝ }
 {
     let mut j: usize = 0;
@@ -81,7 +81,7 @@ fn put_channels(out: &mut [u8], words: &[[u64; 8]], floats: &[[f64; 8]])
     }
 }
 
-// What CREATE gave, and the number of channels used.
+// What CREATE gave.
 fn put_settings(out: &mut [u8], a: &[u64; 8], scale: f64) {
     put_u64(out, 0, a[PROCESS]);
     put_u8(out, 8, byte_from(a[HAS_ENTITY]));
@@ -90,7 +90,6 @@ fn put_settings(out: &mut [u8], a: &[u64; 8], scale: f64) {
     put_u8(out, 21, byte_from(a[POLICY]));
     put_u8(out, 22, byte_from(a[TIE]));
     put_f64(out, 23, scale);
-    put_u8(out, 31, byte_from(a[COUNT]));
 }
 
 // The event that the clock has in the queue, its winner and its times.
@@ -104,10 +103,11 @@ fn put_schedule(out: &mut [u8], b: &[u64; 8], times: &[f64; 8]) {
     put_f64(out, 1415, times[LAST_UPDATE]);
 }
 
-pub fn put_clock(out: &mut [u8], words: &[[u64; 8]], floats: &[[f64; 8]])
+pub fn put_clock<'o, 'a>(out: &'o mut [u8], words: &'a [[u64; 8]], floats: &'a [[f64; 8]])
     requires { ⌜ Sized (now words) (now floats) ⌝ }
 {
     put_settings(out, &words[SETTINGS], floats[TIMES][SCALE]);
+    put_u8(out, 31, byte_from(words[SETTINGS][COUNT]));
     put_channels(out, words, floats);
     put_schedule(out, &words[SCHEDULE], &floats[TIMES]);
 }

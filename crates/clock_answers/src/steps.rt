@@ -113,6 +113,20 @@ fn after_delivery(event: RealizedEvent, ticks: Ticks, position: usize) -> Played
     }
 }
 
+fn set(
+    words: &mut [[u64; 8]],
+    floats: &mut [[f64; 8]],
+    ticks: Ticks,
+    case: &[u8],
+    stream: &[u8],
+) -> Played
+    requires { ⌜ Sized (now words) (now floats) ⌝ }
+{
+    let position = u64_at(case, POSITION_FIELD) as usize;
+    let set = clocks::setting::set_channel(words, floats, setting_of(case), stream, position);
+    idle(set.number, ticks, set.position)
+}
+
 // A step that schedules nothing: CREATE, SET or REMOVE.
 fn change(
     words: &mut [[u64; 8]],
@@ -126,15 +140,16 @@ fn change(
     let position = u64_at(case, POSITION_FIELD) as usize;
     let code = u8_at(case, 0);
     match code {
-        CREATE => create(words, floats, case),
-        SET => {
-            let setting = setting_of(case);
-            let set = clocks::setting::set_channel(words, floats, setting, stream, position);
-            return idle(set.number, ticks, set.position);
+        CREATE => {
+            create(words, floats, case);
+            idle(0, ticks, position)
         }
-        _ => clocks::clocks::remove_channel(words, floats, u32_at(case, CAUSE_FIELD)),
+        SET => set(words, floats, ticks, case, stream),
+        _ => {
+            clocks::clocks::remove_channel(words, floats, u32_at(case, CAUSE_FIELD));
+            idle(0, ticks, position)
+        }
     }
-    idle(0, ticks, position)
 }
 
 pub fn play(

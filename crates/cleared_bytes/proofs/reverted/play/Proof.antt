@@ -1,17 +1,17 @@
--- `reverted::played` is safe and ends: seven commands, and the journal keeps its length.
+-- `reverted::play` is safe and ends: seven commands, and rows and journal keep their lengths.
 use Prim.Native.Nat.{_≤_, _-_}
 use mathlib.Core.Path.{_≡_}
 use lib.ListN.{length}
 use borrow.Author.Needs.{needs}
 use native.Mathlib.Omega.{arith}
-use Rattle.cleared_bytes.proofs.reverted.played.Statement.{statement}
-use Rattle.cleared_bytes.proofs.reverted.played.Tie as tie
+use Rattle.cleared_bytes.proofs.reverted.play.Statement.{statement}
+use Rattle.cleared_bytes.proofs.reverted.play.Tie as tie
 
 abbrev Inv-loop : tie.InvT-loop
-Inv-loop stream commands journal₀ state₀ i₀ journal state i = (length journal ≡ 300) × (i ≤ 7)
+Inv-loop words₀ floats₀ stream commands journal₀ i₀ words floats journal i = (length words ≡ length words₀) × (length floats ≡ length floats₀) × (length journal ≡ 300) × (i ≤ 7)
 
 abbrev μ-loop : tie.MeasureT-loop
-μ-loop stream commands journal₀ state₀ i₀ journal state i = 7 - i
+μ-loop words₀ floats₀ stream commands journal₀ i₀ words floats journal i = 7 - i
 
 commands-requires : tie.Need-commands-requires Inv-loop μ-loop
 commands-requires c κs = search needs
@@ -23,7 +23,7 @@ open-requires : tie.Need-open-requires Inv-loop μ-loop
 open-requires c κs = search needs
 
 loop-holds : tie.Need-loop-holds Inv-loop μ-loop
-loop-holds c = (search needs, search needs)
+loop-holds c = (search needs, search needs, search needs, search needs)
 
 place-requires : tie.Need-place-requires Inv-loop μ-loop
 place-requires c κs = search needs
@@ -50,13 +50,19 @@ loop-less : tie.Need-loop-less Inv-loop μ-loop
 loop-less c = omega arith
 
 loop-again : tie.Need-loop-again Inv-loop μ-loop
-loop-again c = (search needs, search needs)
+loop-again c = (search needs, search needs, search needs, search needs)
+
+same-length : tie.Need-same-length Inv-loop μ-loop
+same-length c = search needs
+
+same-length-2 : tie.Need-same-length-2 Inv-loop μ-loop
+same-length-2 c = search needs
 
 returns : tie.Need-returns Inv-loop μ-loop
 returns c = search needs
 
-pub played-spec : {M : Type 1} → statement M
-played-spec =
+pub play-spec : {M : Type 1} → statement M
+play-spec =
     tie.close
     (tie.spec
     Inv-loop
@@ -74,4 +80,6 @@ played-spec =
     add-i
     loop-less
     loop-again
+    same-length
+    same-length-2
     returns)
