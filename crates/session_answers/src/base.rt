@@ -39,11 +39,11 @@ fn put_piecewise(bytes: &mut [u8]) {
 }
 
 // The rows become the state that the first `count` of the commands give from opening.
-pub fn give(
+pub fn give<'a>(
     words: &mut [[u64; 8]],
     floats: &mut [[f64; 8]],
-    commands: &[u8],
-    stream: &[u8],
+    commands: &'a [u8],
+    stream: &'a [u8],
     count: usize,
 ) {
     let mut journal = [0x5Au8; 400];

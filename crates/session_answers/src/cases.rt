@@ -1,5 +1,4 @@
 // The tampered states and journals by number: first those that state validation refuses, then those that UNDO refuses by 13.
-ghost use Prim.Native.Nat.{_≤_};
 use crate::changes;
 use crate::invalid_states;
 use crate::other_journals;
@@ -28,9 +27,7 @@ pub fn number_of(case: u64) -> u8 {
 }
 
 // How many rows of words are lent: a state's, one fewer or one more.
-pub fn word_rows(case: u64) -> usize
-    ensures { λ r. ⌜ r ≤ 178 ⌝ }
-{
+pub fn word_rows(case: u64) -> usize {
     if case == SIZES {
         return STATE_WORDS - 1;
     }
@@ -41,9 +38,7 @@ pub fn word_rows(case: u64) -> usize
 }
 
 // The same of floats.
-pub fn float_rows(case: u64) -> usize
-    ensures { λ r. ⌜ r ≤ 401 ⌝ }
-{
+pub fn float_rows(case: u64) -> usize {
     if case == SIZES + 2 {
         return STATE_FLOATS - 1;
     }

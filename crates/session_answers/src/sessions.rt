@@ -14,12 +14,12 @@ fn length_at(head: &[u8], at: usize) -> usize {
 }
 
 // The batch run, then command by command.
-fn play(
-    commands: &[u8],
-    stream: &[u8],
-    answers: &[u8],
-    journal: &[u8],
-    result: &[u8],
+fn play<'a, 'r>(
+    commands: &'a [u8],
+    stream: &'a [u8],
+    answers: &'r [u8],
+    journal: &'r [u8],
+    result: &'r [u8],
     number: u8,
     tally: Tally,
 ) -> Tally {

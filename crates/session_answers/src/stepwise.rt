@@ -22,11 +22,11 @@ fn answer_agrees(answer: Answer, answers: &[u8], i: usize) -> bool
 }
 
 // Each input is the rest of the commands: bytes past a command's width are ignored.
-fn play_commands(
-    commands: &[u8],
-    stream: &[u8],
-    journal: &mut [u8],
-    answers: &[u8],
+fn play_commands<'a, 'j, 'r>(
+    commands: &'a [u8],
+    stream: &'a [u8],
+    journal: &'j mut [u8],
+    answers: &'r [u8],
     answered: usize,
     tally: Tally,
 ) -> Tally
@@ -53,12 +53,12 @@ fn play_commands(
 }
 
 // A run that 18 ended has answered nothing, and its journal was never opened.
-pub fn play(
-    commands: &[u8],
-    stream: &[u8],
-    answers: &[u8],
-    journal: &[u8],
-    result: &[u8],
+pub fn play<'a, 'r>(
+    commands: &'a [u8],
+    stream: &'a [u8],
+    answers: &'r [u8],
+    journal: &'r [u8],
+    result: &'r [u8],
     number: u8,
     tally: Tally,
 ) -> Tally {

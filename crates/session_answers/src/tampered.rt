@@ -39,22 +39,60 @@ fn is_refusal(answer: Answer, number: u8) -> bool {
     check::same(&given, &expected)
 }
 
+// The state and the journal of a case, in the front rows.
+fn hand(
+    case: u64,
+    words: &mut [[u64; 8]],
+    floats: &mut [[f64; 8]],
+    journal: &mut [u8],
+    stream: &[u8],
+) {
+    if STATE_WORDS <= words.len() {
+        if STATE_FLOATS <= floats.len() {
+            let state_words = &mut words[0..STATE_WORDS];
+            let state_floats = &mut floats[0..STATE_FLOATS];
+            crate::base::play(state_words, state_floats, journal, stream);
+            cases::tamper(case, state_words, state_floats, journal);
+        }
+    }
+}
+
+// An input on as many of the rows as the case lends.
+fn give<'a>(
+    case: u64,
+    words: &mut [[u64; 8]],
+    floats: &mut [[f64; 8]],
+    journal: &mut [u8],
+    stream: &'a [u8],
+    input: &'a [u8],
+) -> Answer {
+    let word_rows = cases::word_rows(case);
+    let float_rows = cases::float_rows(case);
+    if word_rows <= words.len() {
+        if float_rows <= floats.len() {
+            return engine::execute::execute(
+                &mut words[0..word_rows],
+                &mut floats[0..float_rows],
+                stream,
+                journal,
+                input,
+            );
+        }
+    }
+    hazards::answers::no_event(0)
+}
+
 // Whether an input is answered by a number and changes nothing. There is room for a row more than a state's of either kind.
 fn is_refused(case: u64, input: &[u8], number: u8) -> bool {
     let stream = crate::base::stream();
     let mut words = [[0u64; 8]; STATE_WORDS + 1];
     let mut floats = [[0.0; 8]; STATE_FLOATS + 1];
     let mut journal = [0u8; 400];
-    let state_words = &mut words[..STATE_WORDS];
-    let state_floats = &mut floats[..STATE_FLOATS];
-    crate::base::play(state_words, state_floats, &mut journal, &stream);
-    cases::tamper(case, state_words, state_floats, &mut journal);
+    hand(case, &mut words, &mut floats, &mut journal, &stream);
     let words_before = words;
     let floats_before = floats;
     let journal_before = journal;
-    let lent_words = &mut words[..cases::word_rows(case)];
-    let lent_floats = &mut floats[..cases::float_rows(case)];
-    let answer = engine::execute::execute(lent_words, lent_floats, &stream, &mut journal, input);
+    let answer = give(case, &mut words, &mut floats, &mut journal, &stream, input);
     let refused = is_refusal(answer, number);
     let same_journal = check::same(&journal, &journal_before);
     let same_words = crate::same_rows::same_words(&words, &words_before);

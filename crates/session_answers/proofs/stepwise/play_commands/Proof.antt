@@ -1,4 +1,4 @@
--- `play_commands` is safe and ends: at most 128 commands, and the journal keeps its length.
+-- `play_commands` is safe and ends: at most 128 commands, and rows and journal keep their lengths.
 use Prim.Native.Nat.{_≤_, _-_}
 use mathlib.Core.Path.{_≡_}
 use lib.ListN.{length}
@@ -8,20 +8,32 @@ use Rattle.session_answers.proofs.stepwise.play_commands.Statement.{sta
 use Rattle.session_answers.proofs.stepwise.play_commands.Tie as tie
 
 abbrev Inv-loop : tie.InvT-loop
-Inv-loop commands stream journal₀ answers answered tally after₀ state₀ at₀ i₀ journal after state at i =
-    (i ≤ answered) × (length journal ≡ length journal₀) × (answered ≤ 128)
+Inv-loop commands stream journal₀ answers answered tally after₀ words₀ floats₀ at₀ i₀ journal after words floats at i =
+    (i ≤ answered) × (length journal ≡ length journal₀) × (length words ≡ 177) × (length floats ≡ 400) × (answered ≤ 128)
 
 abbrev μ-loop : tie.MeasureT-loop
-μ-loop commands stream journal₀ answers answered tally after₀ state₀ at₀ i₀ journal after state at i = answered - i
+μ-loop commands stream journal₀ answers answered tally after₀ words₀ floats₀ at₀ i₀ journal after words floats at i = answered - i
+
+slice-aggregate-open : tie.Need-slice-aggregate-open Inv-loop μ-loop
+slice-aggregate-open c = search needs
+
+slice-aggregate-open-2 : tie.Need-slice-aggregate-open-2 Inv-loop μ-loop
+slice-aggregate-open-2 c = search needs
 
 open-requires : tie.Need-open-requires Inv-loop μ-loop
 open-requires c κs = search needs
 
 loop-holds : tie.Need-loop-holds Inv-loop μ-loop
-loop-holds c = (search needs, search needs, search needs)
+loop-holds c = (search needs, search needs, search needs, search needs, search needs)
 
 rest-from-requires : tie.Need-rest-from-requires Inv-loop μ-loop
 rest-from-requires c κs = search needs
+
+slice-aggregate-execute : tie.Need-slice-aggregate-execute Inv-loop μ-loop
+slice-aggregate-execute c = search needs
+
+slice-aggregate-execute-2 : tie.Need-slice-aggregate-execute-2 Inv-loop μ-loop
+slice-aggregate-execute-2 c = search needs
 
 execute-requires : tie.Need-execute-requires Inv-loop μ-loop
 execute-requires c κs = search needs
@@ -42,14 +54,13 @@ place-after-requires : tie.Need-place-after-requires Inv-loop μ-loop
 place-after-requires c κs = search needs
 
 add-i : tie.Need-add-i Inv-loop μ-loop
-add-i c =
-    let l = c .before .before .before .before .before .before .before .before .before .before .before .loop in omega (arith, l .inv .2)
+add-i c = omega arith
 
 loop-less : tie.Need-loop-less Inv-loop μ-loop
 loop-less c = omega arith
 
 loop-again : tie.Need-loop-again Inv-loop μ-loop
-loop-again c = (search needs, search needs, search needs)
+loop-again c = (search needs, search needs, search needs, search needs, search needs)
 
 same-length : tie.Need-same-length Inv-loop μ-loop
 same-length c = search needs
@@ -63,9 +74,13 @@ play-commands-spec =
     (tie.spec
     Inv-loop
     μ-loop
+    slice-aggregate-open
+    slice-aggregate-open-2
     open-requires
     loop-holds
     rest-from-requires
+    slice-aggregate-execute
+    slice-aggregate-execute-2
     execute-requires
     answer-agrees-requires
     add-print-command

@@ -1,24 +1,22 @@
--- `try_each` is safe and ends: the cases are numbered up to 52.
+-- `try_all` is safe and ends: the cases are numbered up to 93.
 use Prim.Native.Nat.{_≤_, _-_}
 use borrow.Author.Needs.{needs}
 use native.Mathlib.Omega.{arith}
-use Rattle.session_answers.proofs.tampered.try_each.Statement.{statement}
-use Rattle.session_answers.proofs.tampered.try_each.Tie as tie
+use Rattle.session_answers.proofs.tampered.try_all.Statement.{statement}
+use Rattle.session_answers.proofs.tampered.try_all.Tie as tie
 
 abbrev Inv-loop : tie.InvT-loop
-Inv-loop base stream verdicts₀ case₀ verdicts case = case ≤ 52
+Inv-loop verdicts₀ case₀ verdicts case =
+    case ≤ 93
 
 abbrev μ-loop : tie.MeasureT-loop
-μ-loop base stream verdicts₀ case₀ verdicts case = 52 - case
+μ-loop verdicts₀ case₀ verdicts case = 93 - case
 
 try-untampered-requires : tie.Need-try-untampered-requires Inv-loop μ-loop
 try-untampered-requires c κs = search needs
 
 loop-holds : tie.Need-loop-holds Inv-loop μ-loop
 loop-holds c = search needs
-
-tampered-requires : tie.Need-tampered-requires Inv-loop μ-loop
-tampered-requires c κs = search needs
 
 is-refused-as-due-requires : tie.Need-is-refused-as-due-requires Inv-loop μ-loop
 is-refused-as-due-requires c κs = search needs
@@ -38,15 +36,14 @@ loop-again c = search needs
 returns : tie.Need-returns Inv-loop μ-loop
 returns c = search needs
 
-pub try-each-spec : {M : Type 1} → statement M
-try-each-spec =
+pub try-all-spec : {M : Type 1} → statement M
+try-all-spec =
     tie.close
     (tie.spec
     Inv-loop
     μ-loop
     try-untampered-requires
     loop-holds
-    tampered-requires
     is-refused-as-due-requires
     with-requires
     add-case
