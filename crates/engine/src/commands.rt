@@ -149,22 +149,6 @@ fn hazard_fields(command: &[u8]) -> HazardFields
     }
 }
 
-// The cause, priority, hazard and time of a SET.
-pub fn setting_of(command: &[u8]) -> CauseSetting
-    ensures { λ r. ⌜ r ≡ settingOf (now (command .entry)) ⌝ }
-{
-    let fields = hazard_fields(command);
-    let hazard = fields.hazard();
-    let intervals = fields.intervals();
-    CauseSetting {
-        cause_id: u32_at(command, CAUSE_FIELD),
-        priority: u32_at(command, SET_PRIORITY_FIELD),
-        hazard,
-        intervals,
-        now: f64_at(command, SET_NOW_FIELD),
-    }
-}
-
 // The censor of a RESCHEDULE or RESUME.
 pub fn censor_of(command: &[u8]) -> Censor
     ensures { λ r. ⌜ r ≡ censorOf (now (command .entry)) ⌝ }
@@ -229,14 +213,44 @@ pub fn cause_faults(command: &[u8]) -> Faults
     hazards::refusals::identifier_fault_if(reserved).joined(clock_faults(command))
 }
 
-// Of SET: its hazard and now, and what REMOVE is tested for.
+// What a SET says of its cause, and what refusals 4 to 7 say of it: of its hazard and now, and what REMOVE is tested for. The pairs are
+// read once.
+pub struct SetCommand {
+    pub faults: Faults,
+    pub setting: CauseSetting,
+}
+
+pub fn set_command(command: &[u8]) -> SetCommand
+    ensures { λ r. ⌜ (r .faults ≡ setFaults (now (command .entry))) × (r .setting ≡ settingOf (now (command .entry))) ⌝ }
+{
+    let fields = hazard_fields(command);
+    let time = f64_at(command, SET_NOW_FIELD);
+    let now = hazards::floats::is_time(time);
+    let rest = hazards::refusals::range_fault_unless(now).joined(cause_faults(command));
+    let faults = fields.faults().joined(rest);
+    let hazard = fields.hazard();
+    let intervals = fields.intervals();
+    let setting = CauseSetting {
+        cause_id: u32_at(command, CAUSE_FIELD),
+        priority: u32_at(command, SET_PRIORITY_FIELD),
+        hazard,
+        intervals,
+        now: time,
+    };
+    SetCommand { faults, setting }
+}
+
 pub fn set_faults(command: &[u8]) -> Faults
     ensures { λ r. ⌜ r ≡ setFaults (now (command .entry)) ⌝ }
 {
-    let fields = hazard_fields(command);
-    let now = hazards::floats::is_time(f64_at(command, SET_NOW_FIELD));
-    let rest = hazards::refusals::range_fault_unless(now).joined(cause_faults(command));
-    fields.faults().joined(rest)
+    set_command(command).faults
+}
+
+// The setting alone.
+pub fn setting_of(command: &[u8]) -> CauseSetting
+    ensures { λ r. ⌜ r ≡ settingOf (now (command .entry)) ⌝ }
+{
+    set_command(command).setting
 }
 
 // Of RESCHEDULE and RESUME: now and censor, and their clock.

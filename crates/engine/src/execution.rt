@@ -316,12 +316,13 @@ fn perform_set(
         (sharedFrom (now (words .entry))) (now (command .entry))))
         (now (words .exit)) (now (floats .exit)) r ⌝ }
 {
-    let number = refusal_of(words, command, crate::commands::set_faults(command));
+    let read = crate::commands::set_command(command);
+    let number = refusal_of(words, command, read.faults);
     if number != 0 {
         return no_event(number);
     }
     let clock = byte_at(command, CLOCK_FIELD) as usize;
-    let setting = crate::commands::setting_of(command);
+    let setting = read.setting;
     if !takes_cause(words, clock, setting.cause_id) {
         return no_event(hazards::refusals::TOO_MANY_CAUSES);
     }

@@ -30,15 +30,14 @@ same-length-4 c = search needs
 
 returns-2 : tie.Need-returns-2
 returns-2 c =
-    let did = c .before .before .before .before .before .before .before .before in
-    (
+    let did = c .before .before .before .before .before .before .before .before in (
       (λ h.
-      record {
-        answer = did .execute .result;
-        executes = did .execute .ensures;
-        by-number = refl;
-        bytes = c .before .before .put-answer .ensures;
-      }),
+          record {
+            answer = did .execute .result;
+            executes = did .execute .ensures;
+            by-number = refl;
+            bytes = c .before .before .put-answer .ensures;
+          }),
       (λ h. absurd (omega (arith, did .before .before .before .before .if1 .left))),
     )
 

@@ -23,13 +23,13 @@ use borrow.Author.Needs.{needs}
 use Rattle.engine.proofs.execution.perform_set.Statement.{statement}
 use Rattle.engine.proofs.execution.perform_set.Tie as tie
 
-set-faults-requires : tie.Need-set-faults-requires
-set-faults-requires c κs = search needs
+set-command-requires : tie.Need-set-command-requires
+set-command-requires c κs = search needs
 
 refusal-of-requires : tie.Need-refusal-of-requires
 refusal-of-requires c κs =
     let m = c .before .before .before .before in
-    (m .pre .sized .words, λ h. set-accepted (m .args .command .now) (rw (c .set-faults .ensures) at h) .clock)
+    (m .pre .sized .words, λ h. set-accepted (m .args .command .now) (rw (c .before .set-command .ensures .0) at h) .clock)
 
 no-event-requires : tie.Need-no-event-requires
 no-event-requires c κs = search needs
@@ -47,7 +47,7 @@ returns c =
     let f = a .floats .now in
     let b = a .command .now in
     let here = slotAt (stateFrom w f) (clockOf b) .present in
-    let e = q .refusal-of .ensures f ∙ ap (refusalOf here) (q .before .set-faults .ensures) in
+    let e = q .refusal-of .ensures f ∙ ap (refusalOf here) (q .before .before .set-command .ensures .0) in
     turned-away w f b (setFaults b) (setOn (a .journal-length) (sharedFrom w) b (a .stream .now)) e (c .before .if1 .taken)
     (c .no-event .ensures)
 
@@ -56,9 +56,6 @@ byte-at-requires c κs = search needs
 
 cast-clock : tie.Need-cast-clock
 cast-clock c = search needs
-
-setting-of-requires : tie.Need-setting-of-requires
-setting-of-requires c κs = search needs
 
 takes-cause-requires : tie.Need-takes-cause-requires
 takes-cause-requires c κs =
@@ -70,7 +67,7 @@ takes-cause-requires c κs =
     let f = a .floats .now in
     let b = a .command .now in
     let here = slotAt (stateFrom w f) (clockOf b) in
-    let e = q .before .refusal-of .ensures f ∙ ap (refusalOf (here .present)) (q .before .before .set-faults .ensures) in
+    let e = q .before .refusal-of .ensures f ∙ ap (refusalOf (here .present)) (q .before .before .before .set-command .ensures .0) in
     let does = setOn (a .journal-length) (sharedFrom w) b (a .stream .now) in
     let clean = there-clean (setFaults b) here does e (q .if1 .left) in
     (rw (t .before .byte-at .ensures) (set-accepted b clean .clock), m .pre .sized .words)
@@ -93,11 +90,11 @@ returns-2 c =
     let f = a .floats .now in
     let b = a .command .now in
     let here = slotAt (stateFrom w f) (clockOf b) in
-    let e = q .before .refusal-of .ensures f ∙ ap (refusalOf (here .present)) (q .before .before .set-faults .ensures) in
+    let e = q .before .refusal-of .ensures f ∙ ap (refusalOf (here .present)) (q .before .before .before .set-command .ensures .0) in
     let does = setOn (a .journal-length) (sharedFrom w) b (a .stream .now) in
     let r = setChannel (here .clock) (settingOf b) (a .stream .now) (sharedFrom w .position) in
     let taken : takesCause (here .clock) (settingOf b .«cause_id») ≡ false =
-    sym (rw (t .setting-of .ensures, t .before .byte-at .ensures) at (i .before .takes-cause .ensures f)) ∙ not-true _ (i .if2 .taken) in
+    sym (rw (q .before .before .before .set-command .ensures .1, t .before .byte-at .ensures) at (i .before .takes-cause .ensures f)) ∙ not-true _ (i .if2 .taken) in
     let ninth : r .number ≡ tooManyCauses = not-taken (here .clock) (settingOf b) (a .stream .now) (sharedFrom w .position) taken in
     refused-later w f b (setFaults b) does e (q .if1 .left) tooManyCauses (λ z. omega arith)
     (ap refused (sym ninth) ∙ set-ninth (a .journal-length) (sharedFrom w) b r ninth) (c .no-event2 .ensures)
@@ -124,11 +121,11 @@ returns-3 c =
     let f = a .floats .now in
     let b = a .command .now in
     let here = slotAt (stateFrom w f) (clockOf b) in
-    let e = q .before .refusal-of .ensures f ∙ ap (refusalOf (here .present)) (q .before .before .set-faults .ensures) in
+    let e = q .before .refusal-of .ensures f ∙ ap (refusalOf (here .present)) (q .before .before .before .set-command .ensures .0) in
     let does = setOn (a .journal-length) (sharedFrom w) b (a .stream .now) in
     let r = setChannel (here .clock) (settingOf b) (a .stream .now) (sharedFrom w .position) in
     let taken : takesCause (here .clock) (settingOf b .«cause_id») ≡ true =
-    sym (rw (t .setting-of .ensures, t .before .byte-at .ensures) at (i .before .takes-cause .ensures f)) ∙ not-false _ (i .if2 .left) in
+    sym (rw (q .before .before .before .set-command .ensures .1, t .before .byte-at .ensures) at (i .before .takes-cause .ensures f)) ∙ not-false _ (i .if2 .left) in
     let other = taken-other (here .clock) (settingOf b) (a .stream .now) (sharedFrom w .position) taken in
     refused-later w f b (setFaults b) does e (q .if1 .left) journalFull (λ z. omega arith)
     (set-full (a .journal-length) (sharedFrom w) b r other (sym (h .has-room .ensures) ∙ not-true _ (c .before .if3 .taken)))
@@ -144,7 +141,7 @@ set-in-requires c κs =
     let f = a .floats .now in
     let b = a .command .now in
     let here = slotAt (stateFrom w f) (clockOf b) in
-    let e = q .before .refusal-of .ensures f ∙ ap (refusalOf (here .present)) (q .before .before .set-faults .ensures) in
+    let e = q .before .refusal-of .ensures f ∙ ap (refusalOf (here .present)) (q .before .before .before .set-command .ensures .0) in
     let does = setOn (a .journal-length) (sharedFrom w) b (a .stream .now) in
     let clean = there-clean (setFaults b) here does e (q .if1 .left) in
     (rw (t .before .byte-at .ensures) (set-accepted b clean .clock), m .pre .sized)
@@ -172,15 +169,15 @@ returns-4 c =
     let f = a .floats .now in
     let b = a .command .now in
     let here = slotAt (stateFrom w f) (clockOf b) in
-    let e = q .before .refusal-of .ensures f ∙ ap (refusalOf (here .present)) (q .before .before .set-faults .ensures) in
+    let e = q .before .refusal-of .ensures f ∙ ap (refusalOf (here .present)) (q .before .before .before .set-command .ensures .0) in
     let does = setOn (a .journal-length) (sharedFrom w) b (a .stream .now) in
     let r = setChannel (here .clock) (settingOf b) (a .stream .now) (sharedFrom w .position) in
     let taken : takesCause (here .clock) (settingOf b .«cause_id») ≡ true =
-    sym (rw (t .setting-of .ensures, t .before .byte-at .ensures) at (i .before .takes-cause .ensures f)) ∙ not-false _ (i .if2 .left) in
+    sym (rw (q .before .before .before .set-command .ensures .1, t .before .byte-at .ensures) at (i .before .takes-cause .ensures f)) ∙ not-false _ (i .if2 .left) in
     let other = taken-other (here .clock) (settingOf b) (a .stream .now) (sharedFrom w .position) taken in
     let fit = sym (g .before .has-room .ensures) ∙ not-false _ (g .if3 .left) in
     let call = l .set-in in
-    let drawn : call .result ≡ channelDraw r = rw (t .setting-of .ensures, t .before .byte-at .ensures) at (call .ensures .1) in
+    let drawn : call .result ≡ channelDraw r = rw (q .before .before .before .set-command .ensures .1, t .before .byte-at .ensures) at (call .ensures .1) in
     let number = ap (λ (x : ChannelDraw). x .number) drawn in
     let refusal = c .before .if4 .taken in
     let same = call .ensures .2 refusal in
@@ -234,20 +231,20 @@ returns-5 c =
     let f = a .floats .now in
     let b = a .command .now in
     let here = slotAt (stateFrom w f) (clockOf b) in
-    let e = q .before .refusal-of .ensures f ∙ ap (refusalOf (here .present)) (q .before .before .set-faults .ensures) in
+    let e = q .before .refusal-of .ensures f ∙ ap (refusalOf (here .present)) (q .before .before .before .set-command .ensures .0) in
     let does = setOn (a .journal-length) (sharedFrom w) b (a .stream .now) in
     let r = setChannel (here .clock) (settingOf b) (a .stream .now) (sharedFrom w .position) in
     let taken : takesCause (here .clock) (settingOf b .«cause_id») ≡ true =
-    sym (rw (t .setting-of .ensures, t .before .byte-at .ensures) at (i .before .takes-cause .ensures f)) ∙ not-false _ (i .if2 .left) in
+    sym (rw (q .before .before .before .set-command .ensures .1, t .before .byte-at .ensures) at (i .before .takes-cause .ensures f)) ∙ not-false _ (i .if2 .left) in
     let other = taken-other (here .clock) (settingOf b) (a .stream .now) (sharedFrom w .position) taken in
     let fit = sym (g .before .has-room .ensures) ∙ not-false _ (g .if3 .left) in
     let call = l .set-in in
-    let drawn : call .result ≡ channelDraw r = rw (t .setting-of .ensures, t .before .byte-at .ensures) at (call .ensures .1) in
+    let drawn : call .result ≡ channelDraw r = rw (q .before .before .before .set-command .ensures .1, t .before .byte-at .ensures) at (call .ensures .1) in
     let number = ap (λ (x : ChannelDraw). x .number) drawn in
     let put = c .before .before .before .before .before .put-position in
     let count = c .before .before .count-applied in
     let left : LeavesClock w f (clockOf b) (call .last .0) (call .last .1 .0) (r .clock) =
-    rw (t .setting-of .ensures, t .before .byte-at .ensures) at (call .ensures .0) in
+    rw (q .before .before .before .set-command .ensures .1, t .before .byte-at .ensures) at (call .ensures .0) in
     let moved = put .ensures .shared ∙ ap₂ withPosition (left .shared) (ap (λ (x : ChannelDraw). x .position) drawn) in
     carried-out w f b (setFaults b) does e (q .if1 .left)
     (set-done (a .journal-length) (sharedFrom w) b r other fit
@@ -260,14 +257,13 @@ pub perform-set-spec : {M : Type 1} → statement M
 perform-set-spec =
     tie.close
     (tie.spec
-    set-faults-requires
+    set-command-requires
     refusal-of-requires
     no-event-requires
     same-length
     returns
     byte-at-requires
     cast-clock
-    setting-of-requires
     takes-cause-requires
     no-event-requires-2
     same-length-2
