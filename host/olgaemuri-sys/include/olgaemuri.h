@@ -178,7 +178,7 @@ uint8_t olgaemuri_open(uint64_t (*words)[OLGAEMURI_ROW], size_t word_rows, doubl
  * answer   its first 32 bytes are written
  *
  * Returns the answer's number; 0 where the input was accepted. 17, with nothing done and nothing written, where the answer has under 32
- * bytes. UNDO runs the applied commands but the last again, so it takes the longer the more there are.
+ * bytes. UNDO runs the applied commands again, so it takes the longer the more there are.
  */
 uint8_t olgaemuri_execute(uint64_t (*words)[OLGAEMURI_ROW], size_t word_rows, double (*floats)[OLGAEMURI_ROW], size_t float_rows,
                           const uint8_t *stream, size_t stream_len, uint8_t *journal, size_t journal_len, const uint8_t *input,

@@ -97,7 +97,7 @@ impl Engine {
     }
 
     /// Chooses how many bytes of commands in force there is room for; a command beyond is refused by 14. Without a choice there is
-    /// room for all. Commands in force are given again, and those that have no room are left out.
+    /// room for all. The commands in force are given again, up to the first that has no room.
     #[must_use]
     pub fn with_journal_length(mut self, length: usize) -> Self {
         self.longest = length;
@@ -106,7 +106,8 @@ impl Engine {
         self
     }
 
-    /// Adds thresholds behind those that are there. The engine is opened anew over all of them and given the commands in force.
+    /// Adds thresholds behind those that are there. The engine is opened anew over all of them and given the commands in force, so it
+    /// takes the longer the more there are: add many at a time.
     pub fn push_thresholds(&mut self, thresholds: &[f64]) {
         self.stream.extend(thresholds_to_bytes(thresholds));
         let applied = self.applied_bytes().to_vec();
@@ -202,14 +203,17 @@ impl Engine {
         olgaemuri_sys::counts(&self.words).requests_made
     }
 
-    /// Opens the engine anew, in a journal of this length where it may have it, and gives it these commands.
+    /// Opens the engine anew, in a journal of this length where it may have it, and gives it these commands, up to the first that has
+    /// no room there.
     fn open(&mut self, length: usize, applied: &[u8]) {
         let length = length.max(FIRST_LENGTH).min(self.longest);
         self.journal.clear();
         self.journal.resize(length, 0);
         olgaemuri_sys::open(&mut self.words, &mut self.floats, &mut self.journal);
         for begin in begins(applied) {
-            self.answer(&applied[begin..]);
+            if !self.answer(&applied[begin..]).is_accepted() {
+                break;
+            }
         }
     }
 

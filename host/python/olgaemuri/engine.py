@@ -119,7 +119,7 @@ class Engine:
         if count == 1:
             return int(self.undo().refusal is None)
         applied = self.applied
-        count = min(count, len(applied))
+        count = max(0, min(count, len(applied)))
         if count > 0:
             self._open(self._length, b"".join(command.to_bytes() for command in applied[:-count]))
         return count

@@ -1,4 +1,4 @@
-//! A whole state as a record of fixed length, the layout in which the Rattle library `engine_probe` reads and writes one.
+//! A whole state as a record of fixed length, with a place for every field, from which `host/states` fills the rows of the engine.
 
 use crate::choices::{POLICIES, TIES};
 use crate::clock::{self, CHANNELS};
