@@ -9,8 +9,7 @@ use lib.Dec.{eqb}
 use lib.ListN.{length, getD, set}
 use Rattle.hazards.proofs.Cases.{by-test}
 use Rattle.clocks.specs.Clocks.{SurvivalClock, withChannels}
-use Rattle.clocks.specs.Layout.{WordRows, FloatRows, channelAt, clockOf, clockFrom}
-use Rattle.clocks.specs.Layout.{codedChannel, Coded, Leaves}
+use Rattle.clocks.specs.Layout.{WordRows, FloatRows, channelAt, clockOf, clockFrom, codedChannel, Coded, Leaves}
 use Rattle.clocks.specs.declared.channels.HazardChannelState.{HazardChannelState}
 use Rattle.clocks.proofs.Tables.{length-table, getD-table, table-set}
 

@@ -13,7 +13,8 @@ use Rattle.hazards.specs.declared.draws.DrawAndPosition.{DrawAndPosition}
 use Rattle.clocks.specs.Channels.{settledHazard, placeOfCause}
 use Rattle.clocks.specs.Clocks.{SurvivalClock, policyOf, usedChannels}
 use Rattle.clocks.specs.Layout.{WordRows, FloatRows, byteFrom, channelAt, clockFrom, Leaves}
-use Rattle.clocks.specs.Setting.{ChannelSet, channelOf, drawsAgain, setAgain, takesCause, channelDraw}
+use Rattle.clocks.specs.Setting.{ChannelSet, channelOf, drawsAgain, setAgain}
+use Rattle.clocks.specs.RowsInternals.{takesCause, channelDraw}
 use Rattle.clocks.specs.declared.channels.CausePlace.the-variants.{At, Absent}
 use Rattle.clocks.specs.declared.channels.HazardChannelState.{HazardChannelState}
 use Rattle.clocks.specs.declared.clocks.HazardInterruptionPolicy.{HazardInterruptionPolicy}

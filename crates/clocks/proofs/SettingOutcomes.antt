@@ -12,7 +12,8 @@ use Rattle.hazards.specs.Refusals.{tooManyCauses}
 use Rattle.hazards.proofs.DrawLaws.{drawNumber, each-way, accepted-within}
 use Rattle.clocks.specs.Channels.{emptyChannel, settledHazard, placeOfCause}
 use Rattle.clocks.specs.Clocks.{SurvivalClock, usedChannels, withChannels}
-use Rattle.clocks.specs.Setting.{ChannelSet, drawsAgain, notSet, setAgain, setNew, setChannel, takesCause}
+use Rattle.clocks.specs.Setting.{ChannelSet, drawsAgain, notSet, setAgain, setNew, setChannel}
+use Rattle.clocks.specs.RowsInternals.{takesCause}
 use Rattle.clocks.specs.declared.channels.HazardChannelState.{HazardChannelState}
 use Rattle.clocks.specs.declared.setting.CauseSetting.{CauseSetting}
 use Rattle.hazards.proofs.Cases.{by-test}

@@ -14,7 +14,6 @@ use Rattle.clocks.specs.Clocks.{SurvivalClock, notScheduled, noWinner, w
 use Rattle.clocks.specs.declared.clocks.ScheduledEvent.{ScheduledEvent}
 use Rattle.clocks.specs.declared.scheduling.Censor.{Censor}
 use Rattle.clocks.specs.declared.scheduling.RealizedEvent.{RealizedEvent}
-use Rattle.clocks.specs.declared.scheduling.QueueChange.{QueueChange}
 use Rattle.clocks.specs.declared.ticks.Ticks.{Ticks}
 
 -- the clock, the event that is withdrawn, and the event that is asked for, with its ticks
@@ -112,7 +111,3 @@ onEventDispatched k =
           (realized (w .«cause_id») (notBelowZero (sub binary64 (w .time) (k .«last_update_time»))) (eqb (w .«cause_id») noCause))
           notRealized;
     }
-
--- what a clock that is rescheduled asks of the queue
-abbrev pub queueChange : Rescheduled → QueueChange
-queueChange r = record { withdrawn = r .withdrawn; event = r .event; ticks = r .ticks }

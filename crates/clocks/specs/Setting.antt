@@ -17,7 +17,6 @@ use Rattle.clocks.specs.declared.channels.CausePlace.the-variants.{At, A
 use Rattle.clocks.specs.declared.clocks.HazardInterruptionPolicy.{HazardInterruptionPolicy}
 use Rattle.clocks.specs.declared.clocks.HazardInterruptionPolicy.the-variants.{Restart, RetainResidual}
 use Rattle.clocks.specs.declared.setting.CauseSetting.{CauseSetting}
-use Rattle.clocks.specs.declared.setting.ChannelDraw.{ChannelDraw}
 
 -- the refusal or 0, the clock and the draw position after it
 pub record ChannelSet : Type 0 where
@@ -83,15 +82,3 @@ setChannel k s stream position =
       | At at ↦ setAgain k s stream position at
       | Absent ↦ setNew k s stream position
     ]
-
--- whether the clock has a cause, or a place for it
-unfoldable pub takesCause : SurvivalClock → ℕ → Bool
-takesCause k cause =
-    elim (placeOfCause cause (usedChannels k)) [
-      | At at ↦ true
-      | Absent ↦ ltb (k .«channel_count») 8
-    ]
-
--- the outcome without the clock
-abbrev pub channelDraw : ChannelSet → ChannelDraw
-channelDraw r = record { number = r .number; position = r .position }

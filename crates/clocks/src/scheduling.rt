@@ -2,7 +2,8 @@
 ghost use mathlib.Core.Path.{_≡_};
 ghost use Rattle.clocks.specs.Clocks.{notScheduled};
 ghost use Rattle.clocks.specs.Scheduling.{notRealized, realized, finalEvent, scheduledFor};
-ghost use Rattle.clocks.specs.Scheduling.{reschedule, pause, resume, onEventDispatched, queueChange};
+ghost use Rattle.clocks.specs.Scheduling.{reschedule, pause, resume, onEventDispatched};
+ghost use Rattle.clocks.specs.RowsInternals.{queueChange};
 ghost use Rattle.clocks.specs.Layout.{Sized, Leaves, clockFrom};
 use crate::clocks::ScheduledEvent;
 use crate::layout::ACTIVE;

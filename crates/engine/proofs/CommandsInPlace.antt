@@ -20,8 +20,7 @@ use Rattle.engine.specs.Queue.{nextRequest}
 use Rattle.engine.specs.State.{slotAt, withSlot, queuedRequests, ClockSlot, SharedState, EngineState}
 use Rattle.engine.specs.Execution.{OnSlot, refused, done, holding, stored, unlessFaulty, onClock, clockOfRequest}
 use Rattle.engine.specs.Execution.{target, performOn, perform}
-use Rattle.engine.specs.StateRows.{slotOf, sharedFrom, stateFrom, CodedState, SizedState, LeavesShared, LeavesClock}
-use Rattle.engine.specs.StateRows.{Performs}
+use Rattle.engine.specs.StateRows.{slotOf, sharedFrom, stateFrom, CodedState, SizedState, LeavesShared, LeavesClock, Performs}
 use Rattle.hazards.proofs.Cases.{by-test}
 use Rattle.engine.proofs.CommandLaws.{no-width}
 use Rattle.engine.proofs.ExecutionCases.{refusalOf, not-done, there, there-present, target-named, target-deliver}

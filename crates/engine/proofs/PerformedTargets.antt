@@ -14,8 +14,7 @@ use Rattle.engine.specs.Commands.{widthOf, clockOf}
 use Rattle.engine.specs.Queue.{nextRequest}
 use Rattle.engine.specs.State.{slotAt, queuedRequests, ClockSlot, SharedState, EngineState}
 use Rattle.engine.specs.Engine.{code}
-use Rattle.engine.specs.Execution.{done}
-use Rattle.engine.specs.Execution.{performOn, target}
+use Rattle.engine.specs.Execution.{done, performOn, target}
 use Rattle.engine.specs.Instance.{engineOf}
 use Rattle.engine.specs.declared.state.Request.{Request}
 use Rattle.engine.proofs.CommandLists.{Whole}

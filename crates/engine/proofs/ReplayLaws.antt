@@ -18,8 +18,7 @@ use Rattle.engine.specs.Engine.{Bytes, Engine, rejected, performed, carr
 use Rattle.engine.specs.Execution.{perform}
 use Rattle.engine.specs.Validation.{validState}
 use Rattle.engine.specs.Instance.{engineOf}
-use Rattle.engine.specs.ReplayInternals.{wholeWidth}
-use Rattle.engine.specs.ReplayInternals.{commandAt, widthAfter, ReplayEnd, ends, replayFrom}
+use Rattle.engine.specs.ReplayInternals.{wholeWidth, commandAt, widthAfter, ReplayEnd, ends, replayFrom}
 use Rattle.engine.proofs.SoundState.{SoundState}
 use Rattle.engine.proofs.CommandLists.{Whole}
 use Rattle.engine.proofs.Asking.{asks-no-command, asks-part, asks-undo, asks-command}

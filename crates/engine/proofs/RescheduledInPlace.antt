@@ -10,7 +10,8 @@ use lib.ListN.{length}
 use Rattle.hazards.specs.Answers.{noEvent}
 use Rattle.hazards.specs.declared.answers.Answer.{Answer}
 use Rattle.clocks.specs.Layout.{WordRows, FloatRows}
-use Rattle.clocks.specs.Scheduling.{queueChange, Rescheduled}
+use Rattle.clocks.specs.Scheduling.{Rescheduled}
+use Rattle.clocks.specs.RowsInternals.{queueChange}
 use Rattle.clocks.specs.Clocks.{SurvivalClock}
 use Rattle.clocks.specs.declared.scheduling.QueueChange.{QueueChange}
 use Rattle.clocks.specs.declared.scheduling.Censor.{Censor}

@@ -1,6 +1,7 @@
 -- `scheduling::resume` meets its contract: the clock with new intervals, rescheduled.
 use mathlib.Core.Path.{ap, _∙_}
-use Rattle.clocks.specs.Scheduling.{reschedule, resume, queueChange}
+use Rattle.clocks.specs.Scheduling.{reschedule, resume}
+use Rattle.clocks.specs.RowsInternals.{queueChange}
 use Rattle.clocks.specs.Clocks.{SurvivalClock}
 use Rattle.clocks.proofs.RowLaws.{leaves-then, leaves-as}
 use borrow.Author.Needs.{needs}

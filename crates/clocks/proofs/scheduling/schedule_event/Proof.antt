@@ -6,7 +6,8 @@ use borrow.Author.Tests.{not-true, not-false}
 use lib.ListN.{getD}
 use mathlib.Core.List.{[]}
 use Rattle.clocks.specs.Layout.{clockOf, clockFrom}
-use Rattle.clocks.specs.Scheduling.{Rescheduled, queueChange}
+use Rattle.clocks.specs.Scheduling.{Rescheduled}
+use Rattle.clocks.specs.RowsInternals.{queueChange}
 use Rattle.clocks.proofs.RowLaws.{leaves-as}
 use Rattle.clocks.proofs.SchedulingCases.{scheduled-none, scheduled-one}
 use Rattle.clocks.proofs.ScheduleStores.{schedule-stored, no-event-coded, event-coded, times-coded}

@@ -5,7 +5,7 @@ use native.Mathlib.Omega.{arith}
 use borrow.Author.Tests.{not-true, not-false}
 use lib.ListN.{length}
 use Rattle.clocks.specs.Scheduling as scheduling
-use Rattle.clocks.specs.Scheduling.{queueChange}
+use Rattle.clocks.specs.RowsInternals.{queueChange}
 use Rattle.engine.specs.Commands.{clockOf, rescheduleFaults}
 use Rattle.engine.specs.State.{SharedState, slotAt}
 use Rattle.engine.specs.Execution.{performResume}

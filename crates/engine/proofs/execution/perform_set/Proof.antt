@@ -7,7 +7,8 @@ use borrow.Author.Tests.{not-true, not-false}
 use lib.ListN.{length}
 use Rattle.hazards.specs.Refusals.{tooManyCauses}
 use Rattle.hazards.specs.declared.answers.Answer.{Answer}
-use Rattle.clocks.specs.Setting.{setChannel, takesCause, channelDraw}
+use Rattle.clocks.specs.Setting.{setChannel}
+use Rattle.clocks.specs.RowsInternals.{takesCause, channelDraw}
 use Rattle.clocks.specs.declared.setting.ChannelDraw.{ChannelDraw}
 use Rattle.clocks.proofs.SettingOutcomes.{taken-other, not-taken}
 use Rattle.engine.specs.Commands.{clockOf, settingOf, setFaults}

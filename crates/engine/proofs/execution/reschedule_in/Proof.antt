@@ -1,7 +1,7 @@
 -- `execution::reschedule_in` meets its contract.
 use mathlib.Core.Path.{_∙_, ap}
 use Rattle.clocks.specs.Scheduling as scheduling
-use Rattle.clocks.specs.Scheduling.{queueChange}
+use Rattle.clocks.specs.RowsInternals.{queueChange}
 use Rattle.clocks.specs.Clocks.{SurvivalClock}
 use Rattle.clocks.proofs.RowLaws.{leaves-as}
 use Rattle.engine.specs.StateRows.{sharedOf, sharedFrom}

@@ -3,7 +3,8 @@ use mathlib.Core.Path.{_∙_, ap}
 use Prim.Native.Nat.{_*_}
 use borrow.Rule.Slice.PartMut.{putMid, put-same}
 use Rattle.clocks.specs.Layout.{WordRows, FloatRows}
-use Rattle.clocks.specs.Setting.{setChannel, channelDraw}
+use Rattle.clocks.specs.Setting.{setChannel}
+use Rattle.clocks.specs.RowsInternals.{channelDraw}
 use Rattle.clocks.specs.Clocks.{SurvivalClock}
 use Rattle.clocks.proofs.RowLaws.{leaves-as}
 use Rattle.engine.specs.StateRows.{sharedOf, sharedFrom}

@@ -2,7 +2,7 @@
 use mathlib.Core.Path.{_∙_, ap}
 use Prim.Native.Nat.{_*_}
 use lib.ListN.{take, drop}
-use Rattle.clocks.specs.Setting.{takesCause}
+use Rattle.clocks.specs.RowsInternals.{takesCause}
 use Rattle.clocks.specs.Clocks.{SurvivalClock}
 use Rattle.engine.proofs.CommandsInPlace.{floatsLent, clock-there}
 use borrow.Author.Needs.{needs}
