@@ -19,7 +19,8 @@ impl Typed<'_> {
         } else {
             picture(&self.report, "olgaemuri")
         };
-        if !self.written_to(word, file, overwrite, &text)? {
+        // what is only shown is not kept
+        if !self.written_to(word, file, overwrite, &text)? || file == "-" {
             return Ok(());
         }
         self.changed &= !is_session;
