@@ -89,9 +89,9 @@ impl Clock {
             }),
             Command::Remove { cause, .. } => Change::Cause(*cause, self.take(*cause)),
             _ => {
-                let before = Change::Schedule(self.active, Box::new(self.events));
+                let (active, before) = (self.active, self.events);
                 self.reschedule(command, answer, made);
-                before
+                Change::Schedule(active, Moved::between(&before, &self.events))
             }
         }
     }
@@ -162,8 +162,38 @@ enum Change {
     Absent,
     /// A cause, and how it was where it was there.
     Cause(u32, Option<Box<Cause>>),
-    /// Whether it ran, and its events.
-    Schedule(bool, Box<Account>),
+    /// Whether it ran, and what became of its events.
+    Schedule(bool, Moved),
+}
+
+/// What a command did to a clock's events: which counts went up by one, and the event that was pending.
+#[derive(Clone, Debug, PartialEq)]
+struct Moved {
+    made: bool,
+    withdrawn: bool,
+    delivered: bool,
+    pending: Option<Box<Pending>>,
+}
+
+impl Moved {
+    fn between(before: &Account, after: &Account) -> Self {
+        Self {
+            made: before.made < after.made,
+            withdrawn: before.withdrawn < after.withdrawn,
+            delivered: before.delivered < after.delivered,
+            pending: before.pending.map(Box::new),
+        }
+    }
+
+    /// The events as they were.
+    fn back(self, after: &Account) -> Account {
+        Account {
+            made: after.made - u64::from(self.made),
+            withdrawn: after.withdrawn - u64::from(self.withdrawn),
+            delivered: after.delivered - u64::from(self.delivered),
+            pending: self.pending.map(|pending| *pending),
+        }
+    }
 }
 
 /// Enters an accepted command other than UNDO with its answer. Returns what it changes, as it was.
@@ -199,8 +229,9 @@ pub(crate) fn revert(clocks: &mut Vec<Clock>, before: Before) {
         Change::Cause(number, None) => {
             clocks[place].take(number);
         }
-        Change::Schedule(active, events) => {
-            (clocks[place].active, clocks[place].events) = (active, *events);
+        Change::Schedule(active, moved) => {
+            let clock = &mut clocks[place];
+            (clock.active, clock.events) = (active, moved.back(&clock.events));
         }
     }
 }

@@ -2,8 +2,7 @@
 
 use crate::answer::{ANSWER_BYTES, Answer};
 use crate::command::Command;
-use crate::command_bytes::width;
-use crate::input::Input;
+use crate::input::{Input, parts};
 use crate::refusal::Refusal;
 use crate::thresholds::thresholds_to_bytes;
 use olgaemuri_sys::{ROW, STATE_FLOAT_ROWS, STATE_WORD_ROWS};
@@ -80,11 +79,15 @@ pub struct Engine {
 impl Engine {
     /// A newly opened engine over these thresholds.
     pub fn new(thresholds: impl AsRef<[f64]>) -> Self {
-        Self::with_applied(thresholds.as_ref(), usize::MAX, &[])
+        Self::with_applied(thresholds.as_ref(), usize::MAX, std::iter::empty())
     }
 
-    /// A newly opened engine that is given these commands, one after another.
-    pub(crate) fn with_applied(thresholds: &[f64], longest: usize, applied: &[u8]) -> Self {
+    /// A newly opened engine that is given these commands, one after another, with room for some more.
+    pub(crate) fn with_applied<'a>(
+        thresholds: &[f64],
+        longest: usize,
+        applied: impl Iterator<Item = &'a [u8]> + Clone,
+    ) -> Self {
         let mut engine = Self {
             words: vec![[0; ROW]; STATE_WORD_ROWS].into_boxed_slice(),
             floats: vec![[0.0; ROW]; STATE_FLOAT_ROWS].into_boxed_slice(),
@@ -92,7 +95,8 @@ impl Engine {
             journal: Vec::new(),
             longest,
         };
-        engine.open(2 * applied.len(), applied);
+        let length: usize = applied.clone().map(<[u8]>::len).sum();
+        engine.open(length + length / 8, applied);
         engine
     }
 
@@ -102,7 +106,7 @@ impl Engine {
     pub fn with_journal_length(mut self, length: usize) -> Self {
         self.longest = length;
         let applied = self.applied_bytes().to_vec();
-        self.open(2 * applied.len(), &applied);
+        self.open(2 * applied.len(), parts(&applied));
         self
     }
 
@@ -111,7 +115,7 @@ impl Engine {
     pub fn push_thresholds(&mut self, thresholds: &[f64]) {
         self.stream.extend(thresholds_to_bytes(thresholds));
         let applied = self.applied_bytes().to_vec();
-        self.open(self.journal.len(), &applied);
+        self.open(self.journal.len(), parts(&applied));
     }
 
     /// Gives a command, and returns its answer.
@@ -128,7 +132,7 @@ impl Engine {
             return answer;
         }
         let applied = self.applied_bytes().to_vec();
-        self.open(self.journal.len().saturating_mul(2), &applied);
+        self.open(self.journal.len().saturating_mul(2), parts(&applied));
         self.answer(bytes)
     }
 
@@ -141,17 +145,17 @@ impl Engine {
     /// same; this costs no more than one.
     pub fn undo_last(&mut self, count: usize) -> usize {
         let applied = self.applied_bytes();
-        let begins: Vec<usize> = begins(applied).collect();
-        let count = count.min(begins.len());
-        let left = begins.len() - count;
+        let commands = parts(applied).count();
+        let count = count.min(commands);
+        let left = parts(applied).take(commands - count).map(<[u8]>::len).sum();
         match count {
             0 => {}
             1 => {
                 self.undo();
             }
             _ => {
-                let applied = applied[..begins[left]].to_vec();
-                self.open(self.journal.len(), &applied);
+                let applied = applied[..left].to_vec();
+                self.open(self.journal.len(), parts(&applied));
             }
         }
         count
@@ -205,13 +209,13 @@ impl Engine {
 
     /// Opens the engine anew, in a journal of this length where it may have it, and gives it these commands, up to the first that has
     /// no room there.
-    fn open(&mut self, length: usize, applied: &[u8]) {
+    fn open<'a>(&mut self, length: usize, applied: impl Iterator<Item = &'a [u8]>) {
         let length = length.max(FIRST_LENGTH).min(self.longest);
         self.journal.clear();
         self.journal.resize(length, 0);
         olgaemuri_sys::open(&mut self.words, &mut self.floats, &mut self.journal);
-        for begin in begins(applied) {
-            if !self.answer(&applied[begin..]).is_accepted() {
+        for command in applied {
+            if !self.answer(command).is_accepted() {
                 break;
             }
         }
@@ -232,15 +236,6 @@ impl Engine {
         olgaemuri_sys::execute(words, floats, stream, journal, input, &mut answer);
         Answer::from_bytes(&answer).expect("the engine's layout")
     }
-}
-
-/// Where each of these commands begins.
-fn begins(commands: &[u8]) -> impl Iterator<Item = usize> {
-    let first = (!commands.is_empty()).then_some(0);
-    std::iter::successors(first, |begin| {
-        let next = begin + width(commands[*begin])?;
-        (next < commands.len()).then_some(next)
-    })
 }
 
 impl fmt::Debug for Engine {

@@ -44,15 +44,12 @@ impl Input {
     /// [`Input::Raw`], since a run ends there. The inputs' bytes one after another are the bytes given.
     #[must_use]
     pub fn split(bytes: &[u8]) -> Vec<Self> {
-        let mut rest = bytes;
-        let mut inputs = Vec::new();
-        while !rest.is_empty() {
-            let (front, back) = rest.split_at(front_length(rest));
-            let command = Command::from_bytes(front);
-            inputs.push(command.map_or_else(|_| Self::Raw(front.to_vec()), Self::Command));
-            rest = back;
-        }
-        inputs
+        parts(bytes).map(Self::of).collect()
+    }
+
+    /// The input with these bytes, which are one of [`parts`].
+    pub(crate) fn of(part: &[u8]) -> Self {
+        Command::from_bytes(part).map_or_else(|_| Self::Raw(part.to_vec()), Self::Command)
     }
 }
 
@@ -60,6 +57,15 @@ impl From<Command> for Input {
     fn from(command: Command) -> Self {
         Self::Command(command)
     }
+}
+
+/// The bytes of each input of a list.
+pub(crate) fn parts(mut rest: &[u8]) -> impl Iterator<Item = &[u8]> {
+    std::iter::from_fn(move || {
+        let (front, back) = rest.split_at(front_length(rest));
+        rest = back;
+        (!front.is_empty()).then_some(front)
+    })
 }
 
 /// How many bytes belong to the first input.

@@ -4,7 +4,7 @@ use crate::answer::Answer;
 use crate::batch;
 use crate::clock::{Before, Clock, enter, revert};
 use crate::command::Command;
-use crate::input::Input;
+use crate::input::{Input, parts};
 use crate::ledger::Pending;
 use crate::refusal::Refusal;
 
@@ -110,30 +110,37 @@ impl Outcome {
 
     /// Runs the list from opening.
     pub(crate) fn of(commands: &[u8], stream: &[u8], journal_length: usize) -> Self {
-        let inputs = Input::split(commands);
-        let ran = batch::run(commands, inputs.len(), stream, journal_length);
-        let mut outcome = Self::default();
-        for (input, answer) in inputs.into_iter().zip(ran.answers()) {
-            outcome.enter(input, answer);
+        let inputs = parts(commands).count();
+        let ran = batch::run(commands, inputs, stream, journal_length);
+        let mut outcome = Self {
+            steps: Vec::with_capacity(inputs),
+            ..Self::default()
+        };
+        for (part, answer) in parts(commands).zip(ran.answers()) {
+            outcome.enter(Input::of(part), answer);
         }
         debug_assert_eq!((outcome.end, outcome.bytes_read), (ran.end, ran.bytes_read));
         debug_assert!(
             ran.journal
-                .is_none_or(|journal| outcome.is_of_journal(&journal))
+                .is_none_or(|journal| outcome.is_of_journal(&journal, commands))
         );
         outcome
     }
 
     /// Whether the engine's journal holds the applied commands, and zeros behind them.
-    fn is_of_journal(&self, journal: &[u8]) -> bool {
-        let rest = journal.strip_prefix(self.applied_bytes().as_slice());
+    fn is_of_journal(&self, journal: &[u8], commands: &[u8]) -> bool {
+        let applied: Vec<u8> = self.applied_parts(commands).flatten().copied().collect();
+        let rest = journal.strip_prefix(applied.as_slice());
         rest.is_some_and(|rest| rest.iter().all(|byte| *byte == 0))
     }
 
-    /// The bytes of the applied commands, one after another.
-    pub(crate) fn applied_bytes(&self) -> Vec<u8> {
-        let applied = self.applied().map(|applied| applied.command.to_bytes());
-        applied.flatten().collect()
+    /// The bytes of each applied command, in the list that gave this outcome.
+    pub(crate) fn applied_parts<'a>(
+        &'a self,
+        commands: &'a [u8],
+    ) -> impl Iterator<Item = &'a [u8]> + Clone {
+        let steps = self.applied.iter().map(|(place, _)| &self.steps[*place]);
+        steps.map(|step| &commands[step.begins..][..step.input.width()])
     }
 
     /// Where the input begins that comes next in the list.

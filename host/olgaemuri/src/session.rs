@@ -220,7 +220,8 @@ impl Session {
     fn engine(&self) -> &Engine {
         self.engine.get_or_init(|| {
             let longest = self.journal_length.unwrap_or(usize::MAX);
-            Engine::with_applied(&self.thresholds, longest, &self.run().applied_bytes())
+            let applied = self.run().applied_parts(&self.commands);
+            Engine::with_applied(&self.thresholds, longest, applied)
         })
     }
 

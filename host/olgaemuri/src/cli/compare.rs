@@ -2,14 +2,14 @@
 
 use super::arguments::{Arguments, Known};
 use super::events::{Event, breakdowns};
-use super::files::{called, write};
-use super::report::Report;
+use super::files::{called, write_by};
 use super::report_table::event_cells;
 use super::run::{reported, width};
-use super::table::{Column, aligned};
+use super::table::{Column, Table, write_aligned};
 use super::wording::counted;
 use super::{Failure, help};
-use olgaemuri::text::{columns as columns_of, visible};
+use olgaemuri::text::{Names, visible};
+use std::io::{self, Write};
 
 pub const OPTIONS: [Known; 3] = [
     Known::flag("--quiet"),
@@ -32,13 +32,36 @@ pub fn compare(arguments: &Arguments) -> Result<u8, Failure> {
         ));
     }
     let width = width(arguments).map_err(|message| Failure::usage(&message, help::COMPARE))?;
-    let (left, right) = (reported(first)?, reported(second)?);
-    let (text, differences) = side_by_side(&left, &right, width);
+    let sides = [Side::of(first)?, Side::of(second)?];
+    let places = Places(&sides);
+    let differences = places.differences();
     let head = format!("left:  {}\nright: {}\n\n", called(first), called(second));
     if !arguments.has("--quiet") {
-        write("-", (visible(&head) + text.as_str()).as_bytes())?;
+        write_by("-", |out| {
+            write!(out, "{}", visible(&head))?;
+            places.write_table(width, out)?;
+            write!(out, "\n{}", places.verdict(differences))
+        })?;
     }
     Ok(u8::from(differences > 0))
+}
+
+/// What is compared of a session.
+struct Side {
+    breakdowns: Vec<Event>,
+    names: Names,
+    draws: usize,
+}
+
+impl Side {
+    fn of(file: &str) -> Result<Self, Failure> {
+        let report = reported(file)?;
+        Ok(Self {
+            breakdowns: breakdowns(report.events()),
+            names: report.names().clone(),
+            draws: report.session.draws(),
+        })
+    }
 }
 
 /// What makes two breakdowns the same: machine, cause, time to the last bit, tick, state. Names do not count.
@@ -53,54 +76,96 @@ fn identity(event: &Event) -> (u8, u32, bool, u64, u128, &'static str) {
     )
 }
 
-/// The breakdowns at one place of the two lists, where they have one.
-struct Place {
-    number: usize,
-    same: bool,
-    sides: [Option<[String; 5]>; 2],
-}
+/// The two lists side by side, place after place.
+struct Places<'a>(&'a [Side; 2]);
 
-/// The two lists, what is to be said of them, and in how many places they differ.
-fn side_by_side(left: &Report, right: &Report, width: Option<usize>) -> (String, usize) {
-    let lists = [breakdowns(left.events()), breakdowns(right.events())];
-    let longest = lists[0].len().max(lists[1].len());
-    let places: Vec<Place> = (0..longest)
-        .map(|index| {
-            let [one, other] = [0, 1].map(|side| lists[side].get(index));
-            let cells = |event: Option<&Event>, report: &Report| {
-                event.map(|event| event_cells(event, report.names()))
-            };
-            Place {
-                number: index + 1,
-                same: one.map(identity) == other.map(identity),
-                sides: [cells(one, left), cells(other, right)],
-            }
-        })
-        .collect();
-    let differences = places.iter().filter(|place| !place.same).count();
-    let table = table(&places, width);
-    let text = table + "\n" + &verdict(left, right, longest, differences);
-    (text, differences)
-}
-
-/// The two sides beside each other, or below each other where there is little room.
-fn table(places: &[Place], width: Option<usize>) -> String {
-    let rows: Vec<Vec<String>> = places.iter().map(beside).collect();
-    let columns = [
-        &[Column::Right("no")],
-        &LIST[..],
-        &[Column::Left("")],
-        &LIST,
-    ]
-    .concat();
-    let wide = aligned(&columns, &rows, None);
-    let widest = wide.lines().map(columns_of).max().unwrap_or(0);
-    if width.is_none_or(|width| widest <= width) {
-        return wide;
+impl Places<'_> {
+    fn longest(&self) -> usize {
+        let [left, right] = self.0.each_ref().map(|side| side.breakdowns.len());
+        left.max(right)
     }
-    let rows: Vec<Vec<String>> = places.iter().flat_map(below).collect();
-    let columns = [&[Column::Right("no"), Column::Left("")], &LIST[..]].concat();
-    aligned(&columns, &rows, width)
+
+    /// The breakdowns at one place, where they have one.
+    fn at(&self, place: usize) -> [Option<&Event>; 2] {
+        self.0.each_ref().map(|side| side.breakdowns.get(place))
+    }
+
+    fn is_same(&self, place: usize) -> bool {
+        let [left, right] = self.at(place).map(|event| event.map(identity));
+        left == right
+    }
+
+    /// In how many places they differ.
+    fn differences(&self) -> usize {
+        let places = 0..self.longest();
+        places.filter(|place| !self.is_same(*place)).count()
+    }
+
+    /// The two sides beside each other, or below each other where there is little room.
+    fn write_table(&self, width: Option<usize>, out: &mut dyn Write) -> io::Result<()> {
+        let columns = [
+            &[Column::Right("no")],
+            &LIST[..],
+            &[Column::Left("")],
+            &LIST,
+        ]
+        .concat();
+        let rows = || (0..self.longest()).map(|place| self.beside(place));
+        let mut wide = Table::new(&columns);
+        rows().for_each(|row| wide.look_at(&row));
+        if width.is_none_or(|width| wide.width() <= width) {
+            wide.write_head(out)?;
+            return rows().try_for_each(|row| wide.write_row(out, &row));
+        }
+        let columns = [&[Column::Right("no"), Column::Left("")], &LIST[..]].concat();
+        let rows = || (0..self.longest()).flat_map(|place| self.below(place));
+        write_aligned(&columns, rows, width, out)
+    }
+
+    /// The cells of both sides at a place.
+    fn cells(&self, place: usize) -> [Option<[String; 5]>; 2] {
+        let [left, right] = self.at(place);
+        let cells =
+            |event: Option<&Event>, side: &Side| event.map(|event| event_cells(event, &side.names));
+        [cells(left, &self.0[0]), cells(right, &self.0[1])]
+    }
+
+    fn beside(&self, place: usize) -> Vec<String> {
+        let [left, right] = self.cells(place).map(Option::unwrap_or_default);
+        let sign = if self.is_same(place) { "=" } else { "<>" };
+        let front = [(place + 1).to_string()].into_iter().chain(left);
+        front.chain([sign.to_string()]).chain(right).collect()
+    }
+
+    /// One line where both are the same; otherwise `<` before the left one and `>` before the right one.
+    fn below(&self, place: usize) -> Vec<Vec<String>> {
+        let signs = if self.is_same(place) {
+            &["="][..]
+        } else {
+            &["<", ">"]
+        };
+        let sides = signs.iter().zip(self.cells(place));
+        let present = sides.filter_map(|(sign, cells)| Some((sign, cells?)));
+        present
+            .map(|(sign, cells)| {
+                let front = [(place + 1).to_string(), sign.to_string()];
+                front.into_iter().chain(cells).collect()
+            })
+            .collect()
+    }
+
+    fn verdict(&self, differences: usize) -> String {
+        let [left, right] = self.0.each_ref().map(|side| side.draws);
+        let draws = format!("Thresholds drawn: {left} left, {right} right.\n");
+        let lists = if differences == 0 {
+            let events = counted(self.longest(), "event");
+            format!("The lists of breakdowns are the same: {events}, to the last bit.\n")
+        } else {
+            let places = counted(self.longest(), "place");
+            format!("The lists of breakdowns differ in {differences} of {places}.\n")
+        };
+        draws + &lists
+    }
 }
 
 const LIST: [Column; 5] = [
@@ -110,39 +175,3 @@ const LIST: [Column; 5] = [
     Column::Right("tick"),
     Column::Left("state"),
 ];
-
-fn beside(place: &Place) -> Vec<String> {
-    let [left, right] = place.sides.clone().map(Option::unwrap_or_default);
-    let sign = if place.same { "=" } else { "<>" };
-    let front = [place.number.to_string()].into_iter().chain(left);
-    front.chain([sign.to_string()]).chain(right).collect()
-}
-
-/// One line where both are the same; otherwise `<` before the left one and `>` before the right one.
-fn below(place: &Place) -> Vec<Vec<String>> {
-    let signs = if place.same { &["="][..] } else { &["<", ">"] };
-    let sides = signs.iter().zip(&place.sides);
-    let present = sides.filter_map(|(sign, cells)| Some((sign, cells.as_ref()?)));
-    present
-        .map(|(sign, cells)| {
-            let front = [place.number.to_string(), sign.to_string()];
-            front.into_iter().chain(cells.iter().cloned()).collect()
-        })
-        .collect()
-}
-
-fn verdict(left: &Report, right: &Report, longest: usize, differences: usize) -> String {
-    let draws = format!(
-        "Thresholds drawn: {} left, {} right.\n",
-        left.session.draws(),
-        right.session.draws()
-    );
-    let lists = if differences == 0 {
-        let events = counted(longest, "event");
-        format!("The lists of breakdowns are the same: {events}, to the last bit.\n")
-    } else {
-        let places = counted(longest, "place");
-        format!("The lists of breakdowns differ in {differences} of {places}.\n")
-    };
-    draws + &lists
-}

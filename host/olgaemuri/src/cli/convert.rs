@@ -1,7 +1,7 @@
 //! `olgaemuri convert`: sessions from text to bytes and back.
 
 use super::arguments::{Arguments, Known};
-use super::files::{called, load, read, same_file, same_folder, source, write, write_by};
+use super::files::{called, load, read, same_file, same_folder, source, write_by, write_bytes_by};
 use super::{Failure, help};
 use olgaemuri::{Session, SessionText};
 
@@ -62,8 +62,8 @@ pub fn convert(arguments: &Arguments) -> Result<u8, Failure> {
     }
     match to {
         Form::Text => write_by(output, |out| write!(out, "{session}"))?,
-        Form::Bytes => write(output, &session.session().to_bytes())?,
-        Form::Bare => write(output, &session.commands())?,
+        Form::Bytes => write_bytes_by(output, |out| out.write_all(&session.session().to_bytes()))?,
+        Form::Bare => write_bytes_by(output, |out| out.write_all(&session.commands()))?,
     }
     Ok(0)
 }

@@ -1,9 +1,10 @@
 //! Reading and writing, with `-` for standard input and output.
 
+use super::terminal::Shown;
 use olgaemuri::SessionText;
 use olgaemuri::text::Source;
 use std::fs::{self, File};
-use std::io::{self, BufWriter, Read, Write};
+use std::io::{self, BufWriter, IsTerminal, Read, Write};
 use std::path::{Path, PathBuf};
 
 pub fn read(file: &str) -> Result<Vec<u8>, String> {
@@ -16,35 +17,56 @@ pub fn read(file: &str) -> Result<Vec<u8>, String> {
     bytes.map_err(|error| format!("cannot read {}: {error}", called(file)))
 }
 
-/// Writes to a file or to standard output.
-pub fn write(file: &str, bytes: &[u8]) -> Result<(), String> {
-    write_by(file, |out| out.write_all(bytes))
+/// Writes text to a file or to standard output.
+pub fn write(file: &str, text: &[u8]) -> Result<(), String> {
+    write_by(file, |out| out.write_all(text))
 }
 
-/// Has something written, part after part. A reader of standard output that has gone away is no failure.
-pub fn write_by(
-    file: &str,
-    parts: impl FnOnce(&mut dyn Write) -> io::Result<()>,
-) -> Result<(), String> {
-    if file != "-" {
-        let written = File::create(file).and_then(|out| buffered(out, parts));
-        return written.map_err(|error| format!("cannot write {file}: {error}"));
-    }
-    match buffered(io::stdout().lock(), parts) {
-        Err(error) if error.kind() != io::ErrorKind::BrokenPipe => {
-            Err(format!("cannot write standard output: {error}"))
-        }
-        _ => Ok(()),
+/// What writes something, part after part.
+pub trait Parts: FnOnce(&mut dyn Write) -> io::Result<()> {}
+
+impl<T: FnOnce(&mut dyn Write) -> io::Result<()>> Parts for T {}
+
+/// Has text written. A terminal is given nothing to obey; a file or a pipe has every byte as it is.
+pub fn write_by(file: &str, parts: impl Parts) -> Result<(), String> {
+    match opened(file)? {
+        (out, true) => buffered(file, Shown::new(out), parts),
+        (out, false) => buffered(file, out, parts),
     }
 }
 
-fn buffered(
-    out: impl Write,
-    parts: impl FnOnce(&mut dyn Write) -> io::Result<()>,
-) -> io::Result<()> {
+/// Has bytes written that are no text. A terminal is not given them.
+pub fn write_bytes_by(file: &str, parts: impl Parts) -> Result<(), String> {
+    match opened(file)? {
+        (_, true) => Err("bytes are not written to a terminal: name a file, or use a pipe".into()),
+        (out, false) => buffered(file, out, parts),
+    }
+}
+
+/// A file or standard output, and whether it is a terminal.
+fn opened(file: &str) -> Result<(Box<dyn Write>, bool), String> {
+    if file == "-" {
+        let out = io::stdout().lock();
+        let is_terminal = out.is_terminal();
+        return Ok((Box::new(out), is_terminal));
+    }
+    let out = File::create(file).map_err(|error| cannot_write(file, &error))?;
+    let is_terminal = out.is_terminal();
+    Ok((Box::new(out), is_terminal))
+}
+
+/// A reader of standard output that has gone away is no failure.
+fn buffered(file: &str, out: impl Write, parts: impl Parts) -> Result<(), String> {
     let mut out = BufWriter::with_capacity(1 << 16, out);
-    parts(&mut out)?;
-    out.flush()
+    match parts(&mut out).and_then(|()| out.flush()) {
+        Err(error) if file == "-" && error.kind() == io::ErrorKind::BrokenPipe => Ok(()),
+        written => written.map_err(|error| cannot_write(file, &error)),
+    }
+}
+
+fn cannot_write(file: &str, error: &io::Error) -> String {
+    let place = if file == "-" { "standard output" } else { file };
+    format!("cannot write {place}: {error}")
 }
 
 /// The session in a file, in text or in bytes.

@@ -4,17 +4,17 @@
 use super::events::{Event, breakdowns};
 use super::report::{Report, Row};
 use super::wording::{input_word, why};
-use olgaemuri::text::{Names, float_text};
+use olgaemuri::text::{Names, float_text, is_obeyed};
 use std::io::{self, Write};
 
-/// A string with its quotes.
+/// A string with its quotes, in which a terminal finds nothing to obey.
 pub fn string(text: &str) -> String {
     let mut out = String::from("\"");
     for c in text.chars() {
         match c {
             '"' => out.push_str("\\\""),
             '\\' => out.push_str("\\\\"),
-            c if c < ' ' => out.push_str(&format!("\\u{:04x}", u32::from(c))),
+            c if is_obeyed(c) => out.push_str(&format!("\\u{:04x}", u32::from(c))),
             c => out.push(c),
         }
     }

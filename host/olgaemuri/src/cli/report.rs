@@ -27,7 +27,10 @@ struct Mark {
 }
 
 pub struct Report {
+    /// The text, as far as it is kept.
     pub text: SessionText,
+    /// The names, where the text is not kept.
+    names: Option<Names>,
     pub session: Session,
     marks: Vec<Mark>,
     /// The rows of the commands in force.
@@ -38,15 +41,30 @@ pub struct Report {
 impl Report {
     /// Runs a session.
     pub fn new(text: SessionText) -> Self {
-        let mut report = Self {
-            session: text.session(),
-            text,
+        let mut report = Self::unmarked(text.session());
+        report.text = text;
+        report.mark(report.lines_behind(0));
+        report
+    }
+
+    /// Runs a session to which nothing will be added: the text's lines are not kept.
+    pub fn of_run(text: SessionText) -> Self {
+        let mut report = Self::unmarked(text.session());
+        let lines = text.lines_of(report.session.inputs().iter());
+        report.names = Some(text.into_names());
+        report.mark(lines);
+        report
+    }
+
+    fn unmarked(session: Session) -> Self {
+        Self {
+            session,
+            text: SessionText::default(),
+            names: None,
             marks: Vec::new(),
             applied: Vec::new(),
             events: OnceLock::new(),
-        };
-        report.mark(0);
-        report
+        }
     }
 
     /// Adds lines to a session in which every command is accepted; or tells why one would be refused then, and adds nothing.
@@ -73,7 +91,7 @@ impl Report {
         for line in lines {
             self.text.push(line, reader);
         }
-        self.mark(lines_before);
+        self.mark(self.lines_behind(lines_before));
         Ok(())
     }
 
@@ -93,11 +111,16 @@ impl Report {
         }
     }
 
-    /// Marks the steps that have no mark yet; they begin behind so many lines.
-    fn mark(&mut self, lines_before: usize) {
-        let steps = &self.session.run().steps[self.marks.len()..];
+    /// The lines of the steps that have no mark yet; they begin behind so many lines.
+    fn lines_behind(&self, lines_before: usize) -> Vec<usize> {
+        let steps = &self.outcome().steps[self.marks.len()..];
         let inputs = steps.iter().map(|step| &step.input);
-        let lines = self.text.lines_behind(lines_before, inputs);
+        self.text.lines_behind(lines_before, inputs)
+    }
+
+    /// Marks the steps that have no mark yet, which stand in these lines.
+    fn mark(&mut self, lines: Vec<usize>) {
+        let steps = &self.session.run().steps[self.marks.len()..];
         for (step, line) in steps.iter().zip(lines) {
             let number = self.marks.len() + 1;
             let mut undoes = None;
@@ -128,7 +151,7 @@ impl Report {
     }
 
     pub fn names(&self) -> &Names {
-        self.text.names()
+        self.names.as_ref().unwrap_or(self.text.names())
     }
 
     /// How many commands were answered.

@@ -2,7 +2,7 @@
 
 use super::events::{Event, breakdowns};
 use super::report::{Report, Row};
-use super::table::{Column, Table, aligned};
+use super::table::{Column, Table, write_aligned};
 use super::wording::{self, counted};
 use olgaemuri::text::{Names, columns, visible};
 use std::io::{self, Write};
@@ -11,16 +11,13 @@ use std::io::{self, Write};
 pub fn write_report(report: &Report, most: Option<usize>, out: &mut dyn Write) -> io::Result<()> {
     write_answers(report, most, out)?;
     let list = breakdowns(report.events());
-    let table = breakdown_table(&list, report.names(), most);
     let summary = summary(report);
     let lines = summary
         .iter()
         .flat_map(|line| wrapped(line, most.unwrap_or(usize::MAX)));
     let summary: String = lines.map(|line| line + "\n").collect();
-    write!(
-        out,
-        "\n{summary}\nBreakdowns, delivered and scheduled:\n\n{table}"
-    )
+    writeln!(out, "\n{summary}\nBreakdowns, delivered and scheduled:\n")?;
+    write_breakdowns(&list, report.names(), most, out)
 }
 
 const COLUMNS: [Column; 11] = [
@@ -146,7 +143,12 @@ fn summary(report: &Report) -> Vec<String> {
 }
 
 /// Priorities have a column where one of them is not 0.
-pub fn breakdown_table(events: &[Event], names: &Names, most: Option<usize>) -> String {
+pub fn write_breakdowns(
+    events: &[Event],
+    names: &Names,
+    most: Option<usize>,
+    out: &mut dyn Write,
+) -> io::Result<()> {
     let mut columns = vec![
         Column::Right("no"),
         Column::Name("machine"),
@@ -167,12 +169,10 @@ pub fn breakdown_table(events: &[Event], names: &Names, most: Option<usize>) -> 
         }
         cells
     };
-    let rows: Vec<Vec<String>> = events.iter().zip(1..).map(cells).collect();
-    if rows.is_empty() {
-        "none\n".to_string()
-    } else {
-        aligned(&columns, &rows, most)
+    if events.is_empty() {
+        return writeln!(out, "none");
     }
+    write_aligned(&columns, || events.iter().zip(1..).map(cells), most, out)
 }
 
 /// Machine, cause, time, tick, state.

@@ -2,12 +2,12 @@
 
 use super::arguments::{Arguments, Known};
 use super::csv::Csv;
-use super::files::{called, load, same_file, write, write_by};
+use super::files::{called, load, same_file, write_by};
 use super::json::write_json;
 use super::progress::watched;
 use super::report::Report;
 use super::report_table::write_report;
-use super::svg::picture;
+use super::svg::write_picture;
 use super::{Failure, help, terminal};
 use std::path::Path;
 
@@ -41,7 +41,7 @@ pub fn run(arguments: &Arguments) -> Result<u8, Failure> {
         let title = arguments
             .value("--title")
             .map_or_else(|| default_title(file), str::to_string);
-        write(place, picture(&report, &title).as_bytes())?;
+        write_by(place, |out| write_picture(&report, &title, out))?;
     }
     let refused = arguments.has("--strict") && report.refused() > 0;
     Ok(u8::from(refused))
@@ -84,7 +84,7 @@ fn session_file(arguments: &Arguments) -> Result<&str, &'static str> {
 /// Loads and runs a session.
 pub fn reported(file: &str) -> Result<Report, Failure> {
     let text = watched("reading the session", || load(file))?;
-    Ok(watched("running the commands", || Report::new(text)))
+    Ok(watched("running the commands", || Report::of_run(text)))
 }
 
 /// The file's name without its folder.

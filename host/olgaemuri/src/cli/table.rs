@@ -101,22 +101,32 @@ impl Table {
     }
 }
 
-/// A whole table in at most so many columns, where that is said.
-pub fn aligned(columns: &[Column], rows: &[Vec<String>], most: Option<usize>) -> String {
+/// Writes a whole table in at most so many columns, where that is said. The rows are made twice, to find the columns' widths and to be
+/// written, so that they need not be kept.
+pub fn write_aligned<R: Iterator<Item = Vec<String>>>(
+    columns: &[Column],
+    rows: impl Fn() -> R,
+    most: Option<usize>,
+    out: &mut dyn Write,
+) -> io::Result<()> {
     let mut table = Table::new(columns);
-    for row in rows {
-        table.look_at(row);
-    }
+    rows().for_each(|row| table.look_at(&row));
     if let Some(most) = most {
         table.narrow(most);
     }
+    table.write_head(out)?;
+    rows().try_for_each(|row| table.write_row(out, &row))
+}
+
+/// The same table as text.
+pub fn aligned(columns: &[Column], rows: &[Vec<String>], most: Option<usize>) -> String {
+    text_of(|out| write_aligned(columns, || rows.iter().cloned(), most, out))
+}
+
+/// What is written, as text.
+pub fn text_of(write: impl FnOnce(&mut dyn Write) -> io::Result<()>) -> String {
     let mut out = Vec::new();
-    let written = table.write_head(&mut out);
-    let written = written.and_then(|()| {
-        rows.iter()
-            .try_for_each(|row| table.write_row(&mut out, row))
-    });
-    written.expect("memory can be written");
+    write(&mut out).expect("memory can be written");
     String::from_utf8(out).expect("only text was written")
 }
 

@@ -1,7 +1,7 @@
 //! `olgaemuri thresholds`: thresholds from a seed, as text or bytes.
 
 use super::arguments::{Arguments, Known};
-use super::files::write_by;
+use super::files::{write_by, write_bytes_by};
 use super::numbers::{needed, number};
 use super::{Failure, help};
 use olgaemuri::Exponential;
@@ -27,15 +27,16 @@ pub fn thresholds(arguments: &Arguments) -> Result<u8, Failure> {
         _ => return Err(usage("`olgaemuri thresholds` takes one OUT".to_string())),
     };
     let stream = Exponential::new(seed, stream.unwrap_or(0));
-    let form = if arguments.has("--bytes") {
-        bytes
+    let mut thresholds = (0..count).zip(stream).map(|(_, threshold)| threshold);
+    if arguments.has("--bytes") {
+        write_bytes_by(file, |out| {
+            thresholds.try_for_each(|threshold| bytes(threshold, out))
+        })?;
     } else {
-        text
-    };
-    write_by(file, |out| {
-        let mut thresholds = (0..count).zip(stream);
-        thresholds.try_for_each(|(_, threshold)| form(threshold, out))
-    })?;
+        write_by(file, |out| {
+            thresholds.try_for_each(|threshold| text(threshold, out))
+        })?;
+    }
     Ok(0)
 }
 

@@ -31,6 +31,6 @@ pub use number::{float_text, parse_float};
 pub use parse::{Reader, line_words};
 pub use session::SessionText;
 pub use suggest::{closest, hint, hint_or};
-pub use visible::{columns, cut, visible};
+pub use visible::{columns, cut, is_obeyed, visible};
 
 pub(crate) use parse::MAX_JOURNAL;

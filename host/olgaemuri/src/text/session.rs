@@ -69,6 +69,12 @@ impl SessionText {
         &self.names
     }
 
+    /// The names without the lines.
+    #[must_use]
+    pub fn into_names(self) -> Names {
+        self.names
+    }
+
     /// Adds a line that a [`Reader`] of this session has read, and the names that it knows by now.
     pub fn push(&mut self, line: Line, reader: &Reader) {
         self.lines.push(line);

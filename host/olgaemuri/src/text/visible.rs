@@ -18,8 +18,9 @@ pub fn visible(text: &str) -> Cow<'_, str> {
     text.chars().map(shown).collect()
 }
 
-/// Whether a terminal does something else than to show it.
-fn is_obeyed(c: char) -> bool {
+/// Whether a terminal does something else than to show it. No such character is above `\u{ffff}`.
+#[must_use]
+pub fn is_obeyed(c: char) -> bool {
     if c.is_ascii() {
         return c.is_ascii_control();
     }

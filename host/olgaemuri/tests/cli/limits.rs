@@ -1,6 +1,6 @@
 //! Inputs of unusual size, with little memory and in little time.
 
-use super::program::{Ran, olgaemuri, with_memory};
+use super::program::{Ran, olgaemuri, scratch, with_memory};
 use std::time::{Duration, Instant};
 
 /// Far more than the work takes, far less than it takes where every word is compared with every other.
@@ -99,14 +99,20 @@ fn long_session(commands: usize) -> String {
 #[test]
 fn long_sessions_need_little_memory() {
     let session = long_session(80_000);
+    let file = scratch("long.session");
+    std::fs::write(&file, &session).unwrap();
     for words in [
         &["run", "-"][..],
         &["run", "-", "--csv"],
         &["run", "-", "--json"],
+        &["run", "-", "--svg", "-"],
+        &["compare", file.to_str().unwrap(), "-"],
         &["convert", "-", "--to", "text"],
     ] {
-        let ran = with_memory(60, words, session.as_bytes());
+        let ran = with_memory(50, words, session.as_bytes());
         assert_eq!((ran.status, ran.err.as_str()), (0, ""), "{words:?}");
-        assert!(ran.out.len() > 1_000_000);
+        let is_list = words[0] != "compare";
+        assert!(ran.out.len() > if is_list { 1_000_000 } else { 100 });
     }
+    std::fs::remove_file(&file).unwrap();
 }

@@ -38,6 +38,11 @@ pub fn with_memory(most: usize, words: &[&str], input: &[u8]) -> Ran {
     by_shell(&line, words, input)
 }
 
+/// The same on a terminal, for words without spaces. What is typed there stands in the output too, and lines end as a terminal ends them.
+pub fn on_terminal(words: &[&str], typed: &[u8]) -> Ran {
+    by_shell("exec script -qec \"$*\" /dev/null", words, typed)
+}
+
 const PROGRAM: &str = env!("CARGO_BIN_EXE_olgaemuri");
 
 fn ran(command: &mut Command, input: &[u8]) -> Ran {

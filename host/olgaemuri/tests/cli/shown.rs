@@ -1,6 +1,6 @@
 //! What a reader of the terminal sees: widths, wide and odd letters, numbers of things, which operand is refused.
 
-use super::program::olgaemuri;
+use super::program::{olgaemuri, on_terminal};
 
 fn run(words: &[&str], session: &str) -> String {
     let words = [&["run", "-"], words].concat();
@@ -114,6 +114,66 @@ fn control_characters_do_not_reach_the_terminal() {
     // data stays as it is
     let text = olgaemuri(&["convert", "-", "--to", "text"], session.as_bytes());
     assert!(text.text().contains(odd));
+}
+
+/// What is data elsewhere is only looked at on a terminal.
+#[test]
+fn data_on_a_terminal() {
+    let odd = "a\u{1b}[31m\u{7}\u{9b}\u{202e}\u{7f}b";
+    let file = super::program::scratch("odd-names.session");
+    std::fs::write(
+        &file,
+        format!("machine 0 \"{odd}\"\ncause 1 \"{odd}\"\n{ONE}"),
+    )
+    .unwrap();
+    let file_name = file.to_str().unwrap();
+    let is_odd = |c: char| (c.is_control() && c != '\n' && c != '\r') || c == '\u{202e}';
+    let in_json = "\"a\\u001b[31m\\u0007\\u009b\\u202e\\u007fb\"";
+    let sweep = ["sweep", "--streams", "2", "--seed", "1"];
+    for (words, here, elsewhere) in [
+        (&["run", "--csv"][..], ",a�[31m����b,", odd),
+        (&["run", "--csv=events"], ",a�[31m����b,", odd),
+        (&["run", "--json"], in_json, in_json),
+        (&["convert", "--to", "text"], "\"a�[31m����b\"", odd),
+        (
+            &[&sweep[..], &["--rows", "-"]].concat(),
+            ",a�[31m����b,",
+            odd,
+        ),
+        (&[&sweep[..], &["--csv"]].concat(), ",a�[31m����b,", odd),
+        (&[&sweep[..], &["--json"]].concat(), in_json, in_json),
+    ] {
+        let words = [words, &[file_name]].concat();
+        let shown = on_terminal(&words, b"");
+        assert!(!shown.text().contains(is_odd), "{words:?} {shown:?}");
+        assert!(shown.text().contains(here), "{words:?} {shown:?}");
+        let piped = olgaemuri(&words, b"");
+        assert!(piped.text().contains(elsewhere), "{words:?} {piped:?}");
+    }
+    // what is only shown is not saved
+    let typed = on_terminal(
+        &["interactive", file_name],
+        b"pause machine=0 now=1\nsave -\nquit\nquit\n",
+    );
+    std::fs::remove_file(&file).unwrap();
+    assert!(!typed.text().contains(is_odd), "{typed:?}");
+    assert!(typed.text().contains("\"a�[31m����b\""), "{typed:?}");
+    assert!(typed.text().contains("not saved: "), "{typed:?}");
+}
+
+#[test]
+fn bytes_are_not_written_to_a_terminal() {
+    let session = "examples/press-shop.session";
+    for words in [
+        &["convert", "--to", "bytes", session][..],
+        &["convert", "--to", "bare", session],
+        &["convert", "--to", "bytes", session, "/dev/tty"],
+        &["thresholds", "--seed", "1", "--count", "3", "--bytes"],
+    ] {
+        let shown = on_terminal(words, b"");
+        let told = "bytes are not written to a terminal: name a file, or use a pipe\r\n";
+        assert_eq!((shown.status, shown.text()), (2, told), "{words:?}");
+    }
 }
 
 #[test]

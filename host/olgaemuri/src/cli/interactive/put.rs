@@ -1,8 +1,8 @@
 //! The words `save` and `picture`: what is typed goes to a file.
 
 use super::typed::Typed;
-use crate::cli::files::write;
-use crate::cli::svg::picture;
+use crate::cli::files::write_by;
+use crate::cli::svg::write_picture;
 use std::io;
 use std::path::Path;
 
@@ -14,12 +14,8 @@ impl Typed<'_> {
             Err(message) => return self.say(message),
         };
         let is_session = word == "save";
-        let text = if is_session {
-            self.report.text.clone().self_contained().to_string()
-        } else {
-            picture(&self.report, "olgaemuri")
-        };
-        if !self.written_to(word, file, overwrite, &text)? {
+        // what is only shown is not kept
+        if !self.written_to(word, file, overwrite)? || file == "-" {
             return Ok(());
         }
         self.changed &= !is_session;
@@ -32,13 +28,7 @@ impl Typed<'_> {
     }
 
     /// Writes a file for that word, or says why not. What others wrote stays, unless it is to be written over.
-    fn written_to(
-        &mut self,
-        word: &str,
-        file: &str,
-        overwrite: bool,
-        text: &str,
-    ) -> io::Result<bool> {
+    fn written_to(&mut self, word: &str, file: &str, overwrite: bool) -> io::Result<bool> {
         let entry = (word.to_string(), file.to_string());
         if !overwrite && !self.written.contains(&entry) && Path::new(file).exists() {
             self.say(&format!(
@@ -46,7 +36,12 @@ impl Typed<'_> {
             ))?;
             return Ok(false);
         }
-        if let Err(message) = write(file, text.as_bytes()) {
+        let report = &self.report;
+        let written = write_by(file, |out| match word {
+            "save" => write!(out, "{}", report.text.clone().self_contained()),
+            _ => write_picture(report, "olgaemuri", out),
+        });
+        if let Err(message) = written {
             self.say(&message)?;
             return Ok(false);
         }

@@ -1,8 +1,8 @@
 //! What is shown of a session while it is typed.
 
 use crate::cli::report::Report;
-use crate::cli::report_table::breakdown_table;
-use crate::cli::table::{Column, aligned};
+use crate::cli::report_table::write_breakdowns;
+use crate::cli::table::{Column, aligned, text_of};
 use crate::cli::wording::told;
 
 /// What lines did: the answers behind this many rows, with the commands where these are done again; or that they were noted, where
@@ -58,7 +58,7 @@ pub fn list(report: &Report) -> String {
         .into_iter()
         .map(Into::into)
         .collect();
-    let events = breakdown_table(&events, report.names(), None);
+    let events = text_of(|out| write_breakdowns(&events, report.names(), None, out));
     format!(
         "{commands}\nScheduled, in the order of delivery:\n\n{events}\n{}",
         draws(report)

@@ -72,8 +72,8 @@ impl<'a> Timeline<'a> {
         }
     }
 
-    /// Everything below the title, and the height of it all.
-    pub fn drawn(&self) -> (String, f64) {
+    /// Everything below the title, part after part, and the height of it all.
+    pub fn drawn(&self) -> (impl Iterator<Item = String>, f64) {
         let lanes = || {
             self.lanes
                 .iter()
@@ -86,7 +86,7 @@ impl<'a> Timeline<'a> {
             .into_iter()
             .map(|time| self.axis_mark(time));
         let spans = spans(self.report.outcome(), self.axis.end);
-        let bars = spans.iter().map(|span| self.bar(span));
+        let bars = spans.into_iter().map(|span| self.bar(&span));
         let marks = drawing_order(self.report.events()).map(|event| self.mark(event));
         let labels = lanes().map(|(machine, centre)| self.labels(machine, centre));
         let parts = names
@@ -103,7 +103,7 @@ impl<'a> Timeline<'a> {
             (MARGIN, WIDTH - MARGIN),
             top,
         );
-        (parts.chain([self.base(), legend]).collect(), height)
+        (parts.chain([self.base(), legend]), height)
     }
 
     /// The background of a lane, its machine and what that machine's events came to.
