@@ -1,18 +1,18 @@
 -- One turn of the replay: the command at the front of the bytes, and what it leaves by what it does.
-use mathlib.Core.Path.{_≡_, refl, ap, _∙_, subst}
+use mathlib.Core.Path.{_≡_, refl, sym, ap, _∙_, subst}
 use mathlib.Core.Bool.{Bool, true, false, cond}
-use mathlib.Core.List.{List}
+use mathlib.Core.List.{List, []}
 use mathlib.Core.Option.{none, some}
 use Prim.Native.Nat.{ℕ, _-_, _<_, _≤_}
 use native.Mathlib.Omega.{arith}
-use borrow.Author.Tests.{eqb-true, eqb-false, leb-true, leb-false, lt-ltb, le-ltb, le-leb, lt-leb, eq-eqb, ne-eqb}
+use borrow.Author.Tests.{eqb-true, eqb-false, ltb-true, ltb-false, leb-true, leb-false, lt-ltb, le-ltb, le-leb, lt-leb, eq-eqb, ne-eqb}
 use lib.Dec.{eqb, ltb, leb}
 use lib.ListN.{length, take, drop, drop-of-length-le}
 use lib.Seq.{length-take-le}
 use Rattle.hazards.specs.declared.answers.Answer.{Answer}
 use Rattle.hazards.proofs.Cases.{by-test}
 use Rattle.engine.specs.Commands as commands
-use Rattle.engine.specs.Commands.{widthOf}
+use Rattle.engine.specs.Commands.{widthOf, frontRefusal}
 use Rattle.engine.specs.State.{EngineState}
 use Rattle.engine.specs.Engine.{Bytes, Engine, rejected, performed, carryOut, code, cut, classify}
 use Rattle.engine.specs.Execution.{perform}
@@ -22,6 +22,8 @@ use Rattle.engine.specs.ReplayInternals.{wholeWidth, commandAt, widthAft
 use Rattle.engine.proofs.SoundState.{SoundState}
 use Rattle.engine.proofs.CommandLists.{Whole}
 use Rattle.engine.proofs.Asking.{asks-no-command, asks-part, asks-undo, asks-command}
+use Rattle.engine.proofs.RunStops.{end-whole}
+use Rattle.engine.proofs.FrontRefusals.{BeginsWhole, front-whole as begins-whole}
 use Rattle.engine.proofs.Replays.{cut-whole, replay-end}
 use Rattle.engine.proofs.SoundValid.{sound-state-valid}
 
@@ -86,6 +88,28 @@ module _ (i : Bytes) (h : 0 < length i) where
 
       v : validState stream n s ≡ true
       v = sound-state-valid s stream n g
+
+-- by the number that the bytes are refused by
+module _ (i : Bytes) (number : ℕ) (e : number ≡ frontRefusal i) where
+  pub begins : number ≡ 0 → BeginsWhole i
+  begins = begins-whole [] 0 (engineOf [] 0 .opened) i number e
+
+  pub width-refused : (number ≡ 0 → ⊥) → wholeWidth i ≡ 0
+  width-refused z =
+      by-test (ltb 0 (length i))
+      (λ l.
+      let h = ltb-true 0 (length i) l in
+      by-test (eqb (code i) commands.undo) (λ u. width-undo i h (eqb-true _ _ u))
+      (λ u.
+      by-test (leb (widthOf (code i)) (length i))
+      (λ f.
+      let long = leb-true (widthOf (code i)) (length i) f in
+      width-whole i h (eqb-false _ _ u) long
+      ∙ by-test (ltb 0 (widthOf (code i)))
+      (λ w. absurd (z (e ∙ sym (end-whole i h (ltb-true 0 (widthOf (code i)) w) long))))
+      (λ w. let none = ltb-false 0 (widthOf (code i)) w in omega arith))
+      (λ f. width-part i h (eqb-false _ _ u) (leb-false (widthOf (code i)) (length i) f))))
+      (λ l. width-nothing i (ltb-false 0 (length i) l))
 
 -- ---- one turn
 

@@ -29,15 +29,14 @@ use hazards::answers::no_event;
 pub(crate) fn command_width(bytes: &[u8]) -> usize
     ensures { λ r. ⌜ r ≡ wholeWidth (now (bytes .entry)) ⌝ }
 {
-    if bytes.len() == 0 {
+    if crate::commands::front_refusal(bytes) != 0 {
         return 0;
     }
     let code = bytes[0];
     if code == crate::commands::UNDO {
         return 0;
     }
-    let width = crate::commands::width(code);
-    if width <= bytes.len() { width } else { 0 }
+    crate::commands::width(code)
 }
 
 // The place of the last of some applied commands; 0 where there is none.
@@ -50,14 +49,10 @@ pub(crate) fn last_command(bytes: &[u8]) -> usize
     let mut at: usize = 0;
     while at < bytes.len() {
         place = at;
-        let width = crate::commands::width(bytes[at]);
-        if width == 0 {
+        if crate::commands::front_refusal(&bytes[at..]) != 0 {
             return place;
         }
-        if bytes.len() - at < width {
-            return place;
-        }
-        at = at + width;
+        at = at + crate::commands::width(bytes[at]);
     }
     place
 }
