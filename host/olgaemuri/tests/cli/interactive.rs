@@ -98,7 +98,9 @@ fn thresholds_can_be_added_when_they_are_used_up() {
     let set = "set machine=0 cause=3 now=0 hazard=constant rate=1\n";
     let input = format!("create machine=0 policy=retain\n{set}thresholds 7\n{set}");
     let out = typed(&[], &input);
-    assert!(out.contains("refused by 15"), "{out}");
+    let told = "all recorded ones are used up; nothing has changed. `thresholds` and some numbers add more\n";
+    assert!(out.contains("refused by 15: "), "{out}");
+    assert!(out.contains(told), "{out}");
     assert!(
         out.ends_with("  in force: 2; scheduled: nothing; thresholds drawn: 1 of 1\n"),
         "{out}"
@@ -216,9 +218,11 @@ fn a_rate_can_be_asked_for() {
 fn wrong_words_and_help() {
     let out = typed(
         &[],
-        "lst\nlist it\nundoo\nbanana\nset machine=0 casue=1\nhelp\nhelp pause\nhelp me\nsave\n",
+        "lst\nlist it\nundoo\nbanana\nset machine=0 casue=1\nhelp\nhelp pause\nhelp me\nsave\nrun shop.session\nolgaemuri sweep\n",
     );
     for expected in [
+        "`run` is a word for the shell, to which `quit` leads back\n",
+        "`olgaemuri` is a word for the shell, to which `quit` leads back\n",
         "unknown word `lst`; did you mean `list`?",
         "nothing more may follow `list`",
         "unknown word `undoo`; did you mean `undo`?",

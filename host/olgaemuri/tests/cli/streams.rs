@@ -16,7 +16,7 @@ fn standard_error_that_cannot_be_written() {
 
 #[test]
 fn standard_output_that_cannot_be_written() {
-    let words: [&[&str]; 9] = [
+    let words: [&[&str]; 13] = [
         &["interactive"],
         &["run", SESSION],
         &["run", SESSION, "--csv"],
@@ -24,6 +24,19 @@ fn standard_output_that_cannot_be_written() {
         &["run", SESSION, "--svg", "-"],
         &["compare", SESSION, SESSION],
         &["convert", "--to", "text", SESSION],
+        &["sweep", SESSION, "--streams", "1", "--seed", "1"],
+        &[
+            "sweep",
+            SESSION,
+            "--streams",
+            "1",
+            "--seed",
+            "1",
+            "--rows",
+            "-",
+        ],
+        &["thresholds", "--seed", "1", "--count", "3", "--bytes"],
+        &["help"],
         &["rate", "2", "4"],
         &["rate", "1", "49", "--json"],
     ];

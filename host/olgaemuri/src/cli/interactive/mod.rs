@@ -8,7 +8,7 @@ mod typed;
 use super::arguments::Arguments;
 use super::files::load;
 use super::report::Report;
-use super::{Failure, help, rate};
+use super::{Failure, SUBCOMMANDS, help, rate};
 use olgaemuri::SessionText;
 use olgaemuri::text::{cut, hint_or, line_words};
 use std::io::{self, BufRead, IsTerminal, Write, stderr, stdin, stdout};
@@ -168,6 +168,11 @@ impl Talk<'_> {
 }
 
 fn unknown(typed: &mut Typed, word: &str) -> io::Result<()> {
+    if word == "olgaemuri" || SUBCOMMANDS.contains(&word) {
+        return typed.say(&format!(
+            "`{word}` is a word for the shell, to which `quit` leads back"
+        ));
+    }
     let known: Vec<&str> = known_words().collect();
     let hint = hint_or(word, &known, "; `help` tells what can be typed");
     typed.say(&format!("unknown word `{}`{hint}", cut(word, 60)))

@@ -3,8 +3,8 @@
 use super::shown;
 use crate::cli::report::Report;
 use crate::cli::wording::counted;
-use olgaemuri::Command;
 use olgaemuri::text::{Item, Line, Reader, Source, visible};
+use olgaemuri::{Command, Refusal};
 use std::io::{self, Write};
 
 pub struct Typed<'a> {
@@ -130,7 +130,8 @@ impl<'a> Typed<'a> {
     fn attempt(&mut self, lines: Vec<Line>, again: bool) -> io::Result<bool> {
         let known = self.report.given();
         if let Err(refused) = self.report.add(lines, &self.reader) {
-            self.say(&format!("{refused}; nothing has changed"))?;
+            let advice = advice(&refused);
+            self.say(&format!("{refused}; nothing has changed{advice}"))?;
             return Ok(false);
         }
         self.changed = true;
@@ -138,5 +139,15 @@ impl<'a> Typed<'a> {
         self.say(&answers)?;
         self.status()?;
         Ok(true)
+    }
+}
+
+/// What can be done about a refusal, where it is not plain.
+fn advice(refused: &str) -> &'static str {
+    let exhausted = format!("refused by {}:", Refusal::StreamExhausted.number());
+    if refused.starts_with(&exhausted) {
+        ". `thresholds` and some numbers add more"
+    } else {
+        ""
     }
 }
