@@ -50,7 +50,7 @@ pub record Executes (w : WordRows) (f : FloatRows) (o : AfterInput) (w′ : Word
 abbrev pub inputOn : Bytes → WordRows → FloatRows → Bytes → Bytes → AfterInput
 inputOn stream w f j input = after stream (length j) (execute (engineOf stream (length j)) (stateFrom w f) j input)
 
--- refused by 1, with nothing changed
+-- nothing is changed
 pub record Refuses (w : WordRows) (f : FloatRows) (j : Bytes) (w′ : WordRows) (f′ : FloatRows) (j′ : Bytes) : Type 0 where
   pub words : w′ ≡ w
   pub floats : f′ ≡ f

@@ -28,7 +28,7 @@ pub record Memory : Type 0 where
 abbrev pub stateIn : Memory → EngineState
 stateIn m = stateFrom (m .words) (m .floats)
 
--- what is lent keeps its lengths
+-- what is lent keeps its lengths: no contract says so, since the language's slices do
 pub record KeepsLengths (m m′ : Memory) : Type 0 where
   pub words : length (m′ .words) ≡ length (m .words)
   pub floats : length (m′ .floats) ≡ length (m .floats)
