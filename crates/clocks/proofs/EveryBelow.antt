@@ -13,10 +13,18 @@ pub and-false : (b : Bool) → (b && false) ≡ false
 and-false true = refl
 and-false false = refl
 
+pub and-true : (b : Bool) → (b && true) ≡ b
+and-true true = refl
+and-true false = refl
+
 module _ (test : ℕ → Bool) where
   pub every-none : everyBelow 0 test ≡ true
   unfolding everyBelow
   every-none = refl
+
+  pub every-step : (n : ℕ) → everyBelow (n + 1) test ≡ (everyBelow n test && test n)
+  unfolding everyBelow
+  every-step n = rw (add-one n)
 
   pub every-more : (n : ℕ) → everyBelow n test ≡ true → test n ≡ true → everyBelow (n + 1) test ≡ true
   unfolding everyBelow

@@ -9,6 +9,7 @@ pub mod EachLaws
 pub mod EarliestTurns
 pub mod EventTimes
 pub mod EveryBelow
+pub mod JoinedWords
 pub mod OwnRows
 pub mod PlaceRows
 pub mod Places

@@ -3,10 +3,11 @@ ghost use mathlib.Core.Path.{_≡_};
 ghost use mathlib.Core.Bool.{cond, true, _&&_};
 ghost use mathlib.Core.List.{[]};
 ghost use Prim.Native.Nat.{_+_, _<_};
+ghost use lib.Dec.{ltb};
 ghost use lib.Ieee.{nan};
 ghost use lib.ListN.{length, getD};
 ghost use Rattle.clocks.specs.Layout.{Sized, u32From, channelAt, clockFrom, codedSettings, codedSchedule, spareZero, codedTimes};
-ghost use Rattle.clocks.specs.Layout.{codedWords, codedNumbers, codedChannel, codedChannels, codedClock};
+ghost use Rattle.clocks.specs.Layout.{codedNumbers, codedChannels, codedClock};
 ghost use Rattle.clocks.specs.Validation.{isFinite, validChannel, validClock};
 use crate::layout::ACCUMULATED;
 use crate::layout::ACTIVE;
@@ -71,54 +72,45 @@ fn times_coded(ts: &[f64; 8]) -> bool
     zero_bits(ts[3]) && spare_zero(ts)
 }
 
-fn words_coded(ws: &[u64; 8]) -> bool
-    ensures { λ r. ⌜ r ≡ codedWords (now (ws .entry)) ⌝ }
-{
-    let spare = (ws[4] == 0) & ((ws[5] == 0) & ((ws[6] == 0) & (ws[7] == 0)));
-    (ws[CAUSE] < U32_END) & ((ws[PRIORITY] < U32_END) & ((ws[KIND] < 4) & spare))
-}
-
-fn numbers_coded(kind: u64, ns: &[f64; 8]) -> bool
-    ensures { λ r. ⌜ r ≡ codedNumbers kind (now (ns .entry)) ⌝ }
+// A channel's kind, and its numbers by their kind.
+fn kind_coded(kind: u64, ns: &[f64; 8]) -> bool
+    ensures { λ r. ⌜ r ≡ (ltb kind 4 && codedNumbers kind (now (ns .entry))) ⌝ }
 {
     if kind == 0 {
         if !zero_bits(ns[RATE]) {
             return false;
         }
     }
-    spare_zero(ns)
+    (kind < 4) && spare_zero(ns)
 }
 
-fn channel_coded<'a>(ws: &'a [u64; 8], ns: &'a [f64; 8]) -> bool
-    ensures { λ r. ⌜ r ≡ codedChannel (now (ws .entry)) (now (ns .entry)) ⌝ }
-{
-    words_coded(ws) && numbers_coded(ws[KIND], ns)
-}
-
-// Every channel, used or not.
+// Every channel, used or not. Causes with priorities, and what is spare, are joined bit by bit over all channels and tested once.
 fn channels_coded<'a>(words: &'a [[u64; 8]], floats: &'a [[f64; 8]]) -> bool
     requires { ⌜ Sized (now words) (now floats) ⌝ }
     ensures { λ r. ⌜ r ≡ codedChannels (now (words .entry)) (now (floats .entry)) ⌝ }
 {
+    let mut ids: u64 = 0;
+    let mut spare: u64 = 0;
     let mut j: usize = 0;
     while j < 8 {
-        if !channel_coded(&words[CHANNELS + j], &floats[NUMBERS + CHANNEL_FLOATS * j]) {
+        let ws = &words[CHANNELS + j];
+        if !kind_coded(ws[KIND], &floats[NUMBERS + CHANNEL_FLOATS * j]) {
             return false;
         }
+        ids = ids | (ws[CAUSE] | ws[PRIORITY]);
+        spare = spare | ((ws[4] | ws[5]) | (ws[6] | ws[7]));
         j += 1;
     }
-    true
+    (ids < U32_END) & (spare == 0)
 }
 
 pub fn clock_coded<'a>(words: &'a [[u64; 8]], floats: &'a [[f64; 8]]) -> bool
     requires { ⌜ Sized (now words) (now floats) ⌝ }
     ensures { λ r. ⌜ r ≡ codedClock (now (words .entry)) (now (floats .entry)) ⌝ }
 {
-    let settings = settings_coded(&words[SETTINGS]);
-    let schedule = schedule_coded(&words[SCHEDULE]);
-    let times = times_coded(&floats[TIMES]);
-    let channels = channels_coded(words, floats);
-    settings & (schedule & (times & channels))
+    settings_coded(&words[SETTINGS])
+        && (schedule_coded(&words[SCHEDULE])
+            && (times_coded(&floats[TIMES]) && channels_coded(words, floats)))
 }
 
 // Neither infinite nor a NaN.
