@@ -6,38 +6,35 @@ ghost use Prim.Native.Nat.{_+_, _<_, _^_};
 ghost use lib.Dec.{eqb, leb};
 ghost use Rattle.hazards.specs.Refusals.{numberOf};
 ghost use Rattle.engine.specs.Refusals.{clockAbsent};
-ghost use Rattle.engine.specs.State.{withRequest, withAppliedBytes, slotAt, withSlot, queuedRequests, withPosition};
-ghost use Rattle.engine.specs.Execution.{holding, isWithdrawn, withdraw, requestOf, eventAnswer, clockOfRequest, target, stored};
+ghost use Rattle.engine.specs.State.{withRequest, withAppliedBytes, slotAt, queuedRequests, withPosition};
+ghost use Rattle.engine.specs.Execution.{isWithdrawn, withdraw, requestOf, eventAnswer, clockOfRequest, target, stored};
 ghost use Rattle.engine.specs.Execution.{performCreate, performSet, performRemove, performReschedule};
 ghost use Rattle.engine.specs.Execution.{performResume, performPause, performDeliver, perform};
 ghost use Rattle.engine.specs.ExecutionInternals.{Countable, Ready, TakenBack, requeued};
 ghost use lib.ListN.{length};
-ghost use Rattle.clocks.specs.Clocks.{removeChannel};
-ghost use Rattle.clocks.specs.Setting.{setChannel};
-ghost use Rattle.clocks.specs.RowsInternals.{takesCause, channelDraw, queueChange};
-ghost use Rattle.clocks.specs.Scheduling as scheduling;
-ghost use Rattle.clocks.specs.Layout.{FloatRows, Sized, Coded, clockFrom, presentIn};
-ghost use Rattle.engine.specs.Commands.{widthOf, byteAt, clockOf, createdClock};
+ghost use Rattle.clocks.specs.Layout.{FloatRows};
+ghost use Rattle.engine.specs.Commands.{widthOf, byteAt, clockOf};
 ghost use Rattle.engine.specs.Queue.{nextRequest};
-ghost use Rattle.engine.specs.StateRows.{sharedFrom, stateFrom, CodedState, SizedState, LeavesShared, LeavesClock, Performs};
+ghost use Rattle.engine.specs.StateRows.{sharedFrom, stateFrom, LeavesShared, Performs};
+use crate::clock_calls::create_in;
+use crate::clock_calls::dispatch_in;
+use crate::clock_calls::pause_in;
+use crate::clock_calls::remove_in;
+use crate::clock_calls::reschedule_in;
+use crate::clock_calls::resume_in;
+use crate::clock_calls::set_in;
+use crate::clock_calls::takes_cause;
 use crate::commands::CAUSE_FIELD;
 use crate::commands::CLOCK_FIELD;
 use crate::commands::CREATE;
 use crate::commands::DELIVER;
-use crate::commands::ENTITY_INDEX_FIELD;
-use crate::commands::GENERATION_FIELD;
-use crate::commands::HAS_ENTITY_FIELD;
 use crate::commands::NOW_FIELD;
 use crate::commands::PAUSE;
-use crate::commands::POLICY_FIELD;
 use crate::commands::PRIORITY_FIELD;
-use crate::commands::PROCESS_FIELD;
 use crate::commands::REMOVE;
 use crate::commands::RESCHEDULE;
 use crate::commands::RESUME;
-use crate::commands::SCALE_FIELD;
 use crate::commands::SET;
-use crate::commands::TIE_FIELD;
 use crate::commands::byte_at;
 use crate::kept_rows::KEPT_WORDS;
 use crate::refusals::CLOCK_ABSENT;
@@ -50,23 +47,17 @@ use crate::state_rows::COUNTS;
 use crate::state_rows::POSITION;
 use crate::state_rows::QUEUED;
 use crate::state_rows::REQUEST_COUNT;
-use clocks::clocks::EntityId;
 use clocks::clocks::ScheduledEvent;
-use clocks::clocks::policy_of;
 use clocks::layout::CLOCK_FLOATS;
 use clocks::layout::CLOCK_WORDS;
 use clocks::layout::PRESENT;
-use clocks::scheduling::Censor;
 use clocks::scheduling::QueueChange;
 use clocks::scheduling::RealizedEvent;
-use clocks::setting::CauseSetting;
-use clocks::setting::ChannelDraw;
 use clocks::ticks::Ticks;
 use hazards::answers::Answer;
 use hazards::answers::no_event;
 use hazards::fields::f64_at;
 use hazards::fields::u32_at;
-use hazards::fields::u64_at;
 use hazards::refusals::Faults;
 
 pub(crate) fn event_answer(event: RealizedEvent, withdrawn: bool, ticks: Ticks) -> Answer
@@ -131,31 +122,6 @@ fn count_applied(words: &mut [[u64; 8]], width: usize)
     );
 }
 
-// The clock that a CREATE makes, in a clock's rows.
-fn create_clock(words: &mut [[u64; 8]], floats: &mut [[f64; 8]], command: &[u8])
-    requires { ⌜ Sized (now words) (now floats) ⌝ }
-    ensures { λ _. ⌜ (clockFrom (now (words .exit)) (now (floats .exit)) ≡ createdClock (now (command .entry)))
-        × (presentIn (now (words .exit)) ≡ true) × Coded (now (words .exit)) (now (floats .exit)) ⌝ }
-{
-    let entity = EntityId {
-        index: u64_at(command, ENTITY_INDEX_FIELD),
-        generation: u32_at(command, GENERATION_FIELD),
-    };
-    let policy = policy_of(byte_at(command, POLICY_FIELD));
-    let tie = hazards::ties::tie_breaker(byte_at(command, TIE_FIELD));
-    let has = byte_at(command, HAS_ENTITY_FIELD) == 1;
-    clocks::clocks::create(
-        words,
-        floats,
-        u64_at(command, PROCESS_FIELD),
-        has,
-        entity,
-        policy,
-        tie,
-        f64_at(command, SCALE_FIELD),
-    );
-}
-
 // The draw position after a SET.
 fn put_position(words: &mut [[u64; 8]], position: usize)
     requires { ⌜ length (now words) ≡ 177 ⌝ }
@@ -168,24 +134,6 @@ fn put_position(words: &mut [[u64; 8]], position: usize)
         row[REQUEST_COUNT],
         position,
         row[APPLIED_LENGTH] as usize,
-    );
-}
-
-// A CREATE on the rows of a clock.
-fn create_in(words: &mut [[u64; 8]], floats: &mut [[f64; 8]], clock: usize, command: &[u8])
-    requires { ⌜ (clock < 16) × SizedState (now words) (now floats) ⌝ }
-    ensures { λ _. ⌜ (stateFrom (now (words .exit)) (now (floats .exit))
-        ≡ withSlot (stateFrom (now (words .entry)) (now (floats .entry))) clock (holding (createdClock (now (command .entry))))
-        (sharedFrom (now (words .entry))))
-        × (sharedFrom (now (words .exit)) ≡ sharedFrom (now (words .entry)))
-        × (CodedState (now (words .entry)) (now (floats .entry)) → CodedState (now (words .exit)) (now (floats .exit))) ⌝ }
-{
-    let w = CLOCK_WORDS * clock;
-    let f = CLOCK_FLOATS * clock;
-    create_clock(
-        &mut words[w..w + CLOCK_WORDS],
-        &mut floats[f..f + CLOCK_FLOATS],
-        command,
     );
 }
 
@@ -218,21 +166,6 @@ fn perform_create(
     no_event(0)
 }
 
-// remove_channel on the rows of a clock.
-fn remove_in(words: &mut [[u64; 8]], floats: &mut [[f64; 8]], clock: usize, cause: u32)
-    requires { ⌜ (clock < 16) × SizedState (now words) (now floats) ⌝ }
-    ensures { λ _. ⌜ LeavesClock (now (words .entry)) (now (floats .entry)) clock (now (words .exit)) (now (floats .exit))
-        (removeChannel (slotAt (stateFrom (now (words .entry)) (now (floats .entry))) clock .clock) cause) ⌝ }
-{
-    let w = CLOCK_WORDS * clock;
-    let f = CLOCK_FLOATS * clock;
-    clocks::clocks::remove_channel(
-        &mut words[w..w + CLOCK_WORDS],
-        &mut floats[f..f + CLOCK_FLOATS],
-        cause,
-    );
-}
-
 fn perform_remove(
     words: &mut [[u64; 8]],
     floats: &mut [[f64; 8]],
@@ -258,44 +191,6 @@ fn perform_remove(
     remove_in(words, floats, clock, cause);
     count_applied(words, command.len());
     no_event(0)
-}
-
-// Whether a clock has a cause, or a place for it.
-fn takes_cause(words: &[[u64; 8]], clock: usize, cause: u32) -> bool
-    requires { ⌜ (clock < 16) × (length (now words) ≡ 177) ⌝ }
-    ensures { λ r. ⌜ ((floats : FloatRows)
-        → r ≡ takesCause (slotAt (stateFrom (now (words .entry)) floats) clock .clock) cause) ⌝ }
-{
-    let w = CLOCK_WORDS * clock;
-    clocks::setting::takes_cause(&words[w..w + CLOCK_WORDS], cause)
-}
-
-// set_channel on the rows of a clock; its refusal changes nothing.
-fn set_in(
-    words: &mut [[u64; 8]],
-    floats: &mut [[f64; 8]],
-    clock: usize,
-    setting: CauseSetting,
-    stream: &[u8],
-) -> ChannelDraw
-    requires { ⌜ (clock < 16) × SizedState (now words) (now floats) ⌝ }
-    ensures { λ r. ⌜ LeavesClock (now (words .entry)) (now (floats .entry)) clock (now (words .exit)) (now (floats .exit))
-        (setChannel (slotAt (stateFrom (now (words .entry)) (now (floats .entry))) clock .clock) setting
-        (now (stream .entry)) (sharedFrom (now (words .entry)) .position) .clock)
-        × (r ≡ channelDraw (setChannel (slotAt (stateFrom (now (words .entry)) (now (floats .entry))) clock .clock) setting
-        (now (stream .entry)) (sharedFrom (now (words .entry)) .position)))
-        × ((r .number ≡ 0 → ⊥) → (now (words .exit) ≡ now (words .entry)) × (now (floats .exit) ≡ now (floats .entry))) ⌝ }
-{
-    let w = CLOCK_WORDS * clock;
-    let f = CLOCK_FLOATS * clock;
-    let position = words[COUNTS][POSITION] as usize;
-    clocks::setting::set_channel(
-        &mut words[w..w + CLOCK_WORDS],
-        &mut floats[f..f + CLOCK_FLOATS],
-        setting,
-        stream,
-        position,
-    )
 }
 
 // 10, then 14, then 15 or 16.
@@ -350,27 +245,6 @@ fn withdraw(words: &mut [[u64; 8]], event: ScheduledEvent) -> bool
     }
     crate::queue::take_out(words, event.index);
     true
-}
-
-// pause on the rows of a clock; the event that is withdrawn.
-fn pause_in(
-    words: &mut [[u64; 8]],
-    floats: &mut [[f64; 8]],
-    clock: usize,
-    time: f64,
-) -> ScheduledEvent
-    requires { ⌜ (clock < 16) × SizedState (now words) (now floats) ⌝ }
-    ensures { λ r. ⌜ LeavesClock (now (words .entry)) (now (floats .entry)) clock (now (words .exit)) (now (floats .exit))
-        (scheduling.pause (slotAt (stateFrom (now (words .entry)) (now (floats .entry))) clock .clock) time .clock)
-        × (r ≡ scheduling.pause (slotAt (stateFrom (now (words .entry)) (now (floats .entry))) clock .clock) time .withdrawn) ⌝ }
-{
-    let w = CLOCK_WORDS * clock;
-    let f = CLOCK_FLOATS * clock;
-    clocks::scheduling::pause(
-        &mut words[w..w + CLOCK_WORDS],
-        &mut floats[f..f + CLOCK_FLOATS],
-        time,
-    )
 }
 
 fn perform_pause(
@@ -441,33 +315,6 @@ fn requeue(words: &mut [[u64; 8]], command: &[u8], change: QueueChange) -> Answe
     event_answer(event, withdrawn, change.ticks)
 }
 
-// reschedule on the rows of a clock; what it asks of the queue.
-fn reschedule_in(
-    words: &mut [[u64; 8]],
-    floats: &mut [[f64; 8]],
-    clock: usize,
-    time: f64,
-    censor: Censor,
-) -> QueueChange
-    requires { ⌜ (clock < 16) × SizedState (now words) (now floats) ⌝ }
-    ensures { λ r. ⌜ LeavesClock (now (words .entry)) (now (floats .entry)) clock (now (words .exit)) (now (floats .exit))
-        (scheduling.reschedule (slotAt (stateFrom (now (words .entry)) (now (floats .entry))) clock .clock) time censor
-        (sharedFrom (now (words .entry)) .«request_count») .clock)
-        × (r ≡ queueChange (scheduling.reschedule (slotAt (stateFrom (now (words .entry)) (now (floats .entry))) clock .clock) time censor
-        (sharedFrom (now (words .entry)) .«request_count»))) ⌝ }
-{
-    let w = CLOCK_WORDS * clock;
-    let f = CLOCK_FLOATS * clock;
-    let index = words[COUNTS][REQUEST_COUNT];
-    clocks::scheduling::reschedule(
-        &mut words[w..w + CLOCK_WORDS],
-        &mut floats[f..f + CLOCK_FLOATS],
-        time,
-        censor,
-        index,
-    )
-}
-
 fn perform_reschedule(
     words: &mut [[u64; 8]],
     floats: &mut [[f64; 8]],
@@ -495,33 +342,6 @@ fn perform_reschedule(
     requeue(words, command, change)
 }
 
-// resume on the rows of a clock; what it asks of the queue.
-fn resume_in(
-    words: &mut [[u64; 8]],
-    floats: &mut [[f64; 8]],
-    clock: usize,
-    time: f64,
-    censor: Censor,
-) -> QueueChange
-    requires { ⌜ (clock < 16) × SizedState (now words) (now floats) ⌝ }
-    ensures { λ r. ⌜ LeavesClock (now (words .entry)) (now (floats .entry)) clock (now (words .exit)) (now (floats .exit))
-        (scheduling.resume (slotAt (stateFrom (now (words .entry)) (now (floats .entry))) clock .clock) time censor
-        (sharedFrom (now (words .entry)) .«request_count») .clock)
-        × (r ≡ queueChange (scheduling.resume (slotAt (stateFrom (now (words .entry)) (now (floats .entry))) clock .clock) time censor
-        (sharedFrom (now (words .entry)) .«request_count»))) ⌝ }
-{
-    let w = CLOCK_WORDS * clock;
-    let f = CLOCK_FLOATS * clock;
-    let index = words[COUNTS][REQUEST_COUNT];
-    clocks::scheduling::resume(
-        &mut words[w..w + CLOCK_WORDS],
-        &mut floats[f..f + CLOCK_FLOATS],
-        time,
-        censor,
-        index,
-    )
-}
-
 fn perform_resume(
     words: &mut [[u64; 8]],
     floats: &mut [[f64; 8]],
@@ -547,21 +367,6 @@ fn perform_resume(
     let censor = crate::commands::censor_of(command);
     let change = resume_in(words, floats, clock, time, censor);
     requeue(words, command, change)
-}
-
-// on_event_dispatched on the rows of a clock.
-fn dispatch_in(words: &mut [[u64; 8]], floats: &mut [[f64; 8]], clock: usize) -> RealizedEvent
-    requires { ⌜ (clock < 16) × SizedState (now words) (now floats) ⌝ }
-    ensures { λ r. ⌜ LeavesClock (now (words .entry)) (now (floats .entry)) clock (now (words .exit)) (now (floats .exit))
-        (scheduling.onEventDispatched (slotAt (stateFrom (now (words .entry)) (now (floats .entry))) clock .clock) .clock)
-        × (r ≡ scheduling.onEventDispatched (slotAt (stateFrom (now (words .entry)) (now (floats .entry))) clock .clock) .event) ⌝ }
-{
-    let w = CLOCK_WORDS * clock;
-    let f = CLOCK_FLOATS * clock;
-    clocks::scheduling::on_event_dispatched(
-        &mut words[w..w + CLOCK_WORDS],
-        &mut floats[f..f + CLOCK_FLOATS],
-    )
 }
 
 // The earliest request is taken out, and its clock dispatches its event; only the ticks are the request's.

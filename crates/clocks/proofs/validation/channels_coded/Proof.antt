@@ -97,11 +97,10 @@ loop-again c =
     let ws = getD (a .words .now) (2 + l .loop .j) [] in
     let ns = getD (a .floats .now) (1 + 3 * l .loop .j) [] in
     let passes = sym (e .before .kind-coded .ensures) ∙ not-false _ (e .if1 .left) in
-    let both = both-true (ltb (getD ws 2 0) 4) (codedNumbers (getD ws 2 0) ns) passes in
-    (
+    let both = both-true (ltb (getD ws 2 0) 4) (codedNumbers (getD ws 2 0) ns) passes in (
       omega arith,
       every-step (codedAt (a .words .now) (a .floats .now)) (l .loop .j)
-      ∙ rw (l .loop .inv .1, both .1, and-true (codedWords ws)) (joined-more (l .loop .ids) (l .loop .spare) ws (both .0)),
+          ∙ rw (l .loop .inv .1, both .1, and-true (codedWords ws)) (joined-more (l .loop .ids) (l .loop .spare) ws (both .0)),
     )
 
 returns-2 : tie.Need-returns-2 Inv-loop μ-loop

@@ -1,4 +1,4 @@
--- `execution::create_in` meets its contract.
+-- `clock_calls::create_in` meets its contract.
 use mathlib.Core.Path.{_≡_, _∙_, ap}
 use Rattle.engine.specs.Commands.{createdClock}
 use Rattle.engine.specs.State.{withSlot, ClockSlot}
@@ -6,8 +6,8 @@ use Rattle.engine.specs.Execution.{holding}
 use Rattle.engine.specs.StateRows.{slotOf, sharedFrom, stateFrom}
 use Rattle.engine.proofs.CommandsInPlace.{slot-left, shared-kept, slot-left-coded}
 use borrow.Author.Needs.{needs}
-use Rattle.engine.proofs.execution.create_in.Statement.{statement}
-use Rattle.engine.proofs.execution.create_in.Tie as tie
+use Rattle.engine.proofs.clock_calls.create_in.Statement.{statement}
+use Rattle.engine.proofs.clock_calls.create_in.Tie as tie
 
 mul-w : tie.Need-mul-w
 mul-w c = search needs

@@ -1,8 +1,8 @@
--- `execution::create_clock` meets its contract.
+-- `clock_calls::create_clock` meets its contract.
 use mathlib.Core.Path.{_∙_}
 use borrow.Author.Needs.{needs}
-use Rattle.engine.proofs.execution.create_clock.Statement.{statement}
-use Rattle.engine.proofs.execution.create_clock.Tie as tie
+use Rattle.engine.proofs.clock_calls.create_clock.Statement.{statement}
+use Rattle.engine.proofs.clock_calls.create_clock.Tie as tie
 
 u64-at-requires : tie.Need-u64-at-requires
 u64-at-requires c κs = search needs

@@ -1,4 +1,4 @@
--- `execution::resume_in` meets its contract.
+-- `clock_calls::resume_in` meets its contract.
 use mathlib.Core.Path.{_∙_, ap}
 use Rattle.clocks.specs.Scheduling as scheduling
 use Rattle.clocks.specs.RowsInternals.{queueChange}
@@ -7,8 +7,8 @@ use Rattle.clocks.proofs.RowLaws.{leaves-as}
 use Rattle.engine.specs.StateRows.{sharedOf, sharedFrom}
 use Rattle.engine.proofs.CommandsInPlace.{clock-left, clock-there}
 use borrow.Author.Needs.{needs}
-use Rattle.engine.proofs.execution.resume_in.Statement.{statement}
-use Rattle.engine.proofs.execution.resume_in.Tie as tie
+use Rattle.engine.proofs.clock_calls.resume_in.Statement.{statement}
+use Rattle.engine.proofs.clock_calls.resume_in.Tie as tie
 
 mul-w : tie.Need-mul-w
 mul-w c = search needs

@@ -1,12 +1,12 @@
--- `execution::pause_in` meets its contract.
+-- `clock_calls::pause_in` meets its contract.
 use mathlib.Core.Path.{_∙_, ap}
 use Rattle.clocks.specs.Scheduling as scheduling
 use Rattle.clocks.specs.Clocks.{SurvivalClock}
 use Rattle.clocks.proofs.RowLaws.{leaves-as}
 use Rattle.engine.proofs.CommandsInPlace.{clock-left, clock-there}
 use borrow.Author.Needs.{needs}
-use Rattle.engine.proofs.execution.pause_in.Statement.{statement}
-use Rattle.engine.proofs.execution.pause_in.Tie as tie
+use Rattle.engine.proofs.clock_calls.pause_in.Statement.{statement}
+use Rattle.engine.proofs.clock_calls.pause_in.Tie as tie
 
 mul-w : tie.Need-mul-w
 mul-w c = search needs

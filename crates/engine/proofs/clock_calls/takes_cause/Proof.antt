@@ -1,4 +1,4 @@
--- `execution::takes_cause` meets its contract.
+-- `clock_calls::takes_cause` meets its contract.
 use mathlib.Core.Path.{_∙_, ap}
 use Prim.Native.Nat.{_*_}
 use lib.ListN.{take, drop}
@@ -6,8 +6,8 @@ use Rattle.clocks.specs.RowsInternals.{takesCause}
 use Rattle.clocks.specs.Clocks.{SurvivalClock}
 use Rattle.engine.proofs.CommandsInPlace.{floatsLent, clock-there}
 use borrow.Author.Needs.{needs}
-use Rattle.engine.proofs.execution.takes_cause.Statement.{statement}
-use Rattle.engine.proofs.execution.takes_cause.Tie as tie
+use Rattle.engine.proofs.clock_calls.takes_cause.Statement.{statement}
+use Rattle.engine.proofs.clock_calls.takes_cause.Tie as tie
 
 mul-w : tie.Need-mul-w
 mul-w c = search needs

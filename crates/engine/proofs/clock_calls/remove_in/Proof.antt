@@ -1,11 +1,11 @@
--- `execution::remove_in` meets its contract.
+-- `clock_calls::remove_in` meets its contract.
 use mathlib.Core.Path.{ap}
 use Rattle.clocks.specs.Clocks.{removeChannel, SurvivalClock}
 use Rattle.clocks.proofs.RowLaws.{leaves-as}
 use Rattle.engine.proofs.CommandsInPlace.{clock-left, clock-there}
 use borrow.Author.Needs.{needs}
-use Rattle.engine.proofs.execution.remove_in.Statement.{statement}
-use Rattle.engine.proofs.execution.remove_in.Tie as tie
+use Rattle.engine.proofs.clock_calls.remove_in.Statement.{statement}
+use Rattle.engine.proofs.clock_calls.remove_in.Tie as tie
 
 mul-w : tie.Need-mul-w
 mul-w c = search needs

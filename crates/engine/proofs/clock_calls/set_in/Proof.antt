@@ -1,4 +1,4 @@
--- `execution::set_in` meets its contract: rows that come back as they were are put back as they were.
+-- `clock_calls::set_in` meets its contract: rows that come back as they were are put back as they were.
 use mathlib.Core.Path.{_∙_, ap}
 use Prim.Native.Nat.{_*_}
 use borrow.Rule.Slice.PartMut.{putMid, put-same}
@@ -10,8 +10,8 @@ use Rattle.clocks.proofs.RowLaws.{leaves-as}
 use Rattle.engine.specs.StateRows.{sharedOf, sharedFrom}
 use Rattle.engine.proofs.CommandsInPlace.{wordsLent, floatsLent, clock-left, clock-there}
 use borrow.Author.Needs.{needs}
-use Rattle.engine.proofs.execution.set_in.Statement.{statement}
-use Rattle.engine.proofs.execution.set_in.Tie as tie
+use Rattle.engine.proofs.clock_calls.set_in.Statement.{statement}
+use Rattle.engine.proofs.clock_calls.set_in.Tie as tie
 
 mul-w : tie.Need-mul-w
 mul-w c = search needs
