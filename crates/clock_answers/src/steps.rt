@@ -21,7 +21,7 @@ use engine::commands::SCALE_FIELD;
 use engine::commands::SET;
 use engine::commands::TIE_FIELD;
 use engine::commands::censor_of;
-use engine::commands::setting_of;
+use engine::commands::set_command;
 use hazards::answers::Answer;
 use hazards::answers::no_event;
 use hazards::fields::f64_at;
@@ -123,7 +123,13 @@ fn set(
     requires { ⌜ Sized (now words) (now floats) ⌝ }
 {
     let position = u64_at(case, POSITION_FIELD) as usize;
-    let set = clocks::setting::set_channel(words, floats, setting_of(case), stream, position);
+    let set = clocks::setting::set_channel(
+        words,
+        floats,
+        set_command(case).setting,
+        stream,
+        position,
+    );
     idle(set.number, ticks, set.position)
 }
 

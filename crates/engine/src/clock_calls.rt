@@ -12,7 +12,6 @@ ghost use Rattle.engine.specs.Commands.{createdClock};
 ghost use Rattle.engine.specs.Execution.{holding};
 ghost use Rattle.engine.specs.State.{slotAt, withSlot};
 ghost use Rattle.engine.specs.StateRows.{sharedFrom, stateFrom, CodedState, SizedState, LeavesClock};
-use crate::commands::CREATE;
 use crate::commands::ENTITY_INDEX_FIELD;
 use crate::commands::GENERATION_FIELD;
 use crate::commands::HAS_ENTITY_FIELD;

@@ -6,7 +6,7 @@ ghost use lib.Dec.{eqb, ltb};
 ghost use Rattle.hazards.specs.Fields.{fieldAt};
 ghost use Rattle.engine.specs.Commands.{widthOf, entityIndexField, generationField, byteAt, floatsAt, hazardFields, settingOf};
 ghost use Rattle.engine.specs.Commands.{censorOf, clockFaults, createFaults, causeFaults, setFaults, rescheduleFaults};
-ghost use Rattle.engine.specs.Commands.{pauseFaults, faultsOf, frontRefusal};
+ghost use Rattle.engine.specs.Commands.{pauseFaults, frontRefusal};
 use crate::refusals::CUT_SHORT;
 use crate::refusals::NO_COMMAND;
 use clocks::scheduling::Censor;
@@ -240,19 +240,6 @@ pub fn set_command(command: &[u8]) -> SetCommand
     SetCommand { faults, setting }
 }
 
-pub fn set_faults(command: &[u8]) -> Faults
-    ensures { λ r. ⌜ r ≡ setFaults (now (command .entry)) ⌝ }
-{
-    set_command(command).faults
-}
-
-// The setting alone.
-pub fn setting_of(command: &[u8]) -> CauseSetting
-    ensures { λ r. ⌜ r ≡ settingOf (now (command .entry)) ⌝ }
-{
-    set_command(command).setting
-}
-
 // Of RESCHEDULE and RESUME: now and censor, and their clock.
 pub fn reschedule_faults(command: &[u8]) -> Faults
     ensures { λ r. ⌜ r ≡ rescheduleFaults (now (command .entry)) ⌝ }
@@ -278,25 +265,4 @@ pub fn pause_faults(command: &[u8]) -> Faults
 {
     let now = hazards::floats::is_time(f64_at(command, NOW_FIELD));
     hazards::refusals::range_fault_unless(now).joined(clock_faults(command))
-}
-
-// What refusals 4 to 7 say of any command, by its code. DELIVER and UNDO have no fields.
-pub fn faults(command: &[u8]) -> Faults
-    ensures { λ r. ⌜ r ≡ faultsOf (now (command .entry)) ⌝ }
-{
-    let code = byte_at(command, 0);
-    match code {
-        CREATE => create_faults(command),
-        SET => set_faults(command),
-        REMOVE => cause_faults(command),
-        RESCHEDULE => reschedule_faults(command),
-        PAUSE => pause_faults(command),
-        RESUME => reschedule_faults(command),
-        _ => Faults {
-            choice: false,
-            range: false,
-            intervals: false,
-            identifier: false,
-        },
-    }
 }

@@ -7,11 +7,12 @@ ghost use lib.Signed.{ltZ};
 ghost use Rattle.engine.specs.Queue.{requestTicks, comesFirst, earlierOf, nextRequest, isQueued, without};
 ghost use Rattle.engine.specs.State.{emptyRequest, queuedRequests, withQueue, withRequest};
 ghost use Rattle.engine.specs.QueueInternals.{pickOf, MovedUp, ClearedFrom};
-ghost use lib.ListN.{length};
-ghost use Rattle.engine.specs.StateRows.{sharedFrom, LeavesShared};
+ghost use lib.ListN.{length, take};
+ghost use Rattle.engine.specs.StateRows.{queueFrom, sharedFrom, LeavesShared};
 use crate::state::Request;
 use crate::state_rows::APPLIED_LENGTH;
 use crate::state_rows::COUNTS;
+use crate::state_rows::PLACES;
 use crate::state_rows::POSITION;
 use crate::state_rows::QUEUED;
 use crate::state_rows::REQUEST_COUNT;
@@ -95,7 +96,7 @@ pub(crate) fn earlier_of(a: Request, best: Pick) -> Pick
 pub(crate) fn used_places(queued: usize) -> usize
     ensures { λ r. ⌜ r ≡ min queued 16 ⌝ }
 {
-    if queued < 16 { queued } else { 16 }
+    if queued < PLACES { queued } else { PLACES }
 }
 
 // The request that DELIVER takes: from the last to the first, the earlier one kept.
@@ -115,20 +116,28 @@ pub fn next_request(words: &[[u64; 8]]) -> Pick
     best
 }
 
-// Whether a request with this index is queued.
-pub fn is_queued(words: &[[u64; 8]], index: u64) -> bool
-    requires { ⌜ length (now words) ≡ 177 ⌝ }
-    ensures { λ r. ⌜ r ≡ isQueued index (queuedRequests (sharedFrom (now (words .entry)))) ⌝ }
+// Whether an index is that of one of the first n requests.
+pub(crate) fn is_among(words: &[[u64; 8]], n: usize, index: u64) -> bool
+    requires { ⌜ (n ≤ 16) × (length (now words) ≡ 177) ⌝ }
+    ensures { λ r. ⌜ r ≡ isQueued index (take n (queueFrom (now (words .entry)))) ⌝ }
 {
-    let used = used_places(words[COUNTS][QUEUED] as usize);
     let mut i: usize = 0;
-    while i < used {
+    while i < n {
         if words[REQUESTS + i][REQUEST_INDEX] == index {
             return true;
         }
         i += 1;
     }
     false
+}
+
+// Whether a request with this index is queued.
+pub fn is_queued(words: &[[u64; 8]], index: u64) -> bool
+    requires { ⌜ length (now words) ≡ 177 ⌝ }
+    ensures { λ r. ⌜ r ≡ isQueued index (queuedRequests (sharedFrom (now (words .entry)))) ⌝ }
+{
+    let used = used_places(words[COUNTS][QUEUED] as usize);
+    is_among(words, used, index)
 }
 
 // The counts: requests queued and made, draw position, length of the applied commands.
@@ -188,7 +197,7 @@ fn clear_from(words: &mut [[u64; 8]], from: usize)
     ensures { λ _. ⌜ ClearedFrom (now (words .entry)) (now (words .exit)) from ⌝ }
 {
     let mut i = from;
-    while i < 16 {
+    while i < PLACES {
         words[REQUESTS + i] = [0; 8];
         i += 1;
     }
@@ -219,7 +228,7 @@ pub(crate) fn put_in(words: &mut [[u64; 8]], request: Request)
 {
     let row = words[COUNTS];
     let at = row[QUEUED] as usize;
-    if at < 16 {
+    if at < PLACES {
         words[REQUESTS + at] = request_row(request);
     }
     put_counts(

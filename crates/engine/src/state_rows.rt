@@ -22,7 +22,9 @@ pub const POSITION: usize = 2;
 
 pub const APPLIED_LENGTH: usize = 3;
 
-// A row for each request; three places are spare.
+// The queue's places; a row for each, of which three places are spare.
+pub const PLACES: usize = 16;
+
 pub const REQUESTS: usize = 161;
 
 pub const REQUEST_CLOCK: usize = 0;

@@ -3,18 +3,18 @@ ghost use mathlib.Core.Path.{_≡_};
 ghost use mathlib.Core.Bool.{_&&_};
 ghost use mathlib.Core.List.{List, []};
 ghost use Prim.Native.Nat.{_+_, _≤_, _<_};
-ghost use lib.ListN.{length, getD, take};
+ghost use lib.ListN.{length, getD};
 ghost use Rattle.hazards.specs.Lists.{all};
 ghost use Rattle.clocks.specs.Layout.{FloatRows, presentIn};
-ghost use Rattle.engine.specs.Queue.{isQueued};
 ghost use Rattle.engine.specs.State.{queuedRequests};
-ghost use Rattle.engine.specs.StateRows.{partAt, requestFrom, queueFrom, sharedOf, sharedFrom, stateFrom, SizedState};
+ghost use Rattle.engine.specs.StateRows.{partAt, requestFrom, sharedOf, sharedFrom, stateFrom, SizedState};
 ghost use Rattle.engine.specs.StateRows.{codedCounts, codedRequest, codedRequests, codedClocks, codedState};
 ghost use Rattle.engine.specs.Validation.{validSlot, validRequest, distinct, validQueue, validShared, validState};
 ghost use Rattle.engine.specs.declared.state.Request.{Request};
 use crate::state_rows::APPLIED_LENGTH;
 use crate::state_rows::CLOCKS;
 use crate::state_rows::COUNTS;
+use crate::state_rows::PLACES;
 use crate::state_rows::POSITION;
 use crate::state_rows::QUEUED;
 use crate::state_rows::REQUEST_CLOCK;
@@ -68,7 +68,7 @@ fn requests_coded(words: &[[u64; 8]]) -> bool
     ensures { λ r. ⌜ r ≡ codedRequests (now (words .entry)) ⌝ }
 {
     let mut i: usize = 0;
-    while i < 16 {
+    while i < PLACES {
         if !request_coded(&words[REQUESTS + i]) {
             return false;
         }
@@ -147,21 +147,6 @@ fn valid_requests(words: &[[u64; 8]]) -> bool
     true
 }
 
-// Whether an index is that of one of the first n requests.
-fn is_among(words: &[[u64; 8]], n: usize, index: u64) -> bool
-    requires { ⌜ (n ≤ 16) × (length (now words) ≡ 177) ⌝ }
-    ensures { λ r. ⌜ r ≡ isQueued index (take n (queueFrom (now (words .entry)))) ⌝ }
-{
-    let mut i: usize = 0;
-    while i < n {
-        if words[REQUESTS + i][REQUEST_INDEX] == index {
-            return true;
-        }
-        i += 1;
-    }
-    false
-}
-
 // No index twice.
 fn distinct_indices(words: &[[u64; 8]]) -> bool
     requires { ⌜ (length (now words) ≡ 177) × (getD (getD (now words) 160 []) 0 0 ≤ 16) ⌝ }
@@ -170,7 +155,7 @@ fn distinct_indices(words: &[[u64; 8]]) -> bool
     let queued = words[COUNTS][QUEUED] as usize;
     let mut i: usize = 0;
     while i < queued {
-        if is_among(words, i, words[REQUESTS + i][REQUEST_INDEX]) {
+        if crate::queue::is_among(words, i, words[REQUESTS + i][REQUEST_INDEX]) {
             return false;
         }
         i += 1;
@@ -182,7 +167,7 @@ fn valid_queue(words: &[[u64; 8]]) -> bool
     requires { ⌜ length (now words) ≡ 177 ⌝ }
     ensures { λ r. ⌜ ((floats : FloatRows) → r ≡ validQueue (stateFrom (now (words .entry)) floats)) ⌝ }
 {
-    if words[COUNTS][QUEUED] > 16 {
+    if words[COUNTS][QUEUED] > PLACES as u64 {
         return false;
     }
     let requests = valid_requests(words);

@@ -7,18 +7,14 @@ use Prim.Native.Nat.{ℕ, zero, suc, _+_, _-_, _*_, _/_, _%_, _^_, _<_, _≤_}
 use native.Mathlib.Nat.{sub-self, pow-suc, pow-le-pow-right, lt-of-lt-of-le, div-lt-iff-lt-mul, one-le-pow, zero-add, suc-add}
 use native.Mathlib.Omega.{arith}
 use lib.Dec.{T, leb, lit<}
-use lib.IntN.{ℤ}
 use lib.Ieee.{Float, binary64, ofBits, toBits, fits}
 use lib.Ieee.Bits.{ofBits-toBits, toBits-lt}
-use mir.Syntax.{w32}
-use mir.Val.{SFits, toZ, ofZ}
-use mir.Facts.{toZ-ofZ, fits-ofZ}
 use lib.ListN.{length, getD, set, take, drop, length-append, length-drop, take-append-drop}
 use lib.Seq.{drop-cons, drop-set-lt, take-suc-set, take-at, take-take, take-nil, take-append-le}
 use lib.Seq.{drop-at, drop-drop, length-take-le, getD-drop}
 use borrow.Author.Tests.{le-leb, lt-leb, leb-true, leb-false}
 use Rattle.hazards.proofs.Cases.{by-test}
-use Rattle.hazards.specs.Fields.{littleEndian, bytesOf, fieldAt, withField, f64At, withF64, i32At, withI32}
+use Rattle.hazards.specs.Fields.{littleEndian, bytesOf, fieldAt, withField, f64At, withF64}
 
 -- ---- reading a word, from the last byte down
 pub read-none : (n : ℕ) (s : List ℕ) → littleEndian (take (n - n) s) ≡ 0
@@ -162,10 +158,6 @@ pub f64At-withF64 : (s : List ℕ) (at : ℕ) (x : Float) → T (fits binary64 x
 unfolding f64At withF64
 f64At-withF64 s at x f h =
     ap (ofBits binary64) (fieldAt-withField 8 s at (toBits binary64 x) h (toBits-lt binary64 x f)) ∙ ofBits-toBits binary64 x f
-
-pub i32At-withI32 : (s : List ℕ) (at : ℕ) (x : ℤ) → SFits w32 x → at + 4 ≤ length s → i32At (withI32 s at x) at ≡ x
-unfolding i32At withI32
-i32At-withI32 s at x f h = ap (toZ w32) (fieldAt-withField 4 s at (ofZ w32 x) h (fits-ofZ f .fits)) ∙ toZ-ofZ f
 
 pub drop-take : {A : Type 0} (j m : ℕ) (l : List A) → drop j (take (j + m) l) ≡ take m (drop j l)
 drop-take zero m l = rw (zero-add m)

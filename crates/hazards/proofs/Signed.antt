@@ -1,4 +1,4 @@
--- Two's complement of 32 bits, as `i32_at` and `put_i32` reckon it without a cast that loses bits.
+-- Two's complement of 32 bits, as `i32_at` and `bits_of_i32` reckon it without a cast that loses bits.
 -- Assumes nothing.
 use mathlib.Core.Path.{_≡_, refl, sym, _∙_, ap, subst}
 use mathlib.Core.Bool.{Bool, true, false, not}

@@ -8,7 +8,7 @@ use lib.IntN.{ℤ}
 use lib.ListN.{length, take, drop}
 use lib.Ieee.{Float, binary64, ofBits, toBits}
 use mir.Syntax.{w32}
-use mir.Val.{toZ, ofZ}
+use mir.Val.{toZ}
 
 -- the number that bytes stand for, the lowest first
 unfoldable pub littleEndian : List ℕ → ℕ
@@ -39,6 +39,3 @@ withF64 bytes at x = withField 8 bytes at (toBits binary64 x)
 -- an i32 field, in two's complement
 unfoldable pub i32At : List ℕ → ℕ → ℤ
 i32At bytes at = toZ w32 (fieldAt 4 bytes at)
-
-unfoldable pub withI32 : List ℕ → ℕ → ℤ → List ℕ
-withI32 bytes at x = withField 4 bytes at (ofZ w32 x)

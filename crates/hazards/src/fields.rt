@@ -5,7 +5,7 @@ ghost use lib.ListN.{length};
 ghost use lib.Dec.{leb};
 ghost use mir.Syntax.{w32};
 ghost use mir.Val.{toZ, ofZ};
-ghost use Rattle.hazards.specs.Fields.{fieldAt, withField, f64At, withF64, i32At, withI32};
+ghost use Rattle.hazards.specs.Fields.{fieldAt, withField, f64At, withF64, i32At};
 
 fn wide(x: u8) -> u64
     ensures { λ r. ⌜ (r ≡ x) × (r < 256) ⌝ }
@@ -137,13 +137,6 @@ pub fn bits_of_i32(x: i32) -> u32
     } else {
         x as u32
     }
-}
-
-// Writes an i32 field at a place, in two's complement.
-pub fn put_i32(bytes: &mut [u8], at: usize, x: i32)
-    ensures { λ _. ⌜ now (bytes .exit) ≡ withI32 (now (bytes .entry)) at x ⌝ }
-{
-    put_u32(bytes, at, bits_of_i32(x));
 }
 
 // Writes an f64 field at a place; a NaN as its quiet pattern with a clear sign.

@@ -33,6 +33,7 @@ use clocks::layout::u32_from;
 use engine::state_rows::APPLIED_LENGTH;
 use engine::state_rows::CLOCKS;
 use engine::state_rows::COUNTS;
+use engine::state_rows::PLACES;
 use engine::state_rows::POSITION;
 use engine::state_rows::QUEUED;
 use engine::state_rows::REQUEST_COUNT;
@@ -150,7 +151,7 @@ pub fn request_fields(words: &[[u64; 8]], place: usize) -> QueuedRequest
     if words.len() != STATE_WORDS {
         return no_request();
     }
-    if place >= CLOCKS {
+    if place >= PLACES {
         return no_request();
     }
     if place as u64 >= words[COUNTS][QUEUED] {

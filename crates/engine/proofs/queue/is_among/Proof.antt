@@ -1,4 +1,4 @@
--- `validation::is_among` meets its contract: at each turn the index is among those from i on where it is among all.
+-- `queue::is_among` meets its contract: at each turn the index is among those from i on where it is among all.
 use mathlib.Core.Path.{_≡_, refl, sym, _∙_}
 use Prim.Native.Nat.{_≤_, _-_}
 use lib.ListN.{take, drop}
@@ -8,8 +8,8 @@ use Rattle.engine.specs.StateRows.{requestFrom, queueFrom}
 use Rattle.engine.proofs.QueueLaws.{there-here, there-later, there-none}
 use Rattle.engine.proofs.ValidStates.{queue-next}
 use native.Mathlib.Omega.{arith}
-use Rattle.engine.proofs.validation.is_among.Statement.{statement}
-use Rattle.engine.proofs.validation.is_among.Tie as tie
+use Rattle.engine.proofs.queue.is_among.Statement.{statement}
+use Rattle.engine.proofs.queue.is_among.Tie as tie
 
 abbrev Inv-loop : tie.InvT-loop
 Inv-loop words n index i₀ i =
