@@ -6,5 +6,5 @@ pub mod Setting
 pub mod Scheduling
 pub mod Validation
 pub mod Layout
--- internals: what the answers of the code mean; no call that document 01 names cites these
+-- internals: what the answers of the code mean; of set_channel, reschedule and resume the outcome without its clock
 pub mod RowsInternals

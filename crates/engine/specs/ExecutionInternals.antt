@@ -1,7 +1,8 @@
--- What the code needs of a state to perform a command on it, so that its counts do not wrap, and what a rescheduled clock does to the queue.
+-- What the code needs of a state to perform a command on it, so that its counts do not wrap; what a command that is taken back leaves; and
+-- what a rescheduled clock does to the queue.
 use mathlib.Core.Bool.{cond, true}
 use Prim.Native.Nat.{_≤_, _<_, _^_, ℕ}
-use Rattle.engine.specs.Execution.{refused, withdraw, requestOf}
+use Rattle.engine.specs.Execution.{withdraw, requestOf}
 use Rattle.engine.specs.State.{SharedState, slotAt, queuedRequests, withRequest, EngineState}
 use mathlib.Core.Path.{_≡_}
 use mathlib.Core.List.{List}

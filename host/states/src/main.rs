@@ -1,9 +1,9 @@
 //! `states [SEED [COUNT [EACH]]]`: the fixed sessions and COUNT random ones, one of ten with events at equal ticks, command by command
-//! through the proved engine, whose state lies in rows of this program, and through the unchanged Rust behind document 01's rules. After each
-//! command the answer, the journal, the applied commands and every field of the state are compared; beside each, the same is done EACH times
-//! (once where it is left out; 0 for none) from a state or a journal with a field changed, and from rows with any number changed. At the end the answers
-//! and the journal are held to those of the batch run; after some sessions UNDO is given to rows with each number changed in turn. Ends with
-//! 1 at the first difference.
+//! through the proved engine, whose state lies in rows of this program, and through the unchanged Rust behind document 01's rules. After
+//! each command the answer, the journal, the applied commands and every field of the state are compared; beside each, the same is done
+//! EACH times (once where it is left out; 0 for none) from a state or a journal with a field changed, and from rows with any number
+//! changed. At the end the answers and the journal are held to those of the batch run; after some sessions UNDO is given to rows with each
+//! number changed in turn. Ends with 1 at the first difference.
 
 #![forbid(unsafe_code)]
 
