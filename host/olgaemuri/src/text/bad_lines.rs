@@ -71,6 +71,15 @@ fn the_line_is_shown_with_a_caret() {
     assert_eq!(faults[0].to_string(), expected);
 }
 
+/// The column counts letters, of which some take two columns of a terminal.
+#[test]
+fn the_caret_stands_below_wide_letters() {
+    let fault = faults("machine 0 \"プレス\" 3".as_bytes())[0].to_string();
+    let expected =
+        "shop:1:17: unexpected `3`\n    machine 0 \"プレス\" 3\n                       ^";
+    assert_eq!(fault, expected);
+}
+
 #[test]
 fn bytes_that_are_no_text() {
     let report = faults(b"undo\nma\xff\n")[0].to_string();

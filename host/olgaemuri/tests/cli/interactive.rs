@@ -320,7 +320,7 @@ fn saved_comments_stay_where_they_were() {
         pause machine=7 now=1  # refused\n# the end\n";
     fs::write(&file, text).unwrap();
     let input = format!(
-        "# typed\npause machine=\"press 1\" now=1 # stop\nsave {}\n",
+        "# typed\npause machine=\"press 1\" now=1 # stop\nundo #back\nsave {}\n",
         copy.display()
     );
     typed(&[file.to_str().unwrap()], &input);
@@ -328,7 +328,7 @@ fn saved_comments_stay_where_they_were() {
     let kept = text.replace("pause machine=7 now=1  # refused", "# refused");
     assert_eq!(
         saved,
-        kept + "# typed\npause machine=\"press 1\" now=1  # stop\n"
+        kept + "# typed\npause machine=\"press 1\" now=1  # stop\nundo  #back\n"
     );
     fs::remove_file(&file).unwrap();
     fs::remove_file(&copy).unwrap();

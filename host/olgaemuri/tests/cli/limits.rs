@@ -116,3 +116,45 @@ fn long_sessions_need_little_memory() {
     }
     std::fs::remove_file(&file).unwrap();
 }
+
+/// Lists whose lines are long, since the machine's name is: they are written as they are made.
+#[test]
+fn long_lists_are_not_kept() {
+    let (events, name) = (1000, "x".repeat(20_000));
+    let mut session = format!("machine 0 \"{name}\"\ncreate machine=0 policy=retain\n");
+    for hour in 0..events {
+        let censor = hour + 1;
+        session += &format!("reschedule machine=0 now={hour} censor={censor}\ndeliver\n");
+    }
+    let file = scratch("named.session");
+    std::fs::write(&file, &session).unwrap();
+    for words in [
+        &["run", "-", "--csv"][..],
+        &["run", "-", "--csv=events"],
+        &["run", "-", "--csv=breakdowns"],
+        &["compare", file.to_str().unwrap(), "-"],
+    ] {
+        let ran = with_memory(18, words, session.as_bytes());
+        assert_eq!((ran.status, ran.err.as_str()), (0, ""), "{words:?}");
+        assert!(ran.out.len() >= events * name.len(), "{words:?}");
+    }
+    std::fs::remove_file(&file).unwrap();
+}
+
+/// As text a byte takes three.
+#[test]
+fn a_long_text_is_not_kept() {
+    let bytes = vec![255; 8_000_000];
+    let words = ["convert", "-", "--from", "bare", "--to", "text"];
+    let ran = with_memory(44, &words, &bytes);
+    assert_eq!((ran.status, ran.err.as_str()), (0, ""));
+    assert!(ran.out.len() > 3 * bytes.len());
+}
+
+/// Empty lines take room where lines are kept, and hardly any elsewhere.
+#[test]
+fn a_run_keeps_no_lines() {
+    let session = long_session(240_000) + &"\n".repeat(280_000);
+    let ran = with_memory(91, &["run", "-", "--quiet"], session.as_bytes());
+    assert_eq!((ran.status, ran.err.as_str()), (0, ""));
+}

@@ -1,6 +1,6 @@
 //! What a reader of the terminal sees: widths, wide and odd letters, numbers of things, which operand is refused.
 
-use super::program::{olgaemuri, on_terminal};
+use super::program::{by_shell, olgaemuri, on_terminal};
 
 fn run(words: &[&str], session: &str) -> String {
     let words = [&["run", "-"], words].concat();
@@ -29,29 +29,24 @@ fn one_of_a_thing() {
         picture.contains(">1 command in force, 0 taken back and not drawn; 0 thresholds drawn<"),
         "{picture}"
     );
-    let session = "examples/press-shop.session";
-    let one = olgaemuri(&["compare", session, "-"], ONE.as_bytes());
-    assert!(
-        one.text().ends_with("differ in 12 of 12 places.\n"),
-        "{}",
-        one.text()
-    );
+    let picture = run(&["--svg", "-"], ONE);
+    assert!(picture.contains("; 1 threshold drawn<"), "{picture}");
     let ran = olgaemuri(&["run", "-"], "x\n".repeat(21).as_bytes());
     assert!(ran.err.ends_with("and 1 more bad line\n"), "{}", ran.err);
 }
 
 #[test]
-fn one_event_is_the_same() {
+fn one_event_is_the_same_or_differs() {
     let file = super::program::scratch("one-event.session");
     std::fs::write(&file, ONE).unwrap();
-    let ran = olgaemuri(&["compare", file.to_str().unwrap(), "-"], ONE.as_bytes());
+    for (other, verdict) in [
+        (ONE, "are the same: 1 event, to the last bit.\n"),
+        ("", "differ in 1 of 1 place.\n"),
+    ] {
+        let ran = olgaemuri(&["compare", file.to_str().unwrap(), "-"], other.as_bytes());
+        assert!(ran.text().ends_with(verdict), "{}", ran.text());
+    }
     std::fs::remove_file(&file).unwrap();
-    assert!(
-        ran.text()
-            .ends_with("are the same: 1 event, to the last bit.\n"),
-        "{}",
-        ran.text()
-    );
 }
 
 /// The columns that a text takes on a terminal, for the letters of these tests.
@@ -81,6 +76,8 @@ fn wide_letters_are_aligned() {
         places.iter().all(|place| *place == places[0]),
         "{places:?}\n{out}"
     );
+    // there is room for all of them
+    assert!(out.contains(" プレス機  create "), "{out}");
 }
 
 #[test]
@@ -90,6 +87,8 @@ fn control_characters_do_not_reach_the_terminal() {
     let is_odd = |c: char| (c.is_control() && c != '\n') || c == '\u{202e}';
     let out = run(&[], &session);
     assert!(!out.contains(is_odd), "{out:?}");
+    let narrow = run(&["--width", "64"], &session);
+    assert!(!narrow.contains(is_odd), "{narrow:?}");
     let picture = run(&["--svg", "-"], &session);
     assert!(!picture.contains(is_odd), "{picture:?}");
     let typed = olgaemuri(
@@ -106,11 +105,13 @@ fn control_characters_do_not_reach_the_terminal() {
         "{:?}",
         bad.err
     );
-    let side_by_side = olgaemuri(
-        &["compare", "-", "examples/press-shop.session"],
-        session.as_bytes(),
-    );
-    assert!(!side_by_side.text().contains(is_odd));
+    let file = super::program::scratch(&format!("{odd}.session"));
+    std::fs::write(&file, ONE).unwrap();
+    let words = ["compare", "-", file.to_str().unwrap()];
+    let side_by_side = olgaemuri(&words, session.as_bytes());
+    std::fs::remove_file(&file).unwrap();
+    assert_eq!(side_by_side.status, 0);
+    assert!(!side_by_side.text().contains(is_odd), "{side_by_side:?}");
     // data stays as it is
     let text = olgaemuri(&["convert", "-", "--to", "text"], session.as_bytes());
     assert!(text.text().contains(odd));
@@ -202,6 +203,49 @@ fn tables_fit_the_width() {
     }
 }
 
+/// Names of many words, with wide letters.
+#[test]
+fn tables_with_long_names_fit_the_width() {
+    let name = "プレス機 の 油圧 ".repeat(8);
+    let session = format!("machine 0 \"{name}\"\ncause 1 \"{name}\"\n{ONE}");
+    let file = super::program::scratch("long-names.session");
+    std::fs::write(&file, &session).unwrap();
+    let words = ["compare", file.to_str().unwrap(), "-", "--width", "64"];
+    let compared = olgaemuri(&words, session.as_bytes());
+    std::fs::remove_file(&file).unwrap();
+    for out in [&run(&["--width", "64"], &session), compared.text()] {
+        let tables = out.lines().filter(|line| !line.starts_with("left: "));
+        let widest = tables.max_by_key(|line| columns(line)).unwrap();
+        assert!(columns(widest) <= 64, "{widest}\n{out}");
+        assert!(out.contains("…  "), "{out}");
+    }
+}
+
+/// Nobody has to say how wide the terminal is. Progress, which a slow machine tells of, is left out.
+#[test]
+fn tables_fit_the_terminal() {
+    let terminals = [
+        "unset COLUMNS; exec script -qec \"stty cols 80; $* 2>/dev/null\" /dev/null",
+        "export COLUMNS=80; exec script -qec \"stty cols 200; $* 2>/dev/null\" /dev/null",
+    ];
+    let session = "examples/press-shop.session";
+    for words in [
+        &["run", session][..],
+        &["compare", session, session],
+        &["sweep", session, "--streams", "20", "--seed", "1"],
+    ] {
+        let wide = olgaemuri(words, b"");
+        assert!(wide.text().lines().any(|line| columns(line) > 80));
+        for terminal in terminals {
+            let shown = by_shell(terminal, words, b"");
+            assert_eq!(shown.status, 0, "{shown:?}");
+            let lines = shown.text().lines().map(str::trim_end);
+            let widest = lines.max_by_key(|line| columns(line)).unwrap();
+            assert!(columns(widest) <= 80, "{words:?} {terminal}: {widest}");
+        }
+    }
+}
+
 #[test]
 fn help_fits_80_columns() {
     for topic in [
@@ -273,6 +317,9 @@ fn refusal_5_names_the_operand() {
         );
         let out = run(&[], &format!("{ONE}{line}\n"));
         assert!(out.contains(expected), "{expected}\n{out}");
+        let out = run(&["--json"], &format!("{ONE}{line}\n"));
+        let told = format!("\"number\": 5, \"refusal\": \"{expected}\", ");
+        assert!(out.contains(&told), "{told}\n{out}");
         let typed = olgaemuri(&["interactive"], format!("{ONE}{line}\n").as_bytes());
         let told = format!("refused by 5: {expected}; nothing has changed\n");
         assert!(typed.text().contains(&told), "{told}\n{}", typed.text());

@@ -14,6 +14,31 @@ fn standard_error_that_cannot_be_written() {
     }
 }
 
+/// Work that is done stays done.
+#[test]
+fn a_warning_that_cannot_be_written() {
+    let set = b"create machine=0 policy=retain\nset machine=0 cause=1 now=0 hazard=zero\n";
+    let sweep = [
+        "sweep",
+        "-",
+        "--streams",
+        "1",
+        "--seed",
+        "1",
+        "--count",
+        "0",
+    ];
+    for (words, input) in [
+        (&["interactive"][..], &b"thresholds 1\n"[..]),
+        (&sweep, set),
+    ] {
+        let told = by_shell("exec \"$@\"", words, input);
+        assert_eq!((told.status, told.err.lines().count()), (0, 1), "{told:?}");
+        let ran = by_shell("exec \"$@\" 2>/dev/full", words, input);
+        assert_eq!((ran.status, ran.out), (0, told.out), "{words:?}");
+    }
+}
+
 #[test]
 fn standard_output_that_cannot_be_written() {
     let words: [&[&str]; 13] = [

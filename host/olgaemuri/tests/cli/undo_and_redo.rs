@@ -53,6 +53,16 @@ fn too_many_and_none() {
 }
 
 #[test]
+fn only_one() {
+    let out = typed(&[], &format!("{PRESS}undo 2\nundo 2\n"));
+    let told = "only 1 command in force; nothing has changed\n";
+    assert!(out.ends_with(told), "{out}");
+    let out = typed(&[], &format!("{PRESS}undo\nredo 2\n"));
+    let told = "only 1 command taken back; nothing has changed\n";
+    assert!(out.ends_with(told), "{out}");
+}
+
+#[test]
 fn another_command_ends_redo() {
     let out = typed(&[], &format!("{PRESS}undo\npause machine=0 now=1\nredo\n"));
     assert!(
