@@ -3,7 +3,7 @@
 mod common;
 
 use common::{Random, any_command, likely_session, row_9};
-use olgaemuri::text::{Fault, Item};
+use olgaemuri::text::{Fault, Item, Reader, Source};
 use olgaemuri::{BytesError, Command, LoadError, Session, SessionText, TextError};
 use std::error::Error;
 
@@ -69,6 +69,27 @@ fn lines_can_be_looked_at() {
         Some(Item::Command(Command::Pause { clock: 0, now: 1.0 }))
     );
     assert_eq!(session.to_string(), text);
+}
+
+#[test]
+fn a_line_is_added_with_the_name_that_it_gives() {
+    let text = "machine 0 \"press 1\"\ncause 7 \"ram seal\"\nremove machine=\"press 1\" cause=\"ram seal\"\n";
+    let mut reader = Reader::new(Source::named("typed"));
+    let lines = text.lines().zip(1..);
+    let lines: Vec<_> = lines
+        .map(|(line, number)| reader.read(line, number).expect(line))
+        .collect();
+    let mut session = SessionText::default();
+    for line in &lines {
+        session.push(line.clone(), &reader);
+    }
+    assert_eq!(session, text.parse().expect("a good text"));
+    // a name is not known before its line is there
+    let mut session = SessionText::default();
+    session.push(lines[1].clone(), &reader);
+    session.push(lines[2].clone(), &reader);
+    let expected = "cause 7 \"ram seal\"\nremove machine=0 cause=\"ram seal\"\n";
+    assert_eq!(session.to_string(), expected);
 }
 
 #[test]

@@ -3,7 +3,7 @@
 use super::fault::{Fault, Misplaced, TextError};
 use super::line::{Item, Line};
 use super::load::Source;
-use super::names::Names;
+use super::names::{Named, Names};
 use super::parse::{Reader, without_mark};
 use crate::input::Input;
 use crate::session::Session;
@@ -75,10 +75,20 @@ impl SessionText {
         self.names
     }
 
-    /// Adds a line that a [`Reader`] of this session has read, and the names that it knows by now.
+    /// Adds a line that a [`Reader`] of this session has read, and the name that it gives, if it gives one.
     pub fn push(&mut self, line: Line, reader: &Reader) {
+        let named = match line.item {
+            Some(Item::Machine(number, _)) => Some((Named::Machine, u32::from(number))),
+            Some(Item::Cause(number, _)) => Some((Named::Cause, number)),
+            _ => None,
+        };
+        if let Some((named, number)) = named
+            && let Some(name) = reader.names().given(named, number)
+        {
+            // the reader refuses a name or a number that is given already
+            let _ = self.names.add(named, number, name);
+        }
         self.lines.push(line);
-        self.names.clone_from(reader.names());
     }
 
     fn items(&self) -> impl Iterator<Item = &Item> {

@@ -80,6 +80,16 @@ fn many_names() {
     assert!(ran.err.contains("and 49980 more bad lines"));
 }
 
+#[test]
+fn many_names_are_typed() {
+    let count = 20_000;
+    let typed: String = (0..count)
+        .map(|n| format!("cause {n} \"cause no. {n}\"\n"))
+        .collect();
+    let ran = in_time(|| olgaemuri(&["interactive"], typed.as_bytes()));
+    assert_eq!(ran.text().matches("noted\n").count(), count);
+}
+
 /// A long session of one press: mostly edits, with an undo now and then.
 fn long_session(commands: usize) -> String {
     let mut text = String::from(

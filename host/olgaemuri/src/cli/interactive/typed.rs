@@ -21,7 +21,7 @@ pub struct Typed<'a> {
 
 impl<'a> Typed<'a> {
     pub fn new(report: Report, out: &'a mut dyn Write) -> Self {
-        let reader = Reader::after(&report.text, Source::named("typed").in_folder(""));
+        let reader = reader_after(&report);
         Self {
             report,
             reader,
@@ -49,7 +49,6 @@ impl<'a> Typed<'a> {
 
     /// Reads a line of the session and tries it. Comments and names, of which the engine knows nothing, are kept without a run.
     pub fn read(&mut self, line: &str) -> io::Result<()> {
-        let before = self.reader.clone();
         let line = match self.reader.read(line, self.count) {
             Ok(line) => line,
             Err(fault) => return self.say(&fault.to_string()),
@@ -65,9 +64,11 @@ impl<'a> Typed<'a> {
                 self.say("noted")?;
                 self.status()
             }
-            Some(_) => {
-                if !self.attempt(vec![line], false)? {
-                    self.reader = before;
+            Some(item) => {
+                let is_journal = matches!(item, Item::Journal(_));
+                if !self.attempt(vec![line], false)? && is_journal {
+                    // another length may be given
+                    self.reader = reader_after(&self.report);
                 }
                 Ok(())
             }
@@ -140,6 +141,11 @@ impl<'a> Typed<'a> {
         self.status()?;
         Ok(true)
     }
+}
+
+/// A reader of what is typed behind a session.
+fn reader_after(report: &Report) -> Reader {
+    Reader::after(&report.text, Source::named("typed").in_folder(""))
 }
 
 /// What can be done about a refusal, where it is not plain.
