@@ -5,6 +5,7 @@
 
 mod commands;
 mod fault;
+mod letter_width;
 mod line;
 mod load;
 mod names;

@@ -1,5 +1,6 @@
 //! Text as a terminal shows it: without control characters, with the columns that it takes, cut where it is long.
 
+use super::letter_width::letter_width;
 use std::borrow::Cow;
 
 /// The text without characters that a terminal obeys: control characters, and those that turn the direction of writing. The end of a
@@ -29,55 +30,14 @@ pub fn is_obeyed(c: char) -> bool {
     c.is_control() || turns.contains(&c) || ranges.iter().any(|range| range.contains(&c))
 }
 
-/// How many columns of a terminal the text takes: two for a wide letter of Unicode's table of East Asian widths or a pictograph, none
-/// for a mark that is set on another letter.
+/// How many columns of a terminal the text takes: two for a wide letter, none for a mark that is set on another letter. Letters count
+/// one by one, as on terminals that do not join them: a pictograph of several letters takes what its parts take.
 #[must_use]
 pub fn columns(text: &str) -> usize {
     if text.is_ascii() {
         return text.len();
     }
-    text.chars().map(column_count).sum()
-}
-
-/// First and last of the ranges of letters that take two columns.
-const WIDE: [(u32, u32); 12] = [
-    (0x1100, 0x115f),
-    (0x2e80, 0x303e),
-    (0x3041, 0x33ff),
-    (0x3400, 0x4dbf),
-    (0x4e00, 0x9fff),
-    (0xa000, 0xa4cf),
-    (0xac00, 0xd7a3),
-    (0xf900, 0xfaff),
-    (0xfe30, 0xfe6f),
-    (0xff00, 0xff60),
-    (0x1f300, 0x1faff),
-    (0x20000, 0x3fffd),
-];
-
-/// First and last of the ranges of marks that take none.
-const MARKS: [(u32, u32); 7] = [
-    (0x300, 0x36f),
-    (0x483, 0x489),
-    (0x591, 0x5bd),
-    (0x1ab0, 0x1aff),
-    (0x200b, 0x200d),
-    (0x20d0, 0x20ff),
-    (0xfe00, 0xfe0f),
-];
-
-fn column_count(c: char) -> usize {
-    let within = |ranges: &[(u32, u32)]| {
-        ranges
-            .iter()
-            .any(|(first, last)| (*first..=*last).contains(&u32::from(c)))
-    };
-    match c {
-        ' '..='~' => 1,
-        _ if within(&MARKS) => 0,
-        _ if within(&WIDE) => 2,
-        _ => 1,
-    }
+    text.chars().map(letter_width).sum()
 }
 
 /// The text in at most so many columns, of which the last is an ellipsis where it is cut.
@@ -88,7 +48,7 @@ pub fn cut(text: &str, most: usize) -> String {
     }
     let mut room = most.saturating_sub(1);
     let fits = |c: &char| {
-        let left = room.checked_sub(column_count(*c));
+        let left = room.checked_sub(letter_width(*c));
         room = left.unwrap_or(0);
         left.is_some()
     };
@@ -126,9 +86,26 @@ mod tests {
             ("プレス", 6),
             ("🔧", 2),
             ("…", 1),
+            // an Arabic and a Thai word with marks, a Hangul syllable whole and in parts
+            ("كِتَاب", 4),
+            ("ที่นี่", 2),
+            ("한\u{1112}\u{1161}\u{11ab}", 4),
+            // a selector adds nothing, joined pictographs and a colour count
+            ("❤\u{fe0f}", 1),
+            ("⚡\u{fe0f}", 2),
+            ("👩\u{200d}🔧", 4),
+            ("👍🏽", 4),
         ];
         for (text, expected) in cases {
             assert_eq!(columns(text), expected, "{text}");
+        }
+    }
+
+    #[test]
+    fn what_is_replaced_takes_as_many_columns() {
+        for letter in ('\0'..=char::MAX).filter(|c| is_obeyed(*c)) {
+            let width = letter_width(char::REPLACEMENT_CHARACTER);
+            assert_eq!(letter_width(letter), width, "{letter:?}");
         }
     }
 
@@ -139,6 +116,7 @@ mod tests {
             ("abcdef", 5, "abcd…"),
             ("プレス機", 6, "プレ…"),
             ("プレス機", 2, "…"),
+            ("e\u{301}e\u{301}e\u{301}", 2, "e\u{301}…"),
             ("ab", 0, "…"),
         ];
         for (text, most, expected) in cases {
