@@ -247,6 +247,40 @@ fn tables_fit_the_terminal() {
 }
 
 #[test]
+fn a_list_fits_the_terminal() {
+    let pieces = "1:0.125,2:0.25,3:0.375,4:0.5,5:0.625,6:0.75,7:0.875,8:1";
+    let name = "a name of many words ".repeat(4);
+    let session = format!(
+        "machine 0 \"{name}\"\ncause 1 \"{name}\"\n{ONE}\
+        set machine=0 cause=2 now=0 hazard=piecewise pieces={pieces} then=1.125\n\
+        reschedule machine=0 now=0\n"
+    );
+    let file = super::program::scratch("list.session");
+    std::fs::write(&file, session.replace("thresholds 2", "thresholds 2 9")).unwrap();
+    let words = ["interactive", file.to_str().unwrap()];
+    let terminal = "export COLUMNS=64; exec script -qec \"stty -echo; $*\" /dev/null";
+    let shown = by_shell(terminal, &words, b"list\nquit\n");
+    let piped = olgaemuri(&words, b"list\nquit\n");
+    std::fs::remove_file(&file).unwrap();
+    let from = |text: &str| {
+        text.find("no  command in force")
+            .map(|at| text[at..].to_string())
+    };
+    let (shown, piped) = (from(shown.text()).unwrap(), from(piped.text()).unwrap());
+    let lines = shown.lines().map(str::trim_end);
+    let widest = lines.max_by_key(|line| columns(line)).unwrap();
+    assert!(columns(widest) <= 64, "{widest}\n{shown}");
+    assert!(shown.contains("…  "), "{shown}");
+    let parts: String = shown.split_whitespace().collect();
+    assert!(parts.contains(&format!("pieces={pieces}then=")), "{shown}");
+    // elsewhere a command is a line
+    assert!(
+        piped.contains(&format!(" pieces={pieces} then=1.125\n")),
+        "{piped}"
+    );
+}
+
+#[test]
 fn help_fits_80_columns() {
     for topic in [
         "",

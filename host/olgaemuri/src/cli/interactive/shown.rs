@@ -4,6 +4,8 @@ use crate::cli::report::Report;
 use crate::cli::report_table::write_breakdowns;
 use crate::cli::table::{Column, aligned, text_of};
 use crate::cli::wording::told;
+use olgaemuri::text::columns;
+use std::iter;
 
 /// What lines did: the answers behind this many rows, with the commands where these are done again; or that they were noted, where
 /// they are no commands.
@@ -41,16 +43,18 @@ pub fn status(report: &Report) -> String {
     )
 }
 
-/// The commands in force, the scheduled events and the draws.
-pub fn list(report: &Report) -> String {
-    let applied = (1..).zip(report.outcome().applied());
-    let rows: Vec<Vec<String>> = applied
-        .map(|(number, applied): (usize, _)| vec![number.to_string(), applied.command.to_string()])
-        .collect();
+/// The commands in force, the scheduled events and the draws, in at most so many columns where that is said and as far as it goes.
+pub fn list(report: &Report, most: Option<usize>) -> String {
+    let applied = report.outcome().applied();
+    let room = most.map(|most| most.saturating_sub(applied.len().to_string().len().max(2) + 2));
+    let rows = (1..).zip(applied).flat_map(|(number, applied)| {
+        let lines = folded(&applied.command.to_string(), room.unwrap_or(usize::MAX));
+        numbered(number, lines)
+    });
     let commands = aligned(
         &[Column::Right("no"), Column::Left("command in force")],
-        &rows,
-        None,
+        &rows.collect::<Vec<_>>(),
+        most,
     );
     let events: Vec<_> = report
         .outcome()
@@ -58,14 +62,51 @@ pub fn list(report: &Report) -> String {
         .into_iter()
         .map(Into::into)
         .collect();
-    let events = text_of(|out| write_breakdowns(&events, report.names(), None, out));
+    let events = text_of(|out| write_breakdowns(&events, report.names(), most, out));
     format!(
         "{commands}\nScheduled, in the order of delivery:\n\n{events}\n{}",
         draws(report)
     )
 }
 
+/// The lines of a command in rows, of which the first has its number.
+fn numbered(number: usize, lines: Vec<String>) -> impl Iterator<Item = Vec<String>> {
+    let numbers = iter::once(number.to_string()).chain(iter::repeat(String::new()));
+    numbers.zip(lines).map(|(number, line)| vec![number, line])
+}
+
+/// A command in lines of at most so many columns, which end at a space or behind a comma; a longer line has neither.
+fn folded(command: &str, most: usize) -> Vec<String> {
+    let mut lines: Vec<String> = Vec::new();
+    for part in command.split_inclusive([' ', ',']) {
+        match lines.last_mut() {
+            Some(line) if columns(line) + columns(part.trim_end()) <= most => *line += part,
+            _ => lines.push(part.to_string()),
+        }
+    }
+    let lines = lines.iter().map(|line| line.trim_end().to_string());
+    lines.collect()
+}
+
 fn draws(report: &Report) -> String {
     let (draws, thresholds) = (report.session.draws(), report.session.thresholds().len());
     format!("Thresholds drawn: {draws} of {thresholds}")
+}
+
+#[cfg(test)]
+mod tests {
+    use super::*;
+
+    #[test]
+    fn commands_are_folded() {
+        let command = "set now=0 pieces=1:2,3:4 then=5";
+        for (most, expected) in [
+            (31, &[command][..]),
+            (30, &["set now=0 pieces=1:2,3:4", "then=5"]),
+            (21, &["set now=0 pieces=1:2,", "3:4 then=5"]),
+            (3, &["set", "now=0", "pieces=1:2,", "3:4", "then=5"]),
+        ] {
+            assert_eq!(folded(command, most), expected);
+        }
+    }
 }

@@ -2,6 +2,7 @@
 
 use super::shown;
 use crate::cli::report::Report;
+use crate::cli::terminal;
 use crate::cli::wording::counted;
 use olgaemuri::text::{Item, Line, Reader, Source, visible};
 use olgaemuri::{Command, Refusal};
@@ -43,7 +44,7 @@ impl<'a> Typed<'a> {
     }
 
     pub fn list(&mut self) -> io::Result<()> {
-        let list = shown::list(&self.report);
+        let list = shown::list(&self.report, terminal::width());
         self.say(&list)
     }
 
