@@ -1,18 +1,6 @@
 //! Inputs of unusual size, with little memory and in little time.
 
-use super::program::{Ran, olgaemuri, scratch, with_memory};
-use std::time::{Duration, Instant};
-
-/// Far more than the work takes, far less than it takes where every word is compared with every other.
-const PATIENCE: Duration = Duration::from_secs(15);
-
-fn in_time(work: impl FnOnce() -> Ran) -> Ran {
-    let begun = Instant::now();
-    let ran = work();
-    let took = begun.elapsed();
-    assert!(took < PATIENCE, "{took:?}");
-    ran
-}
+use super::program::{in_time, scratch, with_memory};
 
 #[test]
 fn a_long_journal_takes_no_memory() {
@@ -39,18 +27,16 @@ fn a_long_word_is_told_of_shortly() {
         format!("entity={word}"),
     ] {
         let line = format!("machine 0 \"press\"\n{line}\n");
-        let ran = in_time(|| with_memory(300, &["run", "-"], line.as_bytes()));
+        let ran = in_time(&["run", "-"], line.as_bytes());
         assert_eq!((ran.status, ran.text()), (2, ""));
         assert!(ran.err.starts_with("standard input:2:"), "{:.100}", ran.err);
         assert!(ran.err.len() < 2_000, "{} bytes", ran.err.len());
         assert_eq!(ran.err.lines().count(), 3);
     }
-    let ran = in_time(|| {
-        olgaemuri(
-            &["interactive"],
-            format!("{word}\nhelp {word}\n").as_bytes(),
-        )
-    });
+    let ran = in_time(
+        &["interactive"],
+        format!("{word}\nhelp {word}\n").as_bytes(),
+    );
     assert!(
         ran.status == 0 && ran.out.len() < 2_000,
         "{}",
@@ -67,26 +53,22 @@ fn many_names() {
     let used: String = (0..count)
         .map(|n| format!("remove machine=0 cause=\"cause no. {n}\"\n"))
         .collect();
-    let ran = in_time(|| {
-        olgaemuri(
-            &["convert", "-", "--to", "bare"],
-            (names.clone() + &used).as_bytes(),
-        )
-    });
+    let words = ["convert", "-", "--to", "bare"];
+    let ran = in_time(&words, (names.clone() + &used).as_bytes());
     assert_eq!((ran.status, ran.out.len()), (0, 6 * count));
     let wrong = names + &used.replace("no.", "on.");
-    let ran = in_time(|| olgaemuri(&["convert", "-", "--to", "bare"], wrong.as_bytes()));
+    let ran = in_time(&words, wrong.as_bytes());
     assert_eq!(ran.status, 2);
     assert!(ran.err.contains("and 49980 more bad lines"));
 }
 
 #[test]
 fn many_names_are_typed() {
-    let count = 20_000;
+    let count = 40_000;
     let typed: String = (0..count)
         .map(|n| format!("cause {n} \"cause no. {n}\"\n"))
         .collect();
-    let ran = in_time(|| olgaemuri(&["interactive"], typed.as_bytes()));
+    let ran = in_time(&["interactive"], typed.as_bytes());
     assert_eq!(ran.text().matches("noted\n").count(), count);
 }
 

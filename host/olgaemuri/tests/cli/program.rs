@@ -34,8 +34,20 @@ pub fn by_shell(line: &str, words: &[&str], input: &[u8]) -> Ran {
 
 /// The same with so many mebibytes of memory at most.
 pub fn with_memory(most: usize, words: &[&str], input: &[u8]) -> Ran {
-    let line = format!("ulimit -v {}; exec \"$@\"", 1024 * most);
-    by_shell(&line, words, input)
+    within(&format!("ulimit -v {}", 1024 * most), words, input)
+}
+
+/// The same with 300 mebibytes and 30 seconds of the processor at most, whatever else the machine does. That is far more than work on a
+/// large input takes, and far less than it takes where every word is compared with every other.
+pub fn in_time(words: &[&str], input: &[u8]) -> Ran {
+    within("ulimit -v 307200; ulimit -t 30", words, input)
+}
+
+/// The same within limits that the shell sets. A program that needs more is ended there, and the test fails.
+fn within(limits: &str, words: &[&str], input: &[u8]) -> Ran {
+    let ran = by_shell(&format!("{limits}; exec \"$@\""), words, input);
+    assert_ne!(ran.status, -1, "ended by {limits}: {words:?} {}", ran.err);
+    ran
 }
 
 /// The same on a terminal, for words without spaces. What is typed there stands in the output too, and lines end as a terminal ends them.
