@@ -24,6 +24,7 @@ use Rattle.clocks.specs.declared.clocks.EntityId.{EntityId}
 use Rattle.clocks.specs.declared.clocks.HazardInterruptionPolicy.{HazardInterruptionPolicy}
 use Rattle.clocks.specs.declared.clocks.HazardInterruptionPolicy.the-variants.{Restart, RetainResidual}
 use Rattle.clocks.proofs.OwnRows.{ownWords, own-stored, own-present, own-stored-coded}
+use Rattle.clocks.proofs.RowLaws.{flag-back, flag-coded}
 use Rattle.clocks.proofs.Tables.{table-same}
 
 abbrev pub zeroWords : List ℕ
@@ -127,10 +128,6 @@ module _ (w₀ w : WordRows) (f₀ f : FloatRows) (e : Cleared w₀ f₀ 8 w f) 
 
 -- ---- a new clock's own rows
 
-flag-back : (b : Bool) → flagFrom (cond b 1 0) ≡ b
-flag-back true = refl
-flag-back false = refl
-
 policy-back : (p : HazardInterruptionPolicy) → policyOf (byteFrom (policyNumber p)) ≡ p
 policy-back Restart = refl
 policy-back RetainResidual = refl
@@ -139,10 +136,6 @@ tie-back : (t : TieBreaker) → tieBreakerOf (byteFrom (tieNumber t)) ≡ t
 tie-back LowestCauseId = refl
 tie-back HighestCauseId = refl
 tie-back ExplicitPriority = refl
-
-flag-coded : (b : Bool) → ltb (cond b 1 0) 2 ≡ true
-flag-coded true = refl
-flag-coded false = refl
 
 policy-coded : (p : HazardInterruptionPolicy) → ltb (policyNumber p) 2 ≡ true
 policy-coded Restart = refl

@@ -1,6 +1,6 @@
 -- What a change of rows leaves of a clock in lent memory, and one call in place after another.
 use mathlib.Core.Path.{_≡_, refl, _∙_}
-use mathlib.Core.Bool.{true}
+use mathlib.Core.Bool.{Bool, true, false, cond}
 use mathlib.Core.List.{[]}
 use Prim.Native.Nat.{ℕ, _+_, _*_, _<_, _≤_}
 use native.Mathlib.Omega.{arith}
@@ -9,7 +9,7 @@ use lib.Dec.{eqb}
 use lib.ListN.{length, getD, set}
 use Rattle.hazards.proofs.Cases.{by-test}
 use Rattle.clocks.specs.Clocks.{SurvivalClock, withChannels}
-use Rattle.clocks.specs.Layout.{WordRows, FloatRows, channelAt, clockOf, clockFrom, codedChannel, Coded, Leaves}
+use Rattle.clocks.specs.Layout.{WordRows, FloatRows, flagFrom, isFlag, channelAt, clockOf, clockFrom, codedChannel, Coded, Leaves}
 use Rattle.clocks.specs.declared.channels.HazardChannelState.{HazardChannelState}
 use Rattle.clocks.proofs.Tables.{length-table, getD-table, table-set}
 
@@ -77,6 +77,16 @@ module _ (w w′ : WordRows) (f f′ : FloatRows) (j : ℕ) (hj : j < 8)
     present = rw (words 0 (λ e. omega arith));
     coded = λ h. channel-coded h (c h);
   }
+
+-- ---- a flag as it is stored
+
+pub flag-back : (b : Bool) → flagFrom (cond b 1 0) ≡ b
+flag-back true = refl
+flag-back false = refl
+
+pub flag-coded : (b : Bool) → isFlag (cond b 1 0) ≡ true
+flag-coded true = refl
+flag-coded false = refl
 
 -- ---- one call after another
 

@@ -1,6 +1,6 @@
--- A clock's schedule and times stored: what is left of the clock.
-use mathlib.Core.Path.{_≡_, refl}
-use mathlib.Core.Bool.{Bool, true, false, _&&_}
+-- A clock's schedule and times stored: the clock that is left.
+use mathlib.Core.Path.{_≡_}
+use mathlib.Core.Bool.{Bool, true, cond, _&&_}
 use mathlib.Core.List.{List, [], _∷_}
 use Prim.Native.Nat.{ℕ, _+_, _*_, _<_}
 use native.Mathlib.Nat.{mod-eq-of-lt}
@@ -11,11 +11,12 @@ use lib.Ieee.{Float, nan}
 use lib.ListN.{getD, set}
 use lib.Seq.{getD-set-same, getD-set-other}
 use Rattle.hazards.proofs.Cases.{both-true}
-use Rattle.hazards.specs.Floats.{z}
-use Rattle.clocks.specs.Clocks.{SurvivalClock, notScheduled, noWinner, withSchedule}
+use Rattle.clocks.specs.Clocks.{withSchedule}
 use Rattle.clocks.specs.Layout.{WordRows, FloatRows, channelAt, channelsFrom, clockOf, clockFrom, Sized, Leaves, Coded}
 use Rattle.clocks.specs.Layout.{isFlag, isU32, codedSchedule, codedTimes}
-use Rattle.clocks.proofs.RowLaws.{leaves-as}
+use Rattle.clocks.specs.declared.clocks.ScheduledEvent.{ScheduledEvent}
+use Rattle.clocks.specs.declared.clocks.Winner.{Winner}
+use Rattle.clocks.proofs.RowLaws.{flag-back, flag-coded, leaves-as}
 use Rattle.clocks.proofs.Tables.{table-same}
 
 module _ (w : WordRows) (f : FloatRows) (sized : Sized w f) (b : List ℕ) (ts : List Float) where
@@ -55,7 +56,7 @@ module _ (w : WordRows) (f : FloatRows) (sized : Sized w f) (b : List ℕ) (ts :
     channels = λ j l. rw (words-other (2 + j) (λ e. omega arith), floats-other (1 + 3 * j) (λ e. omega arith)) (h .channels j l);
   }
 
-  pub schedule-stored : (Coded w f → (codedSchedule b ≡ true) × (codedTimes ts ≡ true))
+  schedule-stored : (Coded w f → (codedSchedule b ≡ true) × (codedTimes ts ≡ true))
       → Leaves w f w′ f′ (clockOf (getD w 0 []) b ts (clockFrom w f .channels))
   unfolding clockFrom clockOf
   schedule-stored coded = record {
@@ -64,7 +65,7 @@ module _ (w : WordRows) (f : FloatRows) (sized : Sized w f) (b : List ℕ) (ts :
     coded = λ h. schedule-coded h (coded h .0) (coded h .1);
   }
 
--- ---- codes that are kept
+-- ---- event, winner, active flag and last update, and what is spare as it was
 
 abbrev at : List ℕ → ℕ → ℕ
 at b i = getD b i 0
@@ -75,98 +76,43 @@ time ts i = getD ts i nan
 abbrev spares : List ℕ → Bool
 spares b = eqb (at b 5) 0 && (eqb (at b 6) 0 && eqb (at b 7) 0)
 
-abbrev rest : List ℕ → Bool
-rest b = isFlag (at b 4) && spares b
-
--- without an event, and with winner and active flag as they were
-pub no-event-coded : (b : List ℕ) → codedSchedule b ≡ true
-    → codedSchedule (0 ∷ 0 ∷ at b 2 ∷ at b 3 ∷ at b 4 ∷ at b 5 ∷ at b 6 ∷ at b 7 ∷ []) ≡ true
+spares-coded : (b : List ℕ) → codedSchedule b ≡ true → spares b ≡ true
 unfolding codedSchedule
-no-event-coded b h = both-true (isFlag (at b 0)) (isFlag (at b 2) && (isU32 (at b 3) && rest b)) h .1
+spares-coded b h =
+    let rest = isFlag (at b 4) && spares b in
+    let winner = both-true (isFlag (at b 0)) (isFlag (at b 2) && (isU32 (at b 3) && rest)) h .1 in
+    let cause = both-true (isFlag (at b 2)) (isU32 (at b 3) && rest) winner .1 in
+    both-true (isFlag (at b 4)) (spares b) (both-true (isU32 (at b 3)) rest cause .1) .1
 
-schedule-parts : (b : List ℕ) → codedSchedule b ≡ true → (isFlag (at b 2) ≡ true) × (isU32 (at b 3) ≡ true) × (spares b ≡ true)
-unfolding codedSchedule
-schedule-parts b h =
-    let winner = both-true (isFlag (at b 2)) (isU32 (at b 3) && rest b)
-    (both-true (isFlag (at b 0)) (isFlag (at b 2) && (isU32 (at b 3) && rest b)) h .1) in
-    let cause = both-true (isU32 (at b 3)) (rest b) (winner .1) in
-    (winner .0, cause .0, both-true (isFlag (at b 4)) (spares b) (cause .1) .1)
-
-pub event-coded : (b : List ℕ) → codedSchedule b ≡ true → (index cause : ℕ) → cause < 4294967296
-    → codedSchedule (1 ∷ index ∷ 1 ∷ cause ∷ 1 ∷ at b 5 ∷ at b 6 ∷ at b 7 ∷ []) ≡ true
-unfolding codedSchedule
-event-coded b h index cause l = rw (lt-ltb cause 4294967296 l) (schedule-parts b h .2)
-
-pub idle-coded : (b : List ℕ) → codedSchedule b ≡ true → codedSchedule (0 ∷ 0 ∷ 0 ∷ 0 ∷ 0 ∷ at b 5 ∷ at b 6 ∷ at b 7 ∷ []) ≡ true
-unfolding codedSchedule
-idle-coded b h = schedule-parts b h .2
-
-pub paused-coded : (b : List ℕ) → codedSchedule b ≡ true
-    → codedSchedule (0 ∷ 0 ∷ at b 2 ∷ at b 3 ∷ 0 ∷ at b 5 ∷ at b 6 ∷ at b 7 ∷ []) ≡ true
-unfolding codedSchedule
-paused-coded b h =
-    let p = schedule-parts b h in
-    rw (p .0, p .1) (p .2)
-
-pub times-coded : (ts : List Float) → codedTimes ts ≡ true → (scale winner last : Float)
-    → codedTimes (scale ∷ winner ∷ last ∷ time ts 3 ∷ time ts 4 ∷ time ts 5 ∷ time ts 6 ∷ time ts 7 ∷ []) ≡ true
-unfolding codedTimes
-times-coded ts h scale winner last = h
-
--- ---- the clock whose schedule is stored, by its rows
-module _ (w : WordRows) (f : FloatRows) where
-  abbrev k : SurvivalClock
-  k = clockFrom w f
-
+module _ (w : WordRows) (f : FloatRows) (sized : Sized w f) (event : ScheduledEvent) (winner : Winner) (active : Bool) (last : Float)
+    (u32 : winner .«cause_id» < 4294967296) where
   abbrev b : List ℕ
   b = getD w 1 []
 
   abbrev ts : List Float
   ts = getD f 0 []
 
-  -- no event, and winner and active flag as they were
-  pub unscheduled-clock : (last : Float)
-      → clockOf (getD w 0 []) (0 ∷ 0 ∷ at b 2 ∷ at b 3 ∷ at b 4 ∷ at b 5 ∷ at b 6 ∷ at b 7 ∷ [])
-      (time ts 0 ∷ time ts 1 ∷ last ∷ time ts 3 ∷ time ts 4 ∷ time ts 5 ∷ time ts 6 ∷ time ts 7 ∷ []) (k .channels)
-      ≡ withSchedule k notScheduled (k .«current_winner») (k .«is_active») last
+  abbrev pub scheduleRow : List ℕ
+  scheduleRow =
+      cond (event .present) 1 0 ∷ event .index ∷ cond (winner .present) 1 0 ∷ winner .«cause_id» ∷ cond active 1 0 ∷ at b 5 ∷ at b 6
+      ∷ at b 7
+      ∷ []
+
+  abbrev pub timesRow : List Float
+  timesRow = time ts 0 ∷ winner .time ∷ last ∷ time ts 3 ∷ time ts 4 ∷ time ts 5 ∷ time ts 6 ∷ time ts 7 ∷ []
+
+  row-coded : codedSchedule b ≡ true → codedSchedule scheduleRow ≡ true
+  unfolding codedSchedule
+  row-coded h = rw (flag-coded (event .present), flag-coded (winner .present), lt-ltb _ _ u32, flag-coded active) (spares-coded b h)
+
+  times-coded : codedTimes ts ≡ true → codedTimes timesRow ≡ true
+  unfolding codedTimes
+  times-coded h = h
+
+  row-clock : clockOf (getD w 0 []) scheduleRow timesRow (clockFrom w f .channels) ≡ withSchedule (clockFrom w f) event winner active last
   unfolding clockFrom clockOf
-  unscheduled-clock last = refl
+  row-clock = rw (flag-back (event .present), flag-back (winner .present), flag-back active, mod-eq-of-lt u32)
 
-  -- an event, its cause and its time
-  pub scheduled-clock : (index cause : ℕ) (at-time last : Float) → cause < 4294967296
-      → clockOf (getD w 0 []) (1 ∷ index ∷ 1 ∷ cause ∷ 1 ∷ at b 5 ∷ at b 6 ∷ at b 7 ∷ [])
-      (time ts 0 ∷ at-time ∷ last ∷ time ts 3 ∷ time ts 4 ∷ time ts 5 ∷ time ts 6 ∷ time ts 7 ∷ []) (k .channels)
-      ≡ withSchedule k (record { present = true; index = index }) (record { present = true; «cause_id» = cause; time = at-time }) true last
-  unfolding clockFrom clockOf
-  scheduled-clock index cause at-time last h = rw (mod-eq-of-lt h)
-
-  -- no event, no winner, and not active
-  pub idle-clock : clockOf (getD w 0 []) (0 ∷ 0 ∷ 0 ∷ 0 ∷ 0 ∷ at b 5 ∷ at b 6 ∷ at b 7 ∷ [])
-      (time ts 0 ∷ z ∷ time ts 2 ∷ time ts 3 ∷ time ts 4 ∷ time ts 5 ∷ time ts 6 ∷ time ts 7 ∷ []) (k .channels)
-      ≡ withSchedule k notScheduled noWinner false (k .«last_update_time»)
-  unfolding clockFrom clockOf
-  idle-clock = refl
-
-  -- no event, not active, and the winner as it was
-  pub paused-clock : (last : Float)
-      → clockOf (getD w 0 []) (0 ∷ 0 ∷ at b 2 ∷ at b 3 ∷ 0 ∷ at b 5 ∷ at b 6 ∷ at b 7 ∷ [])
-      (time ts 0 ∷ time ts 1 ∷ last ∷ time ts 3 ∷ time ts 4 ∷ time ts 5 ∷ time ts 6 ∷ time ts 7 ∷ []) (k .channels)
-      ≡ withSchedule k notScheduled (k .«current_winner») false last
-  unfolding clockFrom clockOf
-  paused-clock last = refl
-
--- both rows of a clock that is paused at a time
-abbrev pub pausedRow : List ℕ → List ℕ
-pausedRow b = 0 ∷ 0 ∷ at b 2 ∷ at b 3 ∷ 0 ∷ at b 5 ∷ at b 6 ∷ at b 7 ∷ []
-
-abbrev pub updatedAt : List Float → Float → List Float
-updatedAt ts last = time ts 0 ∷ time ts 1 ∷ last ∷ time ts 3 ∷ time ts 4 ∷ time ts 5 ∷ time ts 6 ∷ time ts 7 ∷ []
-
-pub paused-stored : (w : WordRows) (f : FloatRows) → Sized w f → (last : Float)
-    → Leaves w f (set w 1 (pausedRow (getD w 1 []))) (set f 0 (updatedAt (getD f 0 []) last))
-    (withSchedule (clockFrom w f) notScheduled (clockFrom w f .«current_winner») false last)
-paused-stored w f sized last =
-    leaves-as
-    (schedule-stored w f sized (pausedRow (getD w 1 [])) (updatedAt (getD f 0 []) last)
-    (λ h. (paused-coded (getD w 1 []) (h .schedule), times-coded (getD f 0 []) (h .times) _ _ _)))
-    (paused-clock w f last)
+  pub schedule-put : Leaves w f (set w 1 scheduleRow) (set f 0 timesRow) (withSchedule (clockFrom w f) event winner active last)
+  schedule-put =
+      leaves-as (schedule-stored w f sized scheduleRow timesRow (λ h. (row-coded (h .schedule), times-coded (h .times)))) row-clock

@@ -8,7 +8,8 @@ use lib.ListN.{length, take, drop}
 use lib.Ieee.{Float}
 use Rattle.hazards.proofs.Bounds.{Upto, largest}
 use Rattle.clocks.specs.Channels.{onUsed}
-use Rattle.clocks.specs.Clocks.{SurvivalClock, Winner, withChannels, withSchedule}
+use Rattle.clocks.specs.Clocks.{SurvivalClock, withChannels, withSchedule}
+use Rattle.clocks.specs.declared.clocks.Winner.{Winner}
 use Rattle.clocks.specs.Validation.{ascendingFrom}
 use Rattle.clocks.specs.declared.channels.HazardChannelState.{HazardChannelState}
 use Rattle.clocks.specs.declared.clocks.ScheduledEvent.{ScheduledEvent}

@@ -19,11 +19,7 @@ use Rattle.clocks.specs.declared.clocks.EntityId.{EntityId}
 use Rattle.clocks.specs.declared.clocks.HazardInterruptionPolicy.{HazardInterruptionPolicy}
 use Rattle.clocks.specs.declared.clocks.HazardInterruptionPolicy.the-variants.{Restart, RetainResidual}
 use Rattle.clocks.specs.declared.clocks.ScheduledEvent.{ScheduledEvent}
-
-pub record Winner : Type 0 where
-  pub present : Bool
-  pub «cause_id» : ℕ
-  pub time : Float
+use Rattle.clocks.specs.declared.clocks.Winner.{Winner}
 
 pub record SurvivalClock : Type 0 where
   pub «process_id» : ℕ

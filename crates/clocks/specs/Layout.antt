@@ -19,6 +19,8 @@ use Rattle.hazards.specs.Rates.{rateOfKind}
 use Rattle.hazards.specs.Ties.{tieBreakerOf}
 use Rattle.clocks.specs.Clocks.{SurvivalClock, policyOf}
 use Rattle.clocks.specs.declared.channels.HazardChannelState.{HazardChannelState}
+use Rattle.clocks.specs.declared.clocks.ScheduledEvent.{ScheduledEvent}
+use Rattle.clocks.specs.declared.clocks.Winner.{Winner}
 
 abbrev pub WordRows : Type 0
 WordRows = List (List ℕ)
@@ -66,6 +68,13 @@ channelAt w f j = channelFrom (getD w (2 + j) []) (getD f (1 + 3 * j) []) (getD 
 abbrev pub channelsFrom : WordRows → FloatRows → List HazardChannelState
 channelsFrom w f = table 8 (λ j. channelAt w f j)
 
+-- the event and the winner in the row of a schedule; the winner's time is a float beside it
+abbrev pub eventIn : List ℕ → ScheduledEvent
+eventIn b = record { present = flagFrom (getD b 0 0); index = getD b 1 0 }
+
+abbrev pub winnerIn : List ℕ → Float → Winner
+winnerIn b time = record { present = flagFrom (getD b 2 0); «cause_id» = u32From (getD b 3 0); time = time }
+
 -- a clock, from its settings, its schedule, its times and its channels
 unfoldable pub clockOf : List ℕ → List ℕ → List Float → List HazardChannelState → SurvivalClock
 clockOf a b ts channels = record {
@@ -77,8 +86,8 @@ clockOf a b ts channels = record {
   «tick_scale» = getD ts 0 nan;
   channels = channels;
   «channel_count» = getD a 7 0;
-  «scheduled_event_id» = record { present = flagFrom (getD b 0 0); index = getD b 1 0 };
-  «current_winner» = record { present = flagFrom (getD b 2 0); «cause_id» = u32From (getD b 3 0); time = getD ts 1 nan };
+  «scheduled_event_id» = eventIn b;
+  «current_winner» = winnerIn b (getD ts 1 nan);
   «is_active» = flagFrom (getD b 4 0);
   «last_update_time» = getD ts 2 nan;
 }

@@ -1,11 +1,12 @@
 // reschedule, pause, resume and on_event_dispatched of hazard_clock.rs on a clock in lent memory, with what each asks of the queue.
 ghost use mathlib.Core.Path.{_≡_};
-ghost use Rattle.clocks.specs.Clocks.{notScheduled};
+ghost use Rattle.clocks.specs.Clocks.{notScheduled, noWinner, withSchedule};
 ghost use Rattle.clocks.specs.Scheduling.{notRealized, realized, finalEvent, scheduledFor};
 ghost use Rattle.clocks.specs.Scheduling.{reschedule, pause, resume, onEventDispatched};
 ghost use Rattle.clocks.specs.RowsInternals.{queueChange};
-ghost use Rattle.clocks.specs.Layout.{Sized, Leaves, clockFrom};
+ghost use Rattle.clocks.specs.Layout.{Sized, Leaves, eventIn, winnerIn, clockFrom};
 use crate::clocks::ScheduledEvent;
+use crate::clocks::Winner;
 use crate::layout::ACTIVE;
 use crate::layout::EVENT;
 use crate::layout::EVENT_INDEX;
@@ -16,6 +17,7 @@ use crate::layout::TIMES;
 use crate::layout::WINNER;
 use crate::layout::WINNER_CAUSE;
 use crate::layout::WINNER_TIME;
+use crate::layout::flag_word;
 use crate::layout::u32_from;
 use crate::ticks::Ticks;
 use hazards::floats::not_below_zero;
@@ -47,6 +49,16 @@ pub(crate) fn not_scheduled() -> ScheduledEvent
     ScheduledEvent {
         present: false,
         index: 0,
+    }
+}
+
+fn no_winner() -> Winner
+    ensures { λ r. ⌜ r ≡ noWinner ⌝ }
+{
+    Winner {
+        present: false,
+        cause_id: 0,
+        time: 0.0,
     }
 }
 
@@ -102,6 +114,64 @@ pub(crate) fn final_event(earliest: Earliest, now: f64, censor: Censor) -> Reali
     }
 }
 
+// The event in the row of a schedule.
+fn event_in(row: &[u64; 8]) -> ScheduledEvent
+    ensures { λ r. ⌜ r ≡ eventIn (now (row .entry)) ⌝ }
+{
+    ScheduledEvent {
+        present: row[EVENT] == 1,
+        index: row[EVENT_INDEX],
+    }
+}
+
+// The winner in the row of a schedule; its time lies among the floats.
+fn winner_in(row: &[u64; 8], time: f64) -> Winner
+    ensures { λ r. ⌜ r ≡ winnerIn (now (row .entry)) time ⌝ }
+{
+    Winner {
+        present: row[WINNER] == 1,
+        cause_id: u32_from(row[WINNER_CAUSE]),
+        time,
+    }
+}
+
+// Event, winner, active flag and time of the last update, all else as it was.
+fn put_schedule<'a>(
+    words: &'a mut [[u64; 8]],
+    floats: &'a mut [[f64; 8]],
+    event: ScheduledEvent,
+    winner: Winner,
+    active: bool,
+    last_update: f64,
+)
+    requires { ⌜ Sized (now words) (now floats) ⌝ }
+    ensures { λ _. ⌜ Leaves (now (words .entry)) (now (floats .entry)) (now (words .exit)) (now (floats .exit))
+        (withSchedule (clockFrom (now (words .entry)) (now (floats .entry))) event winner active «last_update») ⌝ }
+{
+    let b = words[SCHEDULE];
+    let ts = floats[TIMES];
+    words[SCHEDULE] = [
+        flag_word(event.present),
+        event.index,
+        flag_word(winner.present),
+        winner.cause_id as u64,
+        flag_word(active),
+        b[5],
+        b[6],
+        b[7],
+    ];
+    floats[TIMES] = [
+        ts[SCALE],
+        winner.time,
+        last_update,
+        ts[3],
+        ts[4],
+        ts[5],
+        ts[6],
+        ts[7],
+    ];
+}
+
 // The old event is withdrawn in any case; without a new one winner and active flag stay.
 fn schedule_event<'a>(
     words: &'a mut [[u64; 8]],
@@ -117,40 +187,26 @@ fn schedule_event<'a>(
 {
     let b = words[SCHEDULE];
     let ts = floats[TIMES];
-    let withdrawn = ScheduledEvent {
-        present: b[EVENT] == 1,
-        index: b[EVENT_INDEX],
-    };
+    let withdrawn = event_in(&b);
     if !event.present {
-        words[SCHEDULE] = [
-            0,
-            0,
-            b[WINNER],
-            b[WINNER_CAUSE],
-            b[ACTIVE],
-            b[5],
-            b[6],
-            b[7],
-        ];
-        floats[TIMES] = [
-            ts[SCALE],
-            ts[WINNER_TIME],
-            time,
-            ts[3],
-            ts[4],
-            ts[5],
-            ts[6],
-            ts[7],
-        ];
+        let winner = winner_in(&b, ts[WINNER_TIME]);
+        put_schedule(words, floats, not_scheduled(), winner, b[ACTIVE] == 1, time);
         return QueueChange {
             withdrawn,
             event,
             ticks: Ticks { low: 0, high: 0 },
         };
     }
-    let at = time + event.delta_time;
-    words[SCHEDULE] = [1, index, 1, event.winning_cause as u64, 1, b[5], b[6], b[7]];
-    floats[TIMES] = [ts[SCALE], at, time, ts[3], ts[4], ts[5], ts[6], ts[7]];
+    let winner = Winner {
+        present: true,
+        cause_id: event.winning_cause,
+        time: time + event.delta_time,
+    };
+    let scheduled = ScheduledEvent {
+        present: true,
+        index,
+    };
+    put_schedule(words, floats, scheduled, winner, true, time);
     let ticks = crate::ticks::ticks_at(time, event.delta_time, ts[SCALE]);
     QueueChange {
         withdrawn,
@@ -189,22 +245,9 @@ pub fn pause<'a>(words: &'a mut [[u64; 8]], floats: &'a mut [[f64; 8]], time: f6
         return not_scheduled();
     }
     crate::clocks::settle(words, floats, time);
-    let ts = floats[TIMES];
-    words[SCHEDULE] = [0, 0, b[WINNER], b[WINNER_CAUSE], 0, b[5], b[6], b[7]];
-    floats[TIMES] = [
-        ts[SCALE],
-        ts[WINNER_TIME],
-        time,
-        ts[3],
-        ts[4],
-        ts[5],
-        ts[6],
-        ts[7],
-    ];
-    ScheduledEvent {
-        present: b[EVENT] == 1,
-        index: b[EVENT_INDEX],
-    }
+    let winner = winner_in(&b, floats[TIMES][WINNER_TIME]);
+    put_schedule(words, floats, not_scheduled(), winner, false, time);
+    event_in(&b)
 }
 
 // Every channel starts a new interval, and the clock is rescheduled.
@@ -236,21 +279,12 @@ pub fn on_event_dispatched<'a>(
 {
     let b = words[SCHEDULE];
     let ts = floats[TIMES];
-    let cause = u32_from(b[WINNER_CAUSE]);
-    words[SCHEDULE] = [0, 0, 0, 0, 0, b[5], b[6], b[7]];
-    floats[TIMES] = [
-        ts[SCALE],
-        0.0,
-        ts[LAST_UPDATE],
-        ts[3],
-        ts[4],
-        ts[5],
-        ts[6],
-        ts[7],
-    ];
-    if b[WINNER] != 1 {
+    let winner = winner_in(&b, ts[WINNER_TIME]);
+    let last = ts[LAST_UPDATE];
+    put_schedule(words, floats, not_scheduled(), no_winner(), false, last);
+    if !winner.present {
         return not_realized();
     }
-    let delta = not_below_zero(ts[WINNER_TIME] - ts[LAST_UPDATE]);
-    realized(cause, delta, cause == NO_CAUSE)
+    let delta = not_below_zero(winner.time - last);
+    realized(winner.cause_id, delta, winner.cause_id == NO_CAUSE)
 }

@@ -9,7 +9,7 @@ use borrow.Author.Tests.{eqb-true, eqb-false, eq-eqb, ne-eqb}
 use lib.Dec.{eqb}
 use lib.ListN.{length, length-append}
 use Rattle.clocks.specs.declared.clocks.ScheduledEvent.{ScheduledEvent}
-use Rattle.clocks.specs.Clocks.{Winner}
+use Rattle.clocks.specs.declared.clocks.Winner.{Winner}
 use Rattle.hazards.proofs.Cases.{by-test}
 use Rattle.engine.specs.Queue.{keepIf, without, countFor}
 use Rattle.engine.specs.State.{emptySlot, ClockSlot}

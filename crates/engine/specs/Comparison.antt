@@ -12,11 +12,12 @@ use Rattle.hazards.specs.Ties.{tieNumber}
 use Rattle.hazards.specs.declared.rates.HazardRate.{HazardRate}
 use Rattle.hazards.specs.declared.rates.Intervals.{Intervals}
 use Rattle.clocks.specs.Channels.{emptyChannel}
-use Rattle.clocks.specs.Clocks.{policyNumber, Winner, SurvivalClock}
+use Rattle.clocks.specs.Clocks.{policyNumber, SurvivalClock}
 unfoldable pub use Rattle.clocks.specs.Layout.{everyBelow}
 use Rattle.clocks.specs.declared.channels.HazardChannelState.{HazardChannelState}
 use Rattle.clocks.specs.declared.clocks.EntityId.{EntityId}
 use Rattle.clocks.specs.declared.clocks.ScheduledEvent.{ScheduledEvent}
+use Rattle.clocks.specs.declared.clocks.Winner.{Winner}
 use Rattle.engine.specs.State.{emptySlot, emptyRequest, ClockSlot, SharedState, EngineState}
 use Rattle.engine.specs.declared.state.Request.{Request}
 
