@@ -13,7 +13,7 @@ use Rattle.hazards.proofs.Cases.{by-test, both-true}
 use Rattle.clocks.specs.Layout.{WordRows, FloatRows, everyBelow, isU32}
 use Rattle.clocks.proofs.EveryBelow.{every-at, every-from}
 use Rattle.engine.specs.Comparison.{sameFloat, sameSlot, sameRequest, sameShared, sameState}
-use Rattle.engine.specs.ComparisonInternals.{sameWordRow, sameFloatRow, sameWords, sameFloats}
+use Rattle.engine.specs.ComparisonInternals.{sameWordRow, sameFloatRow, sameWordRows, sameFloatRows}
 use Rattle.engine.specs.State.{emptyRequest, slotAt}
 use Rattle.engine.specs.StateRows.{partAt, requestFrom, queueFrom, sharedOf, sharedFrom, stateFrom}
 use Rattle.engine.specs.StateRows.{codedCounts, codedRequest, CodedState, SizedState}
@@ -170,8 +170,8 @@ module _ (a b : WordRows) (f g : FloatRows) where
           rw e (rw (part-row 25 k (r % 25) f m, part-row 25 k (r % 25) g m) at there)
 
     -- number by number, as field by field
-    pub same-rows : SizedState a f → (sameWords a b && sameFloats f g) ≡ sameState (stateFrom a f) (stateFrom b g)
-    unfolding sameWords sameFloats
+    pub same-rows : SizedState a f → (sameWordRows a b && sameFloatRows f g) ≡ sameState (stateFrom a f) (stateFrom b g)
+    unfolding sameWordRows sameFloatRows
     same-rows s =
         rw (s .words, s .floats)
         (both-ways (everyBelow 177 wordsAt && everyBelow 400 floatsAt) (sameState (stateFrom a f) (stateFrom b g))

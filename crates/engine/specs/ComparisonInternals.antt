@@ -15,8 +15,8 @@ sameWordRow a b = everyBelow 8 (λ i. eqb (getD a i 0) (getD b i 0))
 unfoldable pub sameFloatRow : List Float → List Float → Bool
 sameFloatRow a b = everyBelow 8 (λ i. sameFloat (getD a i nan) (getD b i nan))
 
-unfoldable pub sameWords : WordRows → WordRows → Bool
-sameWords a b = everyBelow (length a) (λ i. sameWordRow (getD a i []) (getD b i []))
+unfoldable pub sameWordRows : WordRows → WordRows → Bool
+sameWordRows a b = everyBelow (length a) (λ i. sameWordRow (getD a i []) (getD b i []))
 
-unfoldable pub sameFloats : FloatRows → FloatRows → Bool
-sameFloats a b = everyBelow (length a) (λ i. sameFloatRow (getD a i []) (getD b i []))
+unfoldable pub sameFloatRows : FloatRows → FloatRows → Bool
+sameFloatRows a b = everyBelow (length a) (λ i. sameFloatRow (getD a i []) (getD b i []))

@@ -3,7 +3,7 @@ ghost use mathlib.Core.Path.{_≡_};
 ghost use Rattle.engine.specs.Comparison.{sameFloat, sameState};
 ghost use lib.ListN.{length};
 ghost use Rattle.engine.specs.StateRows.{stateFrom, SizedState, CodedState};
-ghost use Rattle.engine.specs.ComparisonInternals.{sameWordRow, sameFloatRow, sameWords, sameFloats};
+ghost use Rattle.engine.specs.ComparisonInternals.{sameWordRow, sameFloatRow, sameWordRows, sameFloatRows};
 
 pub(crate) fn same_float(a: f64, b: f64) -> bool
     ensures { λ r. ⌜ r ≡ sameFloat a b ⌝ }
@@ -32,7 +32,7 @@ fn same_word_row<'a, 'b>(a: &'a [u64; 8], b: &'b [u64; 8]) -> bool
 
 fn same_words<'a, 'b>(a: &'a [[u64; 8]], b: &'b [[u64; 8]]) -> bool
     requires { ⌜ length (now a) ≡ length (now b) ⌝ }
-    ensures { λ r. ⌜ r ≡ sameWords (now (a .entry)) (now (b .entry)) ⌝ }
+    ensures { λ r. ⌜ r ≡ sameWordRows (now (a .entry)) (now (b .entry)) ⌝ }
 {
     let mut i: usize = 0;
     while i < a.len() {
@@ -59,7 +59,7 @@ fn same_float_row<'a, 'b>(a: &'a [f64; 8], b: &'b [f64; 8]) -> bool
 
 fn same_floats<'a, 'b>(a: &'a [[f64; 8]], b: &'b [[f64; 8]]) -> bool
     requires { ⌜ length (now a) ≡ length (now b) ⌝ }
-    ensures { λ r. ⌜ r ≡ sameFloats (now (a .entry)) (now (b .entry)) ⌝ }
+    ensures { λ r. ⌜ r ≡ sameFloatRows (now (a .entry)) (now (b .entry)) ⌝ }
 {
     let mut i: usize = 0;
     while i < a.len() {

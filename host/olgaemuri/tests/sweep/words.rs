@@ -31,6 +31,10 @@ fn wrong_words_are_told() {
             "`olgaemuri sweep` takes one SESSION",
         ),
         (
+            "sweep - --seed 1 --streams 1 --csv out.csv",
+            "`olgaemuri sweep` takes one SESSION, or - for standard input, not also `out.csv`; `--csv` and `--json` print the summary, and `--rows OUT` writes",
+        ),
+        (
             "sweep - --seed 1",
             "`--streams` and a whole number are missing",
         ),

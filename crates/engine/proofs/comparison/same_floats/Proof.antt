@@ -7,7 +7,7 @@ use lib.ListN.{length, getD}
 use borrow.Author.Tests.{not-true, not-false}
 use Rattle.clocks.specs.Layout.{FloatRows, everyBelow}
 use Rattle.clocks.proofs.EveryBelow.{every-none, every-more, every-fails}
-use Rattle.engine.specs.ComparisonInternals.{sameFloatRow, sameFloats}
+use Rattle.engine.specs.ComparisonInternals.{sameFloatRow, sameFloatRows}
 use borrow.Author.Needs.{needs}
 use native.Mathlib.Omega.{arith}
 use Rattle.engine.proofs.comparison.same_floats.Statement.{statement}
@@ -43,7 +43,7 @@ same-float-row-requires : tie.Need-same-float-row-requires Inv-loop μ-loop
 same-float-row-requires c κs = search needs
 
 returns : tie.Need-returns Inv-loop μ-loop
-unfolding sameFloats
+unfolding sameFloatRows
 returns c =
     let l = c .before .before .before .before .before in
     let a = l .before .args in
@@ -64,7 +64,7 @@ loop-again c =
     (omega arith, every-more (sameAt (a .a .now) (a .b .now)) (l .loop .i) (l .loop .inv .1) same)
 
 returns-2 : tie.Need-returns-2 Inv-loop μ-loop
-unfolding sameFloats
+unfolding sameFloatRows
 returns-2 c =
     let l = c .before in
     let all : l .loop .i ≡ length (l .before .args .a .now) = omega arith in

@@ -65,10 +65,22 @@ pub fn sweep(arguments: &Arguments) -> Result<u8, Failure> {
     present(arguments, &summary, printed)
 }
 
+/// What is told where not one session is named. A second word is often meant as a file for the CSV.
+fn not_one_session(arguments: &Arguments) -> String {
+    let told = "`olgaemuri sweep` takes one SESSION, or - for standard input";
+    if arguments.files.len() < 2 {
+        return told.to_string();
+    }
+    format!(
+        "{told}, not also `{}`; `--csv` and `--json` print the summary, and `--rows OUT` writes the breakdowns to a file",
+        arguments.files[1]
+    )
+}
+
 /// The runs to make and the session's file, or what is wrong with the words.
 fn planned(arguments: &Arguments) -> Result<(Plan, &str), String> {
     let [file] = arguments.files.as_slice() else {
-        return Err("`olgaemuri sweep` takes one SESSION, or - for standard input".to_string());
+        return Err(not_one_session(arguments));
     };
     pictured(arguments)?;
     let outs = ["--rows", "--svg"].map(|name| arguments.value(name));
