@@ -86,6 +86,7 @@ pub mod FrontRefusals
 pub mod RunAnswers
 pub mod RunTurns
 pub mod RunUndos
+pub mod RunStands
 pub mod RunReverts
 pub mod RunCommands
 -- demand 3 in lent memory

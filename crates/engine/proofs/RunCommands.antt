@@ -25,8 +25,8 @@ use Rattle.engine.proofs.RunTurns.{Running, Input, next-refused, next-p
 use Rattle.engine.proofs.RunReverts.{next-undone}
 use Rattle.engine.proofs.RunUndos.{Deferred, goes-on-in}
 
-module _ (bytes stream : Bytes) (n size : ℕ) (all : Ran) {j answers result : Bytes} (w : WordRows) (f : FloatRows) {count at : ℕ}
-    (x : Input bytes stream n size all j answers result (stateFrom w f) count at) (wide : ℕ) (ew : wide ≡ widthOf (code (drop at bytes)))
+module _ (bytes stream : Bytes) (n size : ℕ) (all : Ran) {j answers : Bytes} (w : WordRows) (f : FloatRows) {count at : ℕ}
+    (x : Input bytes stream n size all j answers (stateFrom w f) count at) (wide : ℕ) (ew : wide ≡ widthOf (code (drop at bytes)))
     (u : code (drop at bytes) ≡ commands.undo → ⊥) where
   abbrev s : EngineState
   s = stateFrom w f
@@ -37,7 +37,7 @@ module _ (bytes stream : Bytes) (n size : ℕ) (all : Ran) {j answers result : B
   -- refused: nothing is changed, and its number is answered
   refused-turn : (number : ℕ) → perform stream n s c ≡ rejected number → {written : Bytes}
       → written ≡ withAnswer answers (answerWidth * count) (noEvent number) → length written ≡ size
-      → Running bytes stream n size all j written result s (count + 1) (at + wide)
+      → Running bytes stream n size all j written s (count + 1) (at + wide)
   refused-turn number d q lw = next-refused bytes stream n size all x wide ew u number d q lw
 
   module _ {w′ : WordRows} {f′ : FloatRows} {k written : Bytes} {applied : ℕ}
@@ -48,7 +48,7 @@ module _ (bytes stream : Bytes) (n size : ℕ) (all : Ran) {j answers result : B
     did : (m : ℕ) → length j ≡ m → perform stream (length j) s c ≡ perform stream m s c
     did m e = ap (λ (l : ℕ). perform stream l s c) e
 
-    applied-turn : a .number ≡ 0 → Running bytes stream n size all k written result (stateFrom w′ f′) (count + 1) (at + wide)
+    applied-turn : a .number ≡ 0 → Running bytes stream n size all k written (stateFrom w′ f′) (count + 1) (at + wide)
     applied-turn z =
         let g = left .written ∙ answer-copied (a .number) a (sharedFrom w .«applied_length») j answers (answerWidth * count) c z in
         let d : perform stream n s c ≡ performed (stateFrom w′ f′) a =
@@ -58,7 +58,7 @@ module _ (bytes stream : Bytes) (n size : ℕ) (all : Ran) {j answers result : B
         ap (λ (b : JournalAndAnswers). b .journal) g ∙ ap (λ (l : ℕ). paste j l c (length c)) free in
         next-performed bytes stream n size all x wide ew u (stateFrom w′ f′) a d ek (ap (λ (b : JournalAndAnswers). b .answers) g) lw
 
-    unapplied-turn : (a .number ≡ 0 → ⊥) → Running bytes stream n size all k written result (stateFrom w′ f′) (count + 1) (at + wide)
+    unapplied-turn : (a .number ≡ 0 → ⊥) → Running bytes stream n size all k written (stateFrom w′ f′) (count + 1) (at + wide)
     unapplied-turn z =
         let g = left .written ∙ answer-refused (a .number) a (sharedFrom w .«applied_length») j answers (answerWidth * count) c z in
         let d : perform stream n s c ≡ rejected (a .number) =
@@ -66,12 +66,12 @@ module _ (bytes stream : Bytes) (n size : ℕ) (all : Ran) {j answers result : B
         let ek : k ≡ j = ap (λ (b : JournalAndAnswers). b .journal) g in
         let kept = left .performs .keeps z in
         let same : stateFrom w′ f′ ≡ s = λ i. stateFrom (kept .0 i) (kept .1 i) in
-        subst (λ (b : Bytes). Running bytes stream n size all b written result (stateFrom w′ f′) (count + 1) (at + wide)) (sym ek)
-        (subst (λ (t : EngineState). Running bytes stream n size all j written result t (count + 1) (at + wide)) (sym same)
+        subst (λ (b : Bytes). Running bytes stream n size all b written (stateFrom w′ f′) (count + 1) (at + wide)) (sym ek)
+        (subst (λ (t : EngineState). Running bytes stream n size all j written t (count + 1) (at + wide)) (sym same)
         (refused-turn (a .number) d (ap (λ (b : JournalAndAnswers). b .answers) g) lw))
 
     pub goes-on-command : (stale : Bool)
-        → Deferred bytes stream n size all k written result (stateFrom w′ f′) applied stale (count + 1) (at + wide)
+        → Deferred bytes stream n size all k written (stateFrom w′ f′) applied stale (count + 1) (at + wide)
     goes-on-command stale =
         goes-on-in bytes stream n size all
         (by-test (eqb (a .number) 0) (λ e. applied-turn (eqb-true _ _ e)) (λ e. unapplied-turn (eqb-false _ _ e)))
@@ -90,12 +90,12 @@ module _ (bytes stream : Bytes) (n size : ℕ) (all : Ran) {j answers result : B
         left .written
         ∙ ap (λ (d : Bool). cond d (bothAnswered b answers (answerWidth * count)) (withAnswer answers (answerWidth * count) b)) e
 
-    as-it-was : {places read : ℕ} → Running bytes stream n size all j written result s places read
-        → Deferred bytes stream n size all j written result (stateFrom w′ f′) applied stale places read
+    as-it-was : {places read : ℕ} → Running bytes stream n size all j written s places read
+        → Deferred bytes stream n size all j written (stateFrom w′ f′) applied stale places read
     as-it-was r = record { current = s; running = r; fresh = λ e. left .taken .same; counted = counted }
 
     pub goes-on-undone : accepted ≡ true → isUndone (restOf bytes (at + wide)) (length answers) (answerWidth * count) ≡ true
-        → Deferred bytes stream n size all j written result (stateFrom w′ f′) applied stale (count + 1 + 1) (at + wide + 1)
+        → Deferred bytes stream n size all j written (stateFrom w′ f′) applied stale (count + 1 + 1) (at + wide + 1)
     goes-on-undone e next =
         let z : b .number ≡ 0 = eqb-true (b .number) 0 (sym (left .by-number) ∙ e) in
         as-it-was
@@ -103,7 +103,7 @@ module _ (bytes stream : Bytes) (n size : ℕ) (all : Ran) {j answers result : B
         next (by-accepted true e) lw)
 
     pub goes-on-refused : accepted ≡ false
-        → Deferred bytes stream n size all j written result (stateFrom w′ f′) applied stale (count + 1) (at + wide)
+        → Deferred bytes stream n size all j written (stateFrom w′ f′) applied stale (count + 1) (at + wide)
     goes-on-refused e =
         let z : b .number ≡ 0 → ⊥ = eqb-false (b .number) 0 (sym (left .by-number) ∙ e) in
         as-it-was

@@ -35,7 +35,7 @@ use Rattle.engine.proofs.SoundValid.{sound-state-valid}
 use Rattle.engine.proofs.RunAnswers.{answer-length}
 use Rattle.engine.proofs.RunNumbers.{reply-goes, undo-goes, write-goes}
 use Rattle.engine.proofs.RunOpening.{run-unusable, run-opens}
-use Rattle.engine.proofs.RunStates.{reached-sound}
+use Rattle.engine.proofs.RunStates.{inv-sound}
 use Rattle.engine.proofs.RunTurns.{run-full, run-ends, run-next, run-done}
 use Rattle.engine.proofs.Splits.{Wide, whole-wide, wide-whole}
 
@@ -81,7 +81,7 @@ module _ (stream : Bytes) (n : ℕ) where
   -- one input to an engine in use
   module _ (u : Session E) (h : Used u) (i : Bytes) (p : 0 < length i) where
     valid : validState stream n (u .state) ≡ true
-    valid = sound-state-valid (u .state) stream n (reached-sound stream n (u .state) (u .journal) (record { applied = u .applied; inv = h }))
+    valid = sound-state-valid (u .state) stream n (inv-sound stream n u h)
 
     abbrev outcome : Outcome E
     outcome = execute E (u .state) (u .journal) i

@@ -56,8 +56,8 @@ undo-wide : (i : Bytes) → code i ≡ commands.undo → widthOf (code i) ≡ 1
 unfolding widthOf
 undo-wide i e = ap widthOf e
 
-module _ (bytes stream : Bytes) (n size : ℕ) (all : Ran) {j answers result : Bytes} {s : EngineState} {count at : ℕ}
-    (x : Input bytes stream n size all j answers result s count at) (w : ℕ) (ew : w ≡ widthOf (code (drop at bytes)))
+module _ (bytes stream : Bytes) (n size : ℕ) (all : Ran) {j answers : Bytes} {s : EngineState} {count at : ℕ}
+    (x : Input bytes stream n size all j answers s count at) (w : ℕ) (ew : w ≡ widthOf (code (drop at bytes)))
     (u : code (drop at bytes) ≡ commands.undo → ⊥) (t : EngineState) (a : Answer)
     (d : perform stream n s (partOf bytes at w) ≡ performed t a)
     (yes : isUndone (restOf bytes (at + w)) (length answers) (answerWidth * count) ≡ true) where
@@ -73,7 +73,7 @@ module _ (bytes stream : Bytes) (n size : ℕ) (all : Ran) {j answers result : B
   abbrev there : code (drop (at + w) bytes) ≡ commands.undo
   there = undone-code bytes (at + w) (length answers) (answerWidth * count) yes
 
-  undo-input : Input bytes stream n size all taken first result t (count + 1) (at + w)
+  undo-input : Input bytes stream n size all taken first t (count + 1) (at + w)
   undo-input =
       let within = undone-within bytes (at + w) (length answers) (answerWidth * count) yes in
       let space = undone-room bytes (at + w) (length answers) (answerWidth * count) yes in
@@ -97,7 +97,7 @@ module _ (bytes stream : Bytes) (n size : ℕ) (all : Ran) {j answers result : B
       (input-performs bytes stream n size all x w ew u t a d)))
 
   pub next-undone : {written : Bytes} → written ≡ bothAnswered a answers (answerWidth * count) → length written ≡ size
-      → Running bytes stream n size all j written result s (count + 1 + 1) (at + w + 1)
+      → Running bytes stream n size all j written s (count + 1 + 1) (at + w + 1)
   next-undone q lw =
       let place : answerWidth * count + answerWidth ≡ answerWidth * (count + 1) = omega arith in
       next-undo bytes stream n size all undo-input 1 (sym (undo-wide (drop (at + w) bytes) there)) there (noEvent 0) s undone

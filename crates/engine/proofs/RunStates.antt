@@ -1,6 +1,6 @@
 -- The states that a batch run reaches: each is one of an engine in use, so it is sound, and the replay of its applied commands ends in it.
-use mathlib.Core.Path.{_≡_, subst}
-use mathlib.Core.List.{List, [], _∷_}
+use mathlib.Core.Path.{_≡_, refl, ap, _∙_, subst}
+use mathlib.Core.List.{List, [], _∷_, _++_}
 use Prim.Native.Nat.{ℕ, _<_}
 use lib.ListN.{length, replicate, take}
 use Rattle.engine.specs.Opening.{openedState}
@@ -8,8 +8,10 @@ use Rattle.engine.specs.Engine.{Bytes, Engine, Outcome, reverted, comple
 use Rattle.engine.specs.Replay.{cleared, undo}
 use Rattle.engine.specs.Execute.{execute}
 use Rattle.engine.specs.ReplayInternals.{ends, replayAll}
-use Rattle.engine.specs.Sessions.{Session, appliedAfter, feed, feedAll, newSession}
+use Rattle.engine.specs.Sessions.{Session, feed, feedAll, newSession}
 use Rattle.engine.specs.Instance.{engineOf}
+use Rattle.engine.specs.Demand3.{sessionAfter}
+use Rattle.engine.specs.RunInternals.{Reached}
 use Rattle.hazards.specs.declared.answers.Answer.{Answer}
 use Rattle.engine.specs.State.{EngineState}
 use Rattle.engine.proofs.SoundState.{SoundState}
@@ -24,42 +26,59 @@ module _ (stream : Bytes) (n : ℕ) where
   abbrev E : Engine
   E = engineOf stream n
 
-  -- the state and the journal of an engine in use, for some applied commands
-  pub record Reached (s : EngineState) (j : Bytes) : Type 0 where
-    pub applied : List Bytes
-    pub inv : Inv E n (engine-laws stream n) (record { state = s; journal = j; applied = applied })
-
-  pub reached-open : Reached openedState (replicate n 0)
-  unfolding newSession
-  reached-open = record { applied = []; inv = inv-open E n (engine-laws stream n) }
+  pub reached-open : Reached stream n openedState (replicate n 0)
+  unfolding newSession feedAll
+  reached-open = record { inputs = []; state = refl; journal = refl }
 
   pub replay-nothing : replayAll E [] ≡ ends openedState openedState 0
   unfolding replayAll
   replay-nothing = replay-end E 0 openedState openedState 0 0
 
-  module _ (s : EngineState) (j : Bytes) (r : Reached s j) where
-    abbrev session : Session E
-    session = record { state = s; journal = j; applied = r .applied }
+  pub inv-sound : (u : Session E) → Inv E n (engine-laws stream n) u → SoundState stream n (u .state)
+  inv-sound u h =
+      sound-replay E (SoundState stream n) (engine-sound stream n) openedState (u .applied) (u .state) (h .whole) (h .ran)
+      (engine-sound stream n .opens)
 
-    pub reached-next : (i : Bytes) (o : Outcome E) → execute E s j i ≡ o → Reached (o .state) (o .journal)
-    unfolding feedAll feed
+  -- one more input at the end
+  feed-last : (u : Session E) (is : List Bytes) (i : Bytes) → feedAll E u (is ++ (i ∷ [])) ≡ feed E (feedAll E u is) i
+  unfolding feedAll
+  feed-last u [] i = refl
+  feed-last u (k ∷ is) i = feed-last (feed E u k) is i
+
+  module _ (s : EngineState) (j : Bytes) (r : Reached stream n s j) where
+    abbrev after : Session E
+    after = sessionAfter stream n (r .inputs)
+
+    abbrev session : Session E
+    session = record { state = s; journal = j; applied = after .applied }
+
+    -- what holds of an engine in use
+    inv : Inv E n (engine-laws stream n) session
+    inv =
+        subst (λ (x : EngineState). Inv E n (engine-laws stream n) (record { state = x; journal = j; applied = after .applied })) (r .state)
+        (subst (λ (x : Bytes). Inv E n (engine-laws stream n) (record { state = after .state; journal = x; applied = after .applied }))
+        (r .journal)
+        (inv-all E n (engine-laws stream n) (newSession E n) (r .inputs) (inv-open E n (engine-laws stream n))))
+
+    pub reached-next : (i : Bytes) (o : Outcome E) → execute E s j i ≡ o → Reached stream n (o .state) (o .journal)
+    unfolding feed
     reached-next i o e =
-        subst (λ (x : Outcome E). Reached (x .state) (x .journal)) e
-        (record {
-          applied = appliedAfter E (execute E s j i .reply) i (r .applied);
-          inv = inv-all E n (engine-laws stream n) session (i ∷ []) (r .inv);
-        })
+        let outcome : execute E (after .state) (after .journal) i ≡ o = (λ x. execute E (r .state x) (r .journal x) i) ∙ e in
+        let last = feed-last (newSession E n) (r .inputs) i in
+        record {
+          inputs = r .inputs ++ (i ∷ []);
+          state = ap (λ (u : Session E). u .state) last ∙ ap (λ (x : Outcome E). x .state) outcome;
+          journal = ap (λ (u : Session E). u .journal) last ∙ ap (λ (x : Outcome E). x .journal) outcome;
+        }
 
     pub reached-sound : SoundState stream n s
-    reached-sound =
-        sound-replay E (SoundState stream n) (engine-sound stream n) openedState (r .applied) s (r .inv .whole) (r .inv .ran)
-        (engine-sound stream n .opens)
+    reached-sound = inv-sound session inv
 
     -- an accepted command that UNDO reverts at once
     pub reached-back : (i : Bytes) (a : Answer) (t : EngineState) (k : Bytes)
         → execute E s j i ≡ record { reply = completed a; state = t; journal = k }
         → undo E t k ≡ record { reply = reverted; state = s; journal = j }
-    reached-back i a t k e = taken-back E n (engine-laws stream n) state-same session i a t k (r .inv) e
+    reached-back i a t k e = taken-back E n (engine-laws stream n) state-same session i a t k inv e
 
     -- what UNDO gives where something is applied: the state before the last command, which was at the place `last`
     pub record Undone : Type 0 where
@@ -72,13 +91,13 @@ module _ (stream : Bytes) (n : ℕ) where
     pub reached-undo : 0 < s .shared .«applied_length» → Undone
     reached-undo p =
         let d : AppliedReplay E n (engine-laws stream n) session =
-        applied-replay E n (engine-laws stream n) session (r .inv) in
+        applied-replay E n (engine-laws stream n) session inv in
         record {
           before = d .rest;
-          last = length (concat (init (r .applied)));
+          last = length (concat (init (after .applied)));
           ending = d .scans;
-          outcome = reverts E n (engine-laws stream n) state-same session (r .inv) d p;
-          counted = rest-counted E n (engine-laws stream n) session (r .inv) d;
+          outcome = reverts E n (engine-laws stream n) state-same session inv d p;
+          counted = rest-counted E n (engine-laws stream n) session inv d;
         }
 
     -- the replay of the applied commands ends in the state
@@ -89,5 +108,5 @@ module _ (stream : Bytes) (n : ℕ) where
 
     pub reached-replays : Replays
     reached-replays =
-        let d : AppliedReplay E n (engine-laws stream n) session = applied-replay E n (engine-laws stream n) session (r .inv) in
-        record { before = d .rest; last = length (concat (init (r .applied))); ending = d .scans }
+        let d : AppliedReplay E n (engine-laws stream n) session = applied-replay E n (engine-laws stream n) session inv in
+        record { before = d .rest; last = length (concat (init (after .applied))); ending = d .scans }

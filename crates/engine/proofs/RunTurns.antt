@@ -23,7 +23,7 @@ use Rattle.engine.specs.Instance.{engineOf}
 use Rattle.engine.specs.Validation.{validState}
 use Rattle.engine.specs.Execution.{perform}
 use Rattle.engine.specs.Run.{Ran, finished, endsRun, executed, runFrom, ran}
-use Rattle.engine.specs.RunInternals.{Stop, stop, stopAt, openedRun}
+use Rattle.engine.specs.RunInternals.{Stop, stop, stopAt, Reached, openedRun}
 use Rattle.engine.specs.Answers.{AfterInput, after, answerOf}
 use Rattle.engine.specs.State.{EngineState}
 use Rattle.engine.proofs.SoundState.{SoundState}
@@ -34,7 +34,7 @@ use Rattle.engine.proofs.SoundValid.{sound-state-valid}
 use Rattle.engine.proofs.JournalBytes.{restOf, partOf, part-all, part-of}
 use Rattle.engine.proofs.Replays.{cut-whole}
 use Rattle.engine.proofs.RunNumbers.{performedReply, perform-goes, reply-goes, undo-goes}
-use Rattle.engine.proofs.RunStates.{Reached, reached-open, reached-next, reached-sound}
+use Rattle.engine.proofs.RunStates.{reached-open, reached-next, reached-sound}
 use Rattle.engine.proofs.RunStops.{numbered, end-number, stop-way}
 use Rattle.engine.proofs.EngineLaws.{engine-laws}
 
@@ -110,7 +110,7 @@ module _ (bytes stream : Bytes) (n size : ℕ) (all : Ran) where
   E = engineOf stream n
 
   -- what is left gives the whole; state and journal are reached from opening
-  pub record Running (j answers result : Bytes) (s : EngineState) (count at : ℕ) : Type 0 where
+  pub record Running (j answers : Bytes) (s : EngineState) (count at : ℕ) : Type 0 where
     pub goes : runFrom (length bytes - count) stream s j answers count at (drop at bytes) ≡ all
     pub reached : Reached stream n s j
     pub few : count ≤ at
@@ -119,17 +119,16 @@ module _ (bytes stream : Bytes) (n size : ℕ) (all : Ran) where
     pub same-journal : length j ≡ n
     pub bound : n < 2 ^ 63
     pub same-answers : length answers ≡ size
-    pub result-width : length result ≡ 16
 
   -- the input there is a whole command, and its answer has room
-  pub record Input (j answers result : Bytes) (s : EngineState) (count at : ℕ) : Type 0 where
-    pub running : Running j answers result s count at
+  pub record Input (j answers : Bytes) (s : EngineState) (count at : ℕ) : Type 0 where
+    pub running : Running j answers s count at
     pub more : at < length bytes
     pub space : answerWidth * count + answerWidth ≤ length answers
     pub wide : 0 < widthOf (code (drop at bytes))
     pub long : widthOf (code (drop at bytes)) ≤ length (drop at bytes)
 
-  module _ {j answers result : Bytes} {s : EngineState} {count at : ℕ} (r : Running j answers result s count at) where
+  module _ {j answers : Bytes} {s : EngineState} {count at : ℕ} (r : Running j answers s count at) where
     abbrev input : Bytes
     input = drop at bytes
 
@@ -201,10 +200,10 @@ module _ (bytes stream : Bytes) (n size : ℕ) (all : Ran) where
       abbrev Stopped : Stop → Type 0
       Stopped x =
           ((x .number ≡ 0 → ⊥) → ran (x .number) j (x .answers) (x .result) ≡ all)
-          × (x .number ≡ 0 → Input j (x .answers) (x .result) s count at)
+          × (x .number ≡ 0 → Input j (x .answers) s count at)
 
-      stopped : Stopped (stopAt input answers result count at)
-      stopped =
+      stopped : (result : Bytes) → Stopped (stopAt input answers result count at)
+      stopped result =
           stop-way input answers result count at Stopped (λ l. ((λ q. stops-full l), (λ q. absurd (omega arith))))
           (λ l z.
           let w = input-number .0 z in (
@@ -213,24 +212,25 @@ module _ (bytes stream : Bytes) (n size : ℕ) (all : Ran) where
           ))
           (λ l z. ((λ q. input-number .1 l z), (λ q. absurd (z q))))
 
-      module _ {number : ℕ} {written kept : Bytes} (e : stop number written kept ≡ stopAt (restOf bytes at) answers result count at) where
+      module _ (result : Bytes) {number : ℕ} {written kept : Bytes}
+          (e : stop number written kept ≡ stopAt (restOf bytes at) answers result count at) where
         by-stop : Stopped (stop number written kept)
-        by-stop = subst Stopped (sym (e ∙ ap (λ (x : Bytes). stopAt x answers result count at) (part-all bytes at))) stopped
+        by-stop = subst Stopped (sym (e ∙ ap (λ (x : Bytes). stopAt x answers result count at) (part-all bytes at))) (stopped result)
 
         pub run-stops : (number ≡ 0 → ⊥) → ran number j written kept ≡ all
         run-stops = by-stop .0
 
-        pub run-goes-on : number ≡ 0 → Input j written kept s count at
+        pub run-goes-on : number ≡ 0 → Input j written s count at
         run-goes-on = by-stop .1
 
   -- ---- the input is executed, and its answer written
 
-  module _ {j answers result : Bytes} {s : EngineState} {count at : ℕ} (x : Input j answers result s count at) (w : ℕ)
+  module _ {j answers : Bytes} {s : EngineState} {count at : ℕ} (x : Input j answers s count at) (w : ℕ)
       (ew : w ≡ widthOf (code (drop at bytes))) where
     abbrev i : Bytes
     i = drop at bytes
 
-    r : Running j answers result s count at
+    r : Running j answers s count at
     r = x .running
 
     i-pos : 0 < length i
@@ -247,7 +247,7 @@ module _ (bytes stream : Bytes) (n size : ℕ) (all : Ran) where
     turned : (o : Outcome E) → execute E s j i ≡ o → endsRun (answerOf (o .reply) .number) ≡ false → {written : Bytes}
         → written ≡ withAnswer answers (answerWidth * count) (answerOf (o .reply)) → length (o .journal) ≡ n
         → length written ≡ size
-        → Running (o .journal) written result (o .state) (count + 1) (at + w)
+        → Running (o .journal) written (o .state) (count + 1) (at + w)
     turned o e t {written} q lj lw =
         let space = x .space in
         let same = r .same-answers in
@@ -267,7 +267,6 @@ module _ (bytes stream : Bytes) (n size : ℕ) (all : Ran) where
           same-journal = lj;
           bound = r .bound;
           same-answers = lw;
-          result-width = r .result-width;
         }
       where
         later : ℕ
@@ -279,7 +278,7 @@ module _ (bytes stream : Bytes) (n size : ℕ) (all : Ran) where
     pub next-undo : code i ≡ commands.undo → (a : Answer) (t : EngineState) {k written : Bytes}
         → leaving a t k ≡ after stream (length j) (undo (engineOf stream (length j)) s j)
         → written ≡ withAnswer answers (answerWidth * count) a → length k ≡ n → length written ≡ size
-        → Running k written result t (count + 1) (at + w)
+        → Running k written t (count + 1) (at + w)
     next-undo u a t {k} {written} e q lk lw =
         let f : leaving a t k ≡ after stream n (undo E s j) =
         e ∙ ap (λ (m : ℕ). after stream m (undo (engineOf stream m) s j)) (r .same-journal) in
@@ -289,8 +288,8 @@ module _ (bytes stream : Bytes) (n size : ℕ) (all : Ran) where
         turned (undo E s j) (execute-undo E s j i (asks-undo E s i (valid r) i-pos (x .wide) (x .long) u))
         (reply-goes (undo E s j .reply) (undo-goes stream n s j))
         (q ∙ ap (withAnswer answers (answerWidth * count)) ea) (ap length (sym ek) ∙ lk) lw in
-        subst (λ (b : Bytes). Running b written result t (count + 1) (at + w)) (sym ek)
-        (subst (λ (y : EngineState). Running (undo E s j .journal) written result y (count + 1) (at + w))
+        subst (λ (b : Bytes). Running b written t (count + 1) (at + w)) (sym ek)
+        (subst (λ (y : EngineState). Running (undo E s j .journal) written y (count + 1) (at + w))
         (sym (ap (λ (o : AfterInput). o .state) f)) h)
 
     -- a command but UNDO
@@ -314,7 +313,7 @@ module _ (bytes stream : Bytes) (n size : ℕ) (all : Ran) where
 
       pub next-refused : (number : ℕ) → perform stream n s c ≡ rejected number → {written : Bytes}
           → written ≡ withAnswer answers (answerWidth * count) (noEvent number) → length written ≡ size
-          → Running j written result s (count + 1) (at + w)
+          → Running j written s (count + 1) (at + w)
       next-refused number d q lw =
           turned (unchanged E s j number) (execute-refused E s j i c number asked d) (goes-on d) q (r .same-journal) lw
 
@@ -332,20 +331,20 @@ module _ (bytes stream : Bytes) (n size : ℕ) (all : Ran) where
             length-paste j (s .shared .«applied_length») c (length c) (omega (arith, r .same-journal, fits)) (omega arith) ∙ r .same-journal
 
         pub next-performed : {k written : Bytes} → k ≡ pasted → written ≡ withAnswer answers (answerWidth * count) a
-            → length written ≡ size → Running k written result t (count + 1) (at + w)
+            → length written ≡ size → Running k written t (count + 1) (at + w)
         next-performed {k} {written} ek q lw =
-            subst (λ (b : Bytes). Running b written result t (count + 1) (at + w)) (sym ek)
+            subst (λ (b : Bytes). Running b written t (count + 1) (at + w)) (sym ek)
             (turned (record { reply = completed a; state = t; journal = pasted }) input-performs (goes-on d) q pasted-length lw)
 
 -- at opening, with all places of the journal zero
-pub running-begins : (bytes stream : Bytes) (n : ℕ) (answers result : Bytes) {s : EngineState} → s ≡ openedState
-    → {j : Bytes} → j ≡ replicate n 0 → n < 2 ^ 63 → length result ≡ 16
-    → Running bytes stream n (length answers) (openedRun bytes stream n answers) j answers result s 0 0
-running-begins bytes stream n answers result {s} es {j} ej bound width =
+pub running-begins : (bytes stream : Bytes) (n : ℕ) (answers : Bytes) {s : EngineState} → s ≡ openedState
+    → {j : Bytes} → j ≡ replicate n 0 → n < 2 ^ 63
+    → Running bytes stream n (length answers) (openedRun bytes stream n answers) j answers s 0 0
+running-begins bytes stream n answers {s} es {j} ej bound =
     subst (λ (x : EngineState). Opened x j) (sym es) (subst (Opened openedState) (sym ej) opens)
   where
     Opened : EngineState → Bytes → Type 0
-    Opened x k = Running bytes stream n (length answers) (openedRun bytes stream n answers) k answers result x 0 0
+    Opened x k = Running bytes stream n (length answers) (openedRun bytes stream n answers) k answers x 0 0
 
     opens : Opened openedState (replicate n 0)
     opens = record {
@@ -357,5 +356,4 @@ running-begins bytes stream n answers result {s} es {j} ej bound width =
       same-journal = length-replicate n 0;
       bound = bound;
       same-answers = refl;
-      result-width = width;
     }

@@ -33,19 +33,19 @@ module _ (bytes stream : Bytes) (n size : ℕ) (all : Ran) where
   E = engineOf stream n
 
   -- a run whose definition is in the state `current`: that is the state in the code where it is not stale
-  pub record Deferred (j answers result : Bytes) (state : EngineState) (applied : ℕ) (stale : Bool) (count at : ℕ) : Type 0 where
+  pub record Deferred (j answers : Bytes) (state : EngineState) (applied : ℕ) (stale : Bool) (count at : ℕ) : Type 0 where
     pub current : EngineState
-    pub running : Running bytes stream n size all j answers result current count at
+    pub running : Running bytes stream n size all j answers current count at
     pub fresh : stale ≡ false → state ≡ current
     pub counted : applied ≡ current .shared .«applied_length»
 
   -- the state that the run goes on in, where it is not stale
-  pub goes-on-in : {j answers result : Bytes} {s : EngineState} {count at : ℕ} → Running bytes stream n size all j answers result s count at
-      → (applied : ℕ) → applied ≡ s .shared .«applied_length» → (stale : Bool) → Deferred j answers result s applied stale count at
+  pub goes-on-in : {j answers : Bytes} {s : EngineState} {count at : ℕ} → Running bytes stream n size all j answers s count at
+      → (applied : ℕ) → applied ≡ s .shared .«applied_length» → (stale : Bool) → Deferred j answers s applied stale count at
   goes-on-in {s = s} r applied counted stale = record { current = s; running = r; fresh = λ e. refl; counted = counted }
 
   -- what the code replays is the state of the definition
-  pub replayed-current : {j answers result : Bytes} {s : EngineState} {count at : ℕ} → Running bytes stream n size all j answers result s count at
+  pub replayed-current : {j answers : Bytes} {s : EngineState} {count at : ℕ} → Running bytes stream n size all j answers s count at
       → (applied : ℕ) → applied ≡ s .shared .«applied_length» → (state : EngineState) (ok : Bool)
       → cond ok (some state) none ≡ endState stream n (replayAll E (take applied j)) → state ≡ s
   replayed-current {j = j} {s = s} r applied counted state ok e =
@@ -54,7 +54,7 @@ module _ (bytes stream : Bytes) (n size : ℕ) (all : Ran) where
       ap (λ (k : ℕ). replayAll E (take k j)) counted ∙ own .ending in
       by-some state s ok (e ∙ ap (endState stream n) all)
 
-  module _ {j answers result : Bytes} {s : EngineState} {count at : ℕ} (x : Input bytes stream n size all j answers result s count at)
+  module _ {j answers : Bytes} {s : EngineState} {count at : ℕ} (x : Input bytes stream n size all j answers s count at)
       (w : ℕ) (ew : w ≡ widthOf (code (drop at bytes))) (u : code (drop at bytes) ≡ commands.undo) (applied : ℕ)
       (counted : applied ≡ s .shared .«applied_length») {k written : Bytes} {r : ℕ}
       (place : (v : Bytes) (m : ℕ) (t before : EngineState) (last : ℕ) → replayAll (engineOf v m) (take applied j) ≡ ends t before last
@@ -62,7 +62,7 @@ module _ (bytes stream : Bytes) (n size : ℕ) (all : Ran) where
       (journal : (v : Bytes) → k ≡ cleared (engineOf v (length j)) j r applied) (lk : length k ≡ n) (lw : length written ≡ size)
       (state : EngineState) where
     nothing-undone : applied ≡ 0 → written ≡ withAnswer answers (answerWidth * count) (noEvent nothingApplied)
-        → Deferred k written result state r true (count + 1) (at + w)
+        → Deferred k written state r true (count + 1) (at + w)
     nothing-undone z q =
         let er : r ≡ 0 = place stream n openedState openedState 0
         (ap (λ (m : ℕ). replayAll E (take m j)) z ∙ replay-nothing stream n) in
@@ -79,7 +79,7 @@ module _ (bytes stream : Bytes) (n size : ℕ) (all : Ran) where
         }
 
     last-undone : 0 < applied → written ≡ withAnswer answers (answerWidth * count) (noEvent 0)
-        → Deferred k written result state r true (count + 1) (at + w)
+        → Deferred k written state r true (count + 1) (at + w)
     last-undone p q =
         let own = reached-undo stream n s j (x .running .reached) (omega (arith, counted, p)) in
         let er : r ≡ own .last =
@@ -100,13 +100,13 @@ module _ (bytes stream : Bytes) (n size : ℕ) (all : Ran) where
         }
 
     pub next-deferred : written ≡ withAnswer answers (answerWidth * count) (noEvent (cond (eqb applied 0) nothingApplied 0))
-        → Deferred k written result state r true (count + 1) (at + w)
+        → Deferred k written state r true (count + 1) (at + w)
     next-deferred q = go (eqb applied 0) refl
       where
         by : Bool → Bytes
         by b = withAnswer answers (answerWidth * count) (noEvent (cond b nothingApplied 0))
 
-        go : (b : Bool) → eqb applied 0 ≡ b → Deferred k written result state r true (count + 1) (at + w)
+        go : (b : Bool) → eqb applied 0 ≡ b → Deferred k written state r true (count + 1) (at + w)
         go true e = nothing-undone (eqb-true applied 0 e) (q ∙ ap by e)
         go false e =
             let some = eqb-false applied 0 e in
@@ -117,10 +117,10 @@ unfolding openedState
 opened-length = refl
 
 -- at opening
-pub deferred-begins : (bytes stream : Bytes) (n : ℕ) (answers result : Bytes) {s : EngineState} → s ≡ openedState
-    → {j : Bytes} → j ≡ replicate n 0 → n < 2 ^ 63 → length result ≡ 16
-    → Deferred bytes stream n (length answers) (openedRun bytes stream n answers) j answers result s 0 false 0 0
-deferred-begins bytes stream n answers result {s} es ej bound width =
+pub deferred-begins : (bytes stream : Bytes) (n : ℕ) (answers : Bytes) {s : EngineState} → s ≡ openedState
+    → {j : Bytes} → j ≡ replicate n 0 → n < 2 ^ 63
+    → Deferred bytes stream n (length answers) (openedRun bytes stream n answers) j answers s 0 false 0 0
+deferred-begins bytes stream n answers {s} es ej bound =
     goes-on-in bytes stream n (length answers) (openedRun bytes stream n answers)
-    (running-begins bytes stream n answers result es ej bound width) 0
+    (running-begins bytes stream n answers es ej bound) 0
     (sym (ap (λ (t : EngineState). t .shared .«applied_length») es ∙ opened-length)) false

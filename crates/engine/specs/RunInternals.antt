@@ -1,23 +1,27 @@
--- What the code's answers mean: a batch run in its parts: what ends it before an input, one command answered, and the run from opening.
+-- What the code's answers mean: a batch run in its parts: what ends it before an input, one command answered, where it stands between two
+-- inputs, and the run from opening.
 use mathlib.Core.Path.{_≡_}
-use mathlib.Core.Bool.{Bool, cond, _&&_}
-use mathlib.Core.List.{_++_}
-use Prim.Native.Nat.{ℕ, _+_, _*_}
+use mathlib.Core.Bool.{Bool, false, cond, _&&_}
+use mathlib.Core.List.{List, _++_}
+use Prim.Native.Nat.{ℕ, _+_, _-_, _*_, _<_, _≤_}
 use lib.Dec.{eqb, leb}
-use lib.ListN.{length, replicate}
+use lib.ListN.{length, drop, replicate}
 use lib.Seq.{paste}
 use Rattle.hazards.specs.Fields.{bytesOf}
 use Rattle.hazards.specs.Answers.{answerWidth, noEvent, withAnswer}
 use Rattle.hazards.specs.declared.answers.Answer.{Answer}
-use Rattle.engine.specs.Commands.{frontRefusal}
+use Rattle.engine.specs.Commands.{widthOf, frontRefusal}
 use Rattle.engine.specs.Refusals.{answersFull}
 use Rattle.engine.specs.Opening.{openedState}
 use Rattle.engine.specs.Commands as commands
 use Rattle.engine.specs.Engine.{Bytes, code}
 use Rattle.engine.specs.Run.{Ran, runFrom}
+use Rattle.engine.specs.Demand3.{sessionAfter}
+use Rattle.engine.specs.State.{EngineState}
 use Rattle.engine.specs.Execution.{perform}
 use Rattle.engine.specs.StateRows.{sharedFrom, stateFrom, Performs}
 use Rattle.engine.specs.ExecutionInternals.{TakenBack}
+use Rattle.engine.specs.declared.run.Progress.{Progress}
 use Rattle.clocks.specs.Layout.{WordRows, FloatRows}
 
 -- the number that ends a run, or 0, with the answers and the result
@@ -81,6 +85,42 @@ pub record AnswersUndone (stream : Bytes) (n : ℕ) (w : WordRows) (f : FloatRow
   pub taken : TakenBack w f (perform stream n (stateFrom w f) c) w′ f′ answer
   pub by-number : accepted ≡ eqb (answer .number) 0
   pub written : answers′ ≡ cond accepted (bothAnswered answer answers place) (withAnswer answers place answer)
+
+-- the state and the journal of an engine that was opened with a journal of n bytes and given some inputs
+pub record Reached (stream : Bytes) (n : ℕ) (s : EngineState) (j : Bytes) : Type 0 where
+  pub inputs : List Bytes
+  pub state : sessionAfter stream n inputs .state ≡ s
+  pub journal : sessionAfter stream n inputs .journal ≡ j
+
+-- where a run stands between two inputs: an engine in use, whose state the rows hold unless they are stale, and the length of its applied
+-- commands. Each command answered has taken a byte or more of the commands, and the place of its answer
+pub record Stands (commands stream : Bytes) (w : WordRows) (f : FloatRows) (journal answers : Bytes) (p : Progress) : Type 0 where
+  pub state : EngineState
+  pub reached : Reached stream (length journal) state journal
+  pub fresh : p .stale ≡ false → stateFrom w f ≡ state
+  pub applied : p .applied ≡ state .shared .«applied_length»
+  pub few : p .answered ≤ p .read
+  pub within : p .read ≤ length commands
+  pub room : answerWidth * p .answered ≤ length answers
+
+-- what the run gives from there, with the engine in the state s
+abbrev pub leftRun : Bytes → Bytes → EngineState → Bytes → Bytes → Progress → Ran
+leftRun commands stream s journal answers p =
+    runFrom (length commands - p .answered) stream s journal answers (p .answered) (p .read) (drop (p .read) commands)
+
+-- the input there is a whole command, and its answer has room
+pub record HasInput (commands answers : Bytes) (p : Progress) : Type 0 where
+  pub wide : 0 < widthOf (code (drop (p .read) commands))
+  pub long : widthOf (code (drop (p .read) commands)) ≤ length (drop (p .read) commands)
+  pub space : answerWidth * p .answered + answerWidth ≤ length answers
+
+-- what an input leaves that is answered, alone or with the UNDO after it: the run stands further on, and gives from there what it gave
+-- from where it stood, in the state s
+pub record AnswersInput (commands stream : Bytes) (s : EngineState) (journal answers : Bytes) (p : Progress) (w′ : WordRows)
+    (f′ : FloatRows) (journal′ answers′ : Bytes) (p′ : Progress) : Type 0 where
+  pub stands : Stands commands stream w′ f′ journal′ answers′ p′
+  pub further : p .read < p′ .read
+  pub same : leftRun commands stream (stands .state) journal′ answers′ p′ ≡ leftRun commands stream s journal answers p
 
 -- the run from opening, with a journal of n bytes
 abbrev pub openedRun : Bytes → Bytes → ℕ → Bytes → Ran

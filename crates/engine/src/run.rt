@@ -10,10 +10,10 @@ ghost use Rattle.hazards.specs.Answers.{answerWidth};
 ghost use Rattle.engine.specs.Refusals.{nothingApplied};
 ghost use Rattle.engine.specs.Run.{runOf, ran};
 ghost use Rattle.engine.specs.Commands.{widthOf, byteAt};
-ghost use Rattle.engine.specs.StateRows.{sharedFrom};
+ghost use Rattle.engine.specs.StateRows.{sharedFrom, SizedState};
 ghost use Rattle.engine.specs.ExecutionInternals.{Ready};
 ghost use Rattle.engine.specs.RunInternals.{stop, stopAt, journalAndAnswers, answerAt, isUndone, AnswersCommand, AnswersUndone};
-ghost use Rattle.engine.specs.RunInternals.{openedRun};
+ghost use Rattle.engine.specs.RunInternals.{Stands, HasInput, AnswersInput, openedRun};
 use crate::execution::perform;
 use crate::execution::perform_reverted;
 use crate::refusals::ANSWERS_FULL;
@@ -30,6 +30,15 @@ use hazards::answers::put_answer;
 
 // Room for a command's answer and that of an UNDO after it.
 const TWO_ANSWERS: usize = 2 * ANSWER_WIDTH;
+
+// Where a run stands between two inputs: the length of the applied commands, whether the state is stale, that is, not the one that they
+// give, and the commands answered and bytes read so far.
+pub struct Progress {
+    pub applied: usize,
+    pub stale: bool,
+    pub answered: usize,
+    pub read: usize,
+}
 
 // Whether the stream is whole thresholds and the result has its bytes.
 fn are_usable(stream: &[u8], result: &[u8]) -> bool
@@ -163,8 +172,58 @@ fn undo_number(applied: usize) -> u8
     }
 }
 
-// The commands, one after another, from opening. A state that is reached from opening needs no validation. UNDO changes the journal alone;
-// the state is stale after it until a command needs it, when the applied commands are replayed.
+// The next input, a whole command whose answer has room: answered, and with it an UNDO that reverts it at once. UNDO changes the journal
+// alone; the state is stale after it until a command needs it, when the applied commands are replayed. Where the run stands then.
+fn answer_input(
+    words: &mut [[u64; 8]],
+    floats: &mut [[f64; 8]],
+    commands: &[u8],
+    stream: &[u8],
+    journal: &mut [u8],
+    answers: &mut [u8],
+    p: Progress,
+) -> Progress
+    requires { ⌜ Stands (now commands) (now stream) (now words) (now floats) (now journal) (now answers) p
+        × HasInput (now commands) (now answers) p × SizedState (now words) (now floats) ⌝ }
+    ensures { λ r. ⌜ ((before : Stands (now (commands .entry)) (now (stream .entry)) (now (words .entry)) (now (floats .entry))
+        (now (journal .entry)) (now (answers .entry)) p)
+        → AnswersInput (now (commands .entry)) (now (stream .entry)) (before .state) (now (journal .entry)) (now (answers .entry)) p
+        (now (words .exit)) (now (floats .exit)) (now (journal .exit)) (now (answers .exit)) r) ⌝ }
+{
+    let place = ANSWER_WIDTH * p.answered;
+    let at = p.read;
+    let code = commands[at];
+    let end = at + crate::commands::width(code);
+    let applied = p.applied;
+    let mut next = Progress {
+        applied,
+        stale: false,
+        answered: p.answered + 1,
+        read: end,
+    };
+    if code == crate::commands::UNDO {
+        put_answer(answers, place, no_event(undo_number(applied)));
+        next.applied = crate::replay::revert(journal, applied);
+        next.stale = true;
+        return next;
+    }
+    let size = journal.len();
+    if p.stale {
+        replay(words, floats, stream, size, &journal[..applied]);
+    }
+    let command = &commands[at..end];
+    if is_undone(&commands[end..], answers, place) {
+        if answer_undone(words, floats, stream, size, answers, place, command) {
+            next.answered = next.answered + 1;
+            next.read = end + 1;
+        }
+        return next;
+    }
+    next.applied = answer_command(words, floats, stream, journal, answers, place, command);
+    next
+}
+
+// The commands, one after another, from opening. A state that is reached from opening needs no validation.
 fn run_commands(
     commands: &[u8],
     stream: &[u8],
@@ -179,58 +238,29 @@ fn run_commands(
     let mut words: [[u64; 8]; STATE_WORDS] = [[0; 8]; STATE_WORDS];
     let mut floats: [[f64; 8]; STATE_FLOATS] = [[0.0; 8]; STATE_FLOATS];
     crate::opening::open_state(&mut words, &mut floats);
-    let size = journal.len();
-    let mut applied: usize = 0;
-    let mut stale = false;
-    let mut answered: usize = 0;
-    let mut at: usize = 0;
-    while at < commands.len() {
-        let number = end_run(&commands[at..], answers, result, answered, at);
+    let mut p = Progress {
+        applied: 0,
+        stale: false,
+        answered: 0,
+        read: 0,
+    };
+    while p.read < commands.len() {
+        let at = p.read;
+        let number = end_run(&commands[at..], answers, result, p.answered, at);
         if number != 0 {
             return number;
         }
-        let place = ANSWER_WIDTH * answered;
-        let start = at;
-        let code = commands[start];
-        at = start + crate::commands::width(code);
-        answered = answered + 1;
-        if code == crate::commands::UNDO {
-            put_answer(answers, place, no_event(undo_number(applied)));
-            applied = crate::replay::revert(journal, applied);
-            stale = true;
-            continue;
-        }
-        if stale {
-            replay(&mut words, &mut floats, stream, size, &journal[..applied]);
-            stale = false;
-        }
-        let command = &commands[start..at];
-        if is_undone(&commands[at..], answers, place) {
-            if answer_undone(
-                &mut words,
-                &mut floats,
-                stream,
-                size,
-                answers,
-                place,
-                command,
-            ) {
-                at = at + 1;
-                answered = answered + 1;
-            }
-            continue;
-        }
-        applied = answer_command(
+        p = answer_input(
             &mut words,
             &mut floats,
+            commands,
             stream,
             journal,
             answers,
-            place,
-            command,
+            p,
         );
     }
-    finish(result, answered, at);
+    finish(result, p.answered, p.read);
     0
 }
 
