@@ -135,7 +135,7 @@ fn winner_in(row: &[u64; 8], time: f64) -> Winner
     }
 }
 
-// Event, winner, active flag and time of the last update, all else as it was.
+// Event, winner, active flag and time of the last update; the rest of the clock stays.
 fn put_schedule<'a>(
     words: &'a mut [[u64; 8]],
     floats: &'a mut [[f64; 8]],

@@ -86,7 +86,7 @@ pub mod FrontRefusals
 pub mod RunAnswers
 pub mod RunTurns
 pub mod RunUndos
-pub mod RunStands
+pub mod OngoingRuns
 pub mod RunReverts
 pub mod RunCommands
 -- demand 3 in lent memory

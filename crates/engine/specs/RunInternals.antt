@@ -1,5 +1,5 @@
--- What the code's answers mean: a batch run in its parts: what ends it before an input, one command answered, where it stands between two
--- inputs, and the run from opening.
+-- What the code's answers mean: a batch run in its parts: what ends it before an input, one command answered, the run between two inputs,
+-- and the run from opening.
 use mathlib.Core.Path.{_≡_}
 use mathlib.Core.Bool.{Bool, false, cond, _&&_}
 use mathlib.Core.List.{List, _++_}
@@ -92,9 +92,9 @@ pub record Reached (stream : Bytes) (n : ℕ) (s : EngineState) (j : Bytes) : Ty
   pub state : sessionAfter stream n inputs .state ≡ s
   pub journal : sessionAfter stream n inputs .journal ≡ j
 
--- where a run stands between two inputs: an engine in use, whose state the rows hold unless they are stale, and the length of its applied
+-- a run between two inputs: an engine in use, whose state the rows hold unless they are stale, and the length of its applied
 -- commands. Each command answered has taken a byte or more of the commands, and the place of its answer
-pub record Stands (commands stream : Bytes) (w : WordRows) (f : FloatRows) (journal answers : Bytes) (p : Progress) : Type 0 where
+pub record Ongoing (commands stream : Bytes) (w : WordRows) (f : FloatRows) (journal answers : Bytes) (p : Progress) : Type 0 where
   pub state : EngineState
   pub reached : Reached stream (length journal) state journal
   pub fresh : p .stale ≡ false → stateFrom w f ≡ state
@@ -103,9 +103,9 @@ pub record Stands (commands stream : Bytes) (w : WordRows) (f : FloatRows) (jour
   pub within : p .read ≤ length commands
   pub room : answerWidth * p .answered ≤ length answers
 
--- what the run gives from there, with the engine in the state s
-abbrev pub leftRun : Bytes → Bytes → EngineState → Bytes → Bytes → Progress → Ran
-leftRun commands stream s journal answers p =
+-- what the run gives from there on, with the engine in the state s
+abbrev pub restOfRun : Bytes → Bytes → EngineState → Bytes → Bytes → Progress → Ran
+restOfRun commands stream s journal answers p =
     runFrom (length commands - p .answered) stream s journal answers (p .answered) (p .read) (drop (p .read) commands)
 
 -- the input there is a whole command, and its answer has room
@@ -114,13 +114,13 @@ pub record HasInput (commands answers : Bytes) (p : Progress) : Type 0 where
   pub long : widthOf (code (drop (p .read) commands)) ≤ length (drop (p .read) commands)
   pub space : answerWidth * p .answered + answerWidth ≤ length answers
 
--- what an input leaves that is answered, alone or with the UNDO after it: the run stands further on, and gives from there what it gave
--- from where it stood, in the state s
+-- what an input leaves that is answered, alone or with the UNDO after it: the run is further on, and gives from there what it gave from
+-- before the input, in the state s
 pub record AnswersInput (commands stream : Bytes) (s : EngineState) (journal answers : Bytes) (p : Progress) (w′ : WordRows)
     (f′ : FloatRows) (journal′ answers′ : Bytes) (p′ : Progress) : Type 0 where
-  pub stands : Stands commands stream w′ f′ journal′ answers′ p′
+  pub ongoing : Ongoing commands stream w′ f′ journal′ answers′ p′
   pub further : p .read < p′ .read
-  pub same : leftRun commands stream (stands .state) journal′ answers′ p′ ≡ leftRun commands stream s journal answers p
+  pub same : restOfRun commands stream (ongoing .state) journal′ answers′ p′ ≡ restOfRun commands stream s journal answers p
 
 -- the run from opening, with a journal of n bytes
 abbrev pub openedRun : Bytes → Bytes → ℕ → Bytes → Ran

@@ -13,7 +13,7 @@ ghost use Rattle.engine.specs.Commands.{widthOf, byteAt};
 ghost use Rattle.engine.specs.StateRows.{sharedFrom, SizedState};
 ghost use Rattle.engine.specs.ExecutionInternals.{Ready};
 ghost use Rattle.engine.specs.RunInternals.{stop, stopAt, journalAndAnswers, answerAt, isUndone, AnswersCommand, AnswersUndone};
-ghost use Rattle.engine.specs.RunInternals.{Stands, HasInput, AnswersInput, openedRun};
+ghost use Rattle.engine.specs.RunInternals.{Ongoing, HasInput, AnswersInput, openedRun};
 use crate::execution::perform;
 use crate::execution::perform_reverted;
 use crate::refusals::ANSWERS_FULL;
@@ -31,13 +31,13 @@ use hazards::answers::put_answer;
 // Room for a command's answer and that of an UNDO after it.
 const TWO_ANSWERS: usize = 2 * ANSWER_WIDTH;
 
-// Where a run stands between two inputs: the length of the applied commands, whether the state is stale, that is, not the one that they
-// give, and the commands answered and bytes read so far.
-pub struct Progress {
-    pub applied: usize,
-    pub stale: bool,
-    pub answered: usize,
-    pub read: usize,
+// A run between two inputs: the length of the applied commands, whether the state is stale, that is, may not be the one that they give,
+// and the commands answered and bytes read so far.
+struct Progress {
+    applied: usize,
+    stale: bool,
+    answered: usize,
+    read: usize,
 }
 
 // Whether the stream is whole thresholds and the result has its bytes.
@@ -173,7 +173,7 @@ fn undo_number(applied: usize) -> u8
 }
 
 // The next input, a whole command whose answer has room: answered, and with it an UNDO that reverts it at once. UNDO changes the journal
-// alone; the state is stale after it until a command needs it, when the applied commands are replayed. Where the run stands then.
+// alone; the state is stale after it until a command needs it, when the applied commands are replayed.
 fn answer_input(
     words: &mut [[u64; 8]],
     floats: &mut [[f64; 8]],
@@ -183,9 +183,9 @@ fn answer_input(
     answers: &mut [u8],
     p: Progress,
 ) -> Progress
-    requires { ⌜ Stands (now commands) (now stream) (now words) (now floats) (now journal) (now answers) p
+    requires { ⌜ Ongoing (now commands) (now stream) (now words) (now floats) (now journal) (now answers) p
         × HasInput (now commands) (now answers) p × SizedState (now words) (now floats) ⌝ }
-    ensures { λ r. ⌜ ((before : Stands (now (commands .entry)) (now (stream .entry)) (now (words .entry)) (now (floats .entry))
+    ensures { λ r. ⌜ ((before : Ongoing (now (commands .entry)) (now (stream .entry)) (now (words .entry)) (now (floats .entry))
         (now (journal .entry)) (now (answers .entry)) p)
         → AnswersInput (now (commands .entry)) (now (stream .entry)) (before .state) (now (journal .entry)) (now (answers .entry)) p
         (now (words .exit)) (now (floats .exit)) (now (journal .exit)) (now (answers .exit)) r) ⌝ }

@@ -32,7 +32,7 @@ fn wrong_words_are_told() {
         ),
         (
             "sweep - --seed 1 --streams 1 --csv out.csv",
-            "`olgaemuri sweep` takes one SESSION, or - for standard input, not also `out.csv`; `--csv` and `--json` print the summary, and `--rows OUT` writes",
+            "`olgaemuri sweep` takes one SESSION, or - for standard input, not `-` and `out.csv`; `--csv` and `--json` print the summary, and `--rows OUT` writes",
         ),
         (
             "sweep - --seed 1",

@@ -17,7 +17,7 @@ use Rattle.engine.specs.Engine.{code}
 use Rattle.engine.specs.Instance.{engineOf}
 use Rattle.engine.specs.StateRows.{stateFrom, SizedState}
 use Rattle.engine.specs.ExecutionInternals.{Ready}
-use Rattle.engine.specs.RunInternals.{isUndone, Stands, leftRun}
+use Rattle.engine.specs.RunInternals.{isUndone, Ongoing, restOfRun}
 use Rattle.engine.specs.State.{EngineState}
 use Rattle.engine.proofs.CommandLists.{Whole}
 use Rattle.engine.proofs.JournalBytes.{restOf, partOf, code-at}
@@ -27,14 +27,14 @@ use Rattle.engine.proofs.RunReverts.{undone-within, undone-room}
 use Rattle.engine.proofs.RunTurns.{Input, running-sound, input-fits, command-whole}
 use Rattle.engine.proofs.RunCommands.{goes-on-command, goes-on-undone, goes-on-refused}
 use Rattle.engine.proofs.RunUndos.{replayed-current, next-deferred}
-use Rattle.engine.proofs.RunStands.{stands-input, input-answered}
+use Rattle.engine.proofs.OngoingRuns.{ongoing-input, input-answered}
 use Rattle.engine.proofs.run.answer_input.Statement.{statement}
 use Rattle.engine.proofs.run.answer_input.Tie as tie
 
--- where the run stands before the input
+-- the run before the input
 abbrev Before : tie.Start → Type 0
 Before m =
-    Stands (m .args .commands .now) (m .args .stream .now) (m .args .words .now) (m .args .floats .now) (m .args .journal .now)
+    Ongoing (m .args .commands .now) (m .args .stream .now) (m .args .words .now) (m .args .floats .now) (m .args .journal .now)
     (m .args .answers .now) (m .args .p)
 
 mul-place : tie.Need-mul-place
@@ -58,11 +58,11 @@ bytes c = start c .args .commands .now
 abbrev place : tie.After-width → ℕ
 place c = start c .args .p .read
 
--- at this input, in a run that stands there; s is the state that it is executed in
+-- at this input; s is the state that it is executed in
 abbrev Here : (c : tie.After-width) → Before (start c) → EngineState → Type 0
 Here c b s =
     Input (bytes c) (start c .args .stream .now) (length (start c .args .journal .now)) (length (start c .args .answers .now))
-    (leftRun (bytes c) (start c .args .stream .now) (b .state) (start c .args .journal .now) (start c .args .answers .now)
+    (restOfRun (bytes c) (start c .args .stream .now) (b .state) (start c .args .journal .now) (start c .args .answers .now)
     (start c .args .p))
     (start c .args .journal .now) (start c .args .answers .now) s (start c .args .p .answered) (place c)
 
@@ -73,7 +73,7 @@ commands-bound : (c : tie.After-width) → length (bytes c) < 2 ^ 63
 commands-bound c = omega arith
 
 input : (c : tie.After-width) (b : Before (start c)) → Here c b (b .state)
-input c b = stands-input _ _ b (bound c) (start c .pre .1)
+input c b = ongoing-input _ _ b (bound c) (start c .pre .1)
 
 -- what is applied lies in the journal
 within-journal : (c : tie.After-width) → start c .args .p .applied ≤ length (start c .args .journal .now)
@@ -222,42 +222,42 @@ is-undone-requires : tie.Need-is-undone-requires
 is-undone-requires c κs = search needs
 
 -- the state that the command is performed on, from the test of the next input
-abbrev freshened : tie.After-is-undone → tie.Joined2
-freshened c = c .before .before .before .before
+abbrev withState : tie.After-is-undone → tie.Joined2
+withState c = c .before .before .before .before
 
-abbrev widthed : tie.After-is-undone → tie.After-width
-widthed c = widthAt (freshened c)
+abbrev withWidth : tie.After-is-undone → tie.After-width
+withWidth c = widthAt (withState c)
 
 abbrev nextAt : tie.After-is-undone → ℕ
-nextAt c = place (widthed c) + widthed c .width .result
+nextAt c = place (withWidth c) + withWidth c .width .result
 
 abbrev room : tie.After-is-undone → ℕ
-room c = length (start (widthed c) .args .answers .now)
+room c = length (start (withWidth c) .args .answers .now)
 
 abbrev placeAt : tie.After-is-undone → ℕ
-placeAt c = answerWidth * start (widthed c) .args .p .answered
+placeAt c = answerWidth * start (withWidth c) .args .p .answered
 
 -- the next input is an UNDO whose answer has room
 next-is : (c : tie.Then3)
-    → isUndone (restOf (bytes (widthed (c .before))) (nextAt (c .before))) (room (c .before)) (placeAt (c .before)) ≡ true
+    → isUndone (restOf (bytes (withWidth (c .before))) (nextAt (c .before))) (room (c .before)) (placeAt (c .before)) ≡ true
 next-is c = sym (c .before .is-undone .ensures) ∙ c .if3 .taken
 
 answer-undone-requires : tie.Need-answer-undone-requires
 answer-undone-requires c κs =
     let t = c .before .before .before in
     let u = t .before in
-    let k = whole (freshened u) in
-    let both = undone-room (bytes (widthed u)) (nextAt u) (room u) (placeAt u) (next-is t) in
-    (ready (freshened u), omega (arith, k .len, k .pos), k .other, both)
+    let k = whole (withState u) in
+    let both = undone-room (bytes (withWidth u)) (nextAt u) (room u) (placeAt u) (next-is t) in
+    (ready (withState u), omega (arith, k .len, k .pos), k .other, both)
 
 abbrev tested : tie.After-answer-undone → tie.After-is-undone
 tested c = c .before .before .before .before .before
 
 -- the UNDO after it is there
-within : (c : tie.After-answer-undone) → nextAt (tested c) < length (bytes (widthed (tested c)))
+within : (c : tie.After-answer-undone) → nextAt (tested c) < length (bytes (withWidth (tested c)))
 within c =
     let t = tested c in
-    undone-within (bytes (widthed t)) (nextAt t) (room t) (placeAt t) (next-is (c .before .before .before .before))
+    undone-within (bytes (withWidth t)) (nextAt t) (room t) (placeAt t) (next-is (c .before .before .before .before))
 
 abbrev accepted : tie.After-struct-known3 → tie.After-answer-undone
 accepted c = c .before .before .before .before .before .before
@@ -265,22 +265,22 @@ accepted c = c .before .before .before .before .before .before
 add-next : tie.Need-add-next
 add-next c =
     let t = tested (accepted c) in
-    let f = fits (widthed t) in
-    omega (arith, within (accepted c), f .0, start (widthed t) .pre .0 .few, commands-bound (widthed t))
+    let f = fits (withWidth t) in
+    omega (arith, within (accepted c), f .0, start (withWidth t) .pre .0 .few, commands-bound (withWidth t))
 
 add-next-2 : tie.Need-add-next-2
-add-next-2 c = omega (arith, within (accepted c), commands-bound (widthed (tested (accepted c))))
+add-next-2 c = omega (arith, within (accepted c), commands-bound (withWidth (tested (accepted c))))
 
 -- the rows keep their sizes
 words-kept : (m : tie.After-answer-undone)
-    → length (m .answer-undone .last .0) ≡ length (start (widthed (tested m)) .args .words .now)
+    → length (m .answer-undone .last .0) ≡ length (start (withWidth (tested m)) .args .words .now)
 words-kept m =
-    m .answer-undone .kept .0 ∙ (sized (freshened (tested m)) .words ∙ sym (start (widthed (tested m)) .pre .2 .words))
+    m .answer-undone .kept .0 ∙ (sized (withState (tested m)) .words ∙ sym (start (withWidth (tested m)) .pre .2 .words))
 
 floats-kept : (m : tie.After-answer-undone)
-    → length (m .answer-undone .last .1 .0) ≡ length (start (widthed (tested m)) .args .floats .now)
+    → length (m .answer-undone .last .1 .0) ≡ length (start (withWidth (tested m)) .args .floats .now)
 floats-kept m =
-    m .answer-undone .kept .1 .0 ∙ (sized (freshened (tested m)) .floats ∙ sym (start (widthed (tested m)) .pre .2 .floats))
+    m .answer-undone .kept .1 .0 ∙ (sized (withState (tested m)) .floats ∙ sym (start (withWidth (tested m)) .pre .2 .floats))
 
 same-length-3 : tie.Need-same-length-3
 same-length-3 c = words-kept (accepted c)
@@ -294,7 +294,7 @@ same-length-5 c = search needs
 returns-2 : tie.Need-returns-2
 returns-2 c b =
     let m = accepted c in
-    let j = freshened (tested m) in
+    let j = withState (tested m) in
     let w = widthAt j in
     let f = fits w in
     input-answered _ _ (b .state)
@@ -315,7 +315,7 @@ same-length-8 c = search needs
 returns-3 : tie.Need-returns-3
 returns-3 c b =
     let m = c .before .before .before .before .before in
-    let j = freshened (tested m) in
+    let j = withState (tested m) in
     let w = widthAt j in
     let f = fits w in
     input-answered _ _ (b .state)
@@ -327,14 +327,14 @@ returns-3 c b =
 
 answer-command-requires : tie.Need-answer-command-requires
 answer-command-requires c κs =
-    let j = freshened (c .before .before .before .before .before) in
+    let j = withState (c .before .before .before .before .before) in
     let k = whole j in
     let free = counted j (start (widthAt j) .pre .0) in
     let shared = ap (λ p. p .«applied_length») (shared-read (j .if2 .words) (j .if2 .floats)) in
     (ready j, omega (arith, k .len, k .pos), k .other, omega (arith, within-journal (widthAt j), free, shared))
 
-abbrev unreverted : tie.After-answer-command → tie.Joined2
-unreverted c = freshened (c .before .before .before .before .before .before)
+abbrev notUndone : tie.After-answer-command → tie.Joined2
+notUndone c = withState (c .before .before .before .before .before .before)
 
 abbrev performed : tie.After-slice-known7 → tie.After-answer-command
 performed c = c .before .before .before .before .before .before
@@ -342,12 +342,12 @@ performed c = c .before .before .before .before .before .before
 same-length-9 : tie.Need-same-length-9
 same-length-9 c =
     let m = performed c in
-    m .answer-command .kept .0 ∙ (sized (unreverted m) .words ∙ sym (start (widthAt (unreverted m)) .pre .2 .words))
+    m .answer-command .kept .0 ∙ (sized (notUndone m) .words ∙ sym (start (widthAt (notUndone m)) .pre .2 .words))
 
 same-length-10 : tie.Need-same-length-10
 same-length-10 c =
     let m = performed c in
-    m .answer-command .kept .1 .0 ∙ (sized (unreverted m) .floats ∙ sym (start (widthAt (unreverted m)) .pre .2 .floats))
+    m .answer-command .kept .1 .0 ∙ (sized (notUndone m) .floats ∙ sym (start (widthAt (notUndone m)) .pre .2 .floats))
 
 same-length-11 : tie.Need-same-length-11
 same-length-11 c = search needs
@@ -358,7 +358,7 @@ same-length-12 c = search needs
 returns-4 : tie.Need-returns-4
 returns-4 c b =
     let m = performed c in
-    let j = unreverted m in
+    let j = notUndone m in
     let w = widthAt j in
     let f = fits w in
     input-answered _ _ (b .state)

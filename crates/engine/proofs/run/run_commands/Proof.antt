@@ -6,10 +6,10 @@ use borrow.Author.Needs.{needs}
 use lib.ListN.{length}
 use Rattle.engine.specs.StateRows.{stateFrom, SizedState}
 use Rattle.engine.specs.Run.{ran}
-use Rattle.engine.specs.RunInternals.{Stands, openedRun}
+use Rattle.engine.specs.RunInternals.{Ongoing, openedRun}
 use Rattle.engine.proofs.RunTurns.{Input, running-ends, run-stops, run-goes-on}
 use Rattle.engine.proofs.RunUndos.{Deferred, deferred-begins}
-use Rattle.engine.proofs.RunStands.{deferred-stands, goes-on-answered}
+use Rattle.engine.proofs.OngoingRuns.{deferred-ongoing, goes-on-answered}
 use Rattle.engine.proofs.run.run_commands.Statement.{statement}
 use Rattle.engine.proofs.run.run_commands.Tie as tie
 
@@ -100,13 +100,13 @@ input c =
     let l = turn (ended c) .loop in
     run-goes-on _ _ _ _ _ (l .inv .0 .running) (more (ended c)) (l .result) (ended c .end-run .ensures) (c .if2 .left)
 
--- where the run stands
+-- the run before this input
 abbrev standing : (c : tie.Else2 Inv-loop μ-loop)
-    → Stands (start c .args .commands .now) (start c .args .stream .now) (turn (ended c) .loop .words) (turn (ended c) .loop .floats)
+    → Ongoing (start c .args .commands .now) (start c .args .stream .now) (turn (ended c) .loop .words) (turn (ended c) .loop .floats)
     (turn (ended c) .loop .journal) (ended c .end-run .last .1 .0) (turn (ended c) .loop .p)
 standing c =
     let d = turn (ended c) .loop .inv .0 in
-    deferred-stands _ _ (record { current = d .current; running = input c .running; fresh = d .fresh; counted = d .counted })
+    deferred-ongoing _ _ (record { current = d .current; running = input c .running; fresh = d .fresh; counted = d .counted })
 
 slice-aggregate-answer-input : tie.Need-slice-aggregate-answer-input Inv-loop μ-loop
 slice-aggregate-answer-input c = search needs
@@ -131,7 +131,7 @@ loop-less : tie.Need-loop-less Inv-loop μ-loop
 loop-less c =
     let m = answered c in
     let after = m .answer-input .ensures (standing (passed m)) in
-    omega (arith, after .further, after .stands .within)
+    omega (arith, after .further, after .ongoing .within)
 
 loop-again : tie.Need-loop-again Inv-loop μ-loop
 loop-again c =

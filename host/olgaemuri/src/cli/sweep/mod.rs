@@ -65,15 +65,20 @@ pub fn sweep(arguments: &Arguments) -> Result<u8, Failure> {
     present(arguments, &summary, printed)
 }
 
-/// What is told where not one session is named. A second word is often meant as a file for the CSV.
+/// What is told where not one session is named. One of two words is often meant as a file for the CSV.
 fn not_one_session(arguments: &Arguments) -> String {
     let told = "`olgaemuri sweep` takes one SESSION, or - for standard input";
     if arguments.files.len() < 2 {
         return told.to_string();
     }
+    let named: Vec<String> = arguments
+        .files
+        .iter()
+        .map(|file| format!("`{file}`"))
+        .collect();
     format!(
-        "{told}, not also `{}`; `--csv` and `--json` print the summary, and `--rows OUT` writes the breakdowns to a file",
-        arguments.files[1]
+        "{told}, not {}; `--csv` and `--json` print the summary, and `--rows OUT` writes the breakdowns to a file",
+        named.join(" and ")
     )
 }
 
