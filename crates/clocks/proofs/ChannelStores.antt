@@ -12,7 +12,7 @@ use lib.Seq.{getD-set-same, getD-set-other}
 use Rattle.hazards.specs.Floats.{z, zeroBits}
 use Rattle.hazards.specs.Rates.{rateOfKind, kindNumber, ownRate}
 use Rattle.hazards.specs.declared.rates.HazardRate.{HazardRate}
-use Rattle.hazards.specs.declared.rates.HazardRate.the-variants.{Zero, Constant, Gompertz, Piecewise}
+use Rattle.hazards.specs.declared.rates.HazardRate.the-variants.{Zero, Constant, Gompertz, Piecewise, Weibull}
 use Rattle.hazards.proofs.Cases.{both-true}
 use Rattle.clocks.specs.Layout.{WordRows, FloatRows, byteFrom, channelFrom, channelAt, clockFrom, Sized, Leaves, Coded}
 use Rattle.clocks.specs.Layout.{codedWords, codedNumbers, codedChannel}
@@ -34,6 +34,7 @@ hazard-back Zero = refl
 hazard-back (Constant rate) = refl
 hazard-back (Gompertz eta) = refl
 hazard-back (Piecewise trailing) = refl
+hazard-back (Weibull scale) = refl
 
 module _ (c : HazardChannelState) (hc : c .«cause_id» < 4294967296) (hp : c .priority < 4294967296) where
   pub channel-back : channelFrom (wordsOf c) (numbersOf c) (c .intervals .ends) (c .intervals .rates) ≡ c
@@ -54,6 +55,7 @@ module _ (c : HazardChannelState) (hc : c .«cause_id» < 4294967296) (hp : c .p
   kind-coded (Constant rate) = refl
   kind-coded (Gompertz eta) = refl
   kind-coded (Piecewise trailing) = refl
+  kind-coded (Weibull scale) = refl
 
   words-coded : (h : HazardRate) → h ≡ c .hazard → codedWords (wordsOf c) ≡ true
   unfolding codedWords
@@ -61,6 +63,7 @@ module _ (c : HazardChannelState) (hc : c .«cause_id» < 4294967296) (hp : c .p
   words-coded (Constant rate) e = rw (← e, lt-ltb _ _ hc, lt-ltb _ _ hp)
   words-coded (Gompertz eta) e = rw (← e, lt-ltb _ _ hc, lt-ltb _ _ hp)
   words-coded (Piecewise trailing) e = rw (← e, lt-ltb _ _ hc, lt-ltb _ _ hp)
+  words-coded (Weibull scale) e = rw (← e, lt-ltb _ _ hc, lt-ltb _ _ hp)
 
   pub stored-coded : codedChannel (wordsOf c) (numbersOf c) ≡ true
   stored-coded = rw (words-coded (c .hazard) refl, kind-coded (c .hazard))

@@ -11,6 +11,7 @@ use lib.Dec.{eqb, ltb}
 use lib.Ieee.{Float}
 use lib.ListN.{getD}
 use Rattle.hazards.proofs.Cases.{by-test}
+use Rattle.hazards.specs.Rates.{kinds}
 use Rattle.clocks.specs.Layout.{codedWords, codedNumbers, codedChannel}
 use Rattle.clocks.proofs.EveryBelow.{and-false}
 
@@ -48,7 +49,7 @@ in-pairs false b c d = refl
 
 -- one channel more, of a kind that is on the list
 pub joined-more :
-    (ids spare : ℕ) (ws : List ℕ) → ltb (getD ws 2 0) 4 ≡ true
+    (ids spare : ℕ) (ws : List ℕ) → ltb (getD ws 2 0) kinds ≡ true
     → ((ltb ids 4294967296 && eqb spare 0) && codedWords ws)
     ≡ (ltb (bitOr ids (bitOr (getD ws 0 0) (getD ws 1 0))) 4294967296
     && eqb (bitOr spare (bitOr (bitOr (getD ws 4 0) (getD ws 5 0)) (bitOr (getD ws 6 0) (getD ws 7 0)))) 0)
@@ -69,9 +70,9 @@ joined-more ids spare ws h =
 
 -- a kind off the list, or numbers that are not its own
 pub not-coded :
-    (ws : List ℕ) (ns : List Float) → (ltb (getD ws 2 0) 4 && codedNumbers (getD ws 2 0) ns) ≡ false → codedChannel ws ns ≡ false
+    (ws : List ℕ) (ns : List Float) → (ltb (getD ws 2 0) kinds && codedNumbers (getD ws 2 0) ns) ≡ false → codedChannel ws ns ≡ false
 unfolding codedWords
 not-coded ws ns h =
-    by-test (ltb (getD ws 2 0) 4)
+    by-test (ltb (getD ws 2 0) kinds)
     (λ p. rw (rw p at h, and-false (codedWords ws)))
     (λ p. rw (p, and-false (ltb (getD ws 1 0) 4294967296), and-false (ltb (getD ws 0 0) 4294967296)))

@@ -15,7 +15,7 @@ use lib.Dec.{eqb, ltb}
 use lib.Ieee.{Float, nan}
 use lib.ListN.{length, getD}
 use Rattle.hazards.specs.Floats.{zeroBits}
-use Rattle.hazards.specs.Rates.{rateOfKind}
+use Rattle.hazards.specs.Rates.{kinds, rateOfKind}
 use Rattle.hazards.specs.Ties.{tieBreakerOf}
 use Rattle.clocks.specs.Clocks.{SurvivalClock, policyOf}
 use Rattle.clocks.specs.declared.channels.HazardChannelState.{HazardChannelState}
@@ -131,7 +131,7 @@ unfoldable pub codedWords : List ℕ → Bool
 codedWords ws =
     isU32 (getD ws 0 0)
     && (isU32 (getD ws 1 0)
-    && (ltb (getD ws 2 0) 4
+    && (ltb (getD ws 2 0) kinds
     && (eqb (getD ws 4 0) 0 && (eqb (getD ws 5 0) 0 && (eqb (getD ws 6 0) 0 && eqb (getD ws 7 0) 0)))))
 
 -- a hazard of kind 0 has no rate of its own: +0.0 stands there

@@ -6,6 +6,7 @@ ghost use Prim.Native.Nat.{_+_, _<_};
 ghost use lib.Dec.{ltb};
 ghost use lib.Ieee.{nan};
 ghost use lib.ListN.{length, getD};
+ghost use Rattle.hazards.specs.Rates.{kinds};
 ghost use Rattle.clocks.specs.Layout.{Sized, u32From, channelAt, clockFrom, codedSettings, codedSchedule, spareZero, codedTimes};
 ghost use Rattle.clocks.specs.Layout.{codedNumbers, codedChannels, codedClock};
 ghost use Rattle.clocks.specs.Validation.{isFinite, validChannel, validClock};
@@ -41,6 +42,7 @@ use crate::layout::WINNER_TIME;
 use crate::layout::byte_from;
 use crate::layout::u32_from;
 use hazards::floats::zero_bits;
+use hazards::rates::KINDS;
 
 // The first word that is no u32.
 const U32_END: u64 = 0x1_0000_0000;
@@ -74,14 +76,14 @@ fn times_coded(ts: &[f64; 8]) -> bool
 
 // A channel's kind, and its numbers by their kind.
 fn kind_coded(kind: u64, ns: &[f64; 8]) -> bool
-    ensures { λ r. ⌜ r ≡ (ltb kind 4 && codedNumbers kind (now (ns .entry))) ⌝ }
+    ensures { λ r. ⌜ r ≡ (ltb kind kinds && codedNumbers kind (now (ns .entry))) ⌝ }
 {
     if kind == 0 {
         if !zero_bits(ns[RATE]) {
             return false;
         }
     }
-    (kind < 4) && spare_zero(ns)
+    (kind < KINDS) && spare_zero(ns)
 }
 
 // Every channel, used or not. Causes with priorities, and what is spare, are joined bit by bit over all channels and tested once.

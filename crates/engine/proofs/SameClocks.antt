@@ -10,6 +10,7 @@ use lib.Dec.{eqb, ltb}
 use lib.Ieee.{Float, nan}
 use lib.ListN.{getD}
 use Rattle.hazards.specs.Floats.{zeroBits}
+use Rattle.hazards.specs.Rates.{kinds}
 use Rattle.hazards.proofs.Cases.{by-test, both-true}
 use Rattle.clocks.specs.Channels.{emptyChannel}
 use Rattle.clocks.specs.Layout.{WordRows, FloatRows, everyBelow, channelFrom, channelAt, clockOf, clockFrom, presentIn}
@@ -62,7 +63,7 @@ abbrev wordTests : List ℕ → List Bool
 wordTests ws =
     isU32 (getD ws 0 0)
     ∷ isU32 (getD ws 1 0)
-    ∷ ltb (getD ws 2 0) 4
+    ∷ ltb (getD ws 2 0) kinds
     ∷ eqb (getD ws 4 0) 0
     ∷ eqb (getD ws 5 0) 0
     ∷ eqb (getD ws 6 0) 0

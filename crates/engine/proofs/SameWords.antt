@@ -14,7 +14,7 @@ use mir.Facts.{toZ-inj}
 use mir.Syntax.{w32}
 use mir.Val.{toZ}
 use Rattle.hazards.specs.Floats.{z, zeroBits}
-use Rattle.hazards.specs.Rates.{rateOfKind, kindNumber, ownRate}
+use Rattle.hazards.specs.Rates.{kinds, rateOfKind, kindNumber, ownRate}
 use Rattle.hazards.specs.Ties.{tieBreakerOf, tieNumber}
 use Rattle.hazards.proofs.Cases.{by-test, both-true}
 use Rattle.clocks.specs.Clocks.{policyOf, policyNumber}
@@ -66,12 +66,13 @@ tie-number (suc zero) h = refl
 tie-number (suc (suc zero)) h = refl
 tie-number (suc (suc (suc x))) h = absurd (omega (arith, ltb-true (suc (suc (suc x))) 3 h))
 
-kind-number : (x : ℕ) (rate : Float) → ltb x 4 ≡ true → kindNumber (rateOfKind (byteFrom x) rate) ≡ x
+kind-number : (x : ℕ) (rate : Float) → ltb x kinds ≡ true → kindNumber (rateOfKind (byteFrom x) rate) ≡ x
 kind-number zero rate h = refl
 kind-number (suc zero) rate h = refl
 kind-number (suc (suc zero)) rate h = refl
 kind-number (suc (suc (suc zero))) rate h = refl
-kind-number (suc (suc (suc (suc x)))) rate h = absurd (omega (arith, ltb-true (suc (suc (suc (suc x)))) 4 h))
+kind-number (suc (suc (suc (suc zero)))) rate h = refl
+kind-number (suc (suc (suc (suc (suc x))))) rate h = absurd (omega (arith, ltb-true (suc (suc (suc (suc (suc x))))) kinds h))
 
 flags-as-numbers : (a b : Bool) → sameFlag a b ≡ eqb (cond a 1 0) (cond b 1 0)
 flags-as-numbers true true = refl
@@ -136,16 +137,17 @@ zeros-same = refl
 abbrev RateCoded : ℕ → Float → Type 0
 RateCoded kind rate = (not (eqb kind 0) || zeroBits rate) ≡ true
 
-rates-as : (kind : ℕ) (x y : Float) → ltb kind 4 ≡ true → RateCoded kind x → RateCoded kind y
+rates-as : (kind : ℕ) (x y : Float) → ltb kind kinds ≡ true → RateCoded kind x → RateCoded kind y
     → sameFloat (ownRate (rateOfKind (byteFrom kind) x)) (ownRate (rateOfKind (byteFrom kind) y)) ≡ sameFloat x y
 unfolding ownRate
 rates-as zero x y h p q = zeros-same ∙ sym (zero-floats x y p q)
 rates-as (suc zero) x y h p q = refl
 rates-as (suc (suc zero)) x y h p q = refl
 rates-as (suc (suc (suc zero))) x y h p q = refl
-rates-as (suc (suc (suc (suc kind)))) x y h p q = absurd (omega (arith, ltb-true (suc (suc (suc (suc kind)))) 4 h))
+rates-as (suc (suc (suc (suc zero)))) x y h p q = refl
+rates-as (suc (suc (suc (suc (suc kind))))) x y h p q = absurd (omega (arith, ltb-true (suc (suc (suc (suc (suc kind))))) kinds h))
 
-module _ (k l : ℕ) (x y : Float) (hk : ltb k 4 ≡ true) (hl : ltb l 4 ≡ true) (p : RateCoded k x) (q : RateCoded l y) where
+module _ (k l : ℕ) (x y : Float) (hk : ltb k kinds ≡ true) (hl : ltb l kinds ≡ true) (p : RateCoded k x) (q : RateCoded l y) where
   pub hazard-as : sameHazard (rateOfKind (byteFrom k) x) (rateOfKind (byteFrom l) y) ≡ (eqb k l && sameFloat x y)
   unfolding sameHazard
   hazard-as =

@@ -1,5 +1,6 @@
--- Floats above 0 and at most a finite one: finite, with a clear sign, and not at most 0.
-use mathlib.Core.Path.{_≡_, refl, sym, ap, subst}
+-- Floats above 0: infinite, or finite with a clear sign, which are not at most 0; and those at most a finite one.
+use mathlib.Core.Path.{_≡_, refl, sym, ap, _∙_, subst}
+use mathlib.Core.Logic.{_⊎_, inl, inr}
 use mathlib.Core.Bool.{true, false, _&&_, _||_}
 use Prim.Native.Nat.{ℕ, _*_, _<_}
 use native.Mathlib.Nat.{zero-mul, mul-pos}
@@ -18,6 +19,15 @@ above-is : (m : ℕ) (e : ℤ) → lt z (fin false m e) ≡ ltb 0 (m * up e * 1)
 unfolding lt
 above-is m e = ap (λ (n : ℕ). ltb n (m * up e * 1)) (zero-mul (down e))
 
+pub infinite-or-positive : (x : Float) → T (lt z x) → (x ≡ inf false) ⊎ T (positive x)
+unfolding lt
+infinite-or-positive nan h = absurd h
+infinite-or-positive (inf true) h = absurd h
+infinite-or-positive (inf false) h = inl refl
+infinite-or-positive (fin true m e) h = absurd h
+infinite-or-positive (fin false m e) h =
+    inr (lt→ltb 0 m (first-pos m (up e) (first-pos (m * up e) 1 (ltb→lt 0 (m * up e * 1) (subst T (above-is m e) h)))))
+
 pub above-positive : (x y : Float) → T (lt z x) → T (le x y) → T (positive y) → T (positive x)
 unfolding lt le
 above-positive nan y h k p = absurd h
@@ -35,6 +45,24 @@ positive-above (inf s) p = absurd p
 positive-above (fin true m e) p = absurd p
 positive-above (fin false m e) p =
     subst T (sym (above-is m e)) (lt→ltb 0 (m * up e * 1) (let q = mul-pos (ltb→lt 0 m p) (up-pos e) in omega arith))
+
+-- below the infinity
+pub positive-finite : (x : Float) → T (positive x) → lt x (inf false) ≡ true
+unfolding lt
+positive-finite nan p = absurd p
+positive-finite (inf s) p = absurd p
+positive-finite (fin s m e) p = refl
+
+pub infinity-not-below : lt (inf false) (inf false) ≡ false
+unfolding lt
+infinity-not-below = refl
+
+pub finite-positive : (x : Float) → T (lt z x) → T (lt x (inf false)) → T (positive x)
+finite-positive x h k = go (infinite-or-positive x h)
+  where
+    go : (x ≡ inf false) ⊎ T (positive x) → T (positive x)
+    go (inl e) = absurd (subst T (ap (λ (y : Float). lt y (inf false)) e ∙ infinity-not-below) k)
+    go (inr p) = p
 
 pub positive-signed : (x : Float) → T (positive x) → Signed false x
 positive-signed nan p = absurd p

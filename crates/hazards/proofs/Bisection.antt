@@ -1,10 +1,11 @@
 -- The first place at which a test holds, by bisection: the test is one that goes on holding once it holds.
 use mathlib.Core.Path.{_≡_, sym, _∙_}
 use mathlib.Core.Bool.{Bool, true, false, true≢false}
-use Prim.Native.Nat.{ℕ, suc, _+_, _≤_, _<_}
+use Prim.Native.Nat.{ℕ, zero, suc, _+_, _-_, _^_, _≤_, _<_}
 use native.Mathlib.Nat.{le-antisymm, lt-of-not-le, le-of-suc-le-suc}
 use native.Mathlib.Omega.{arith}
-use Rattle.hazards.specs.FirstPlace.{FirstPlace, Between}
+use lib.Pow.{pow-pos}
+use Rattle.hazards.specs.FirstPlace.{FirstPlace, Between, firstOf}
 use Rattle.hazards.proofs.Cases.{by-test}
 
 -- once it holds, it holds at every later place
@@ -78,3 +79,22 @@ module _ {test : ℕ → Bool} {from end : ℕ} where
           le-of-suc-le-suc
           (lt-of-not-le
           (λ (l : suc b ≤ a). true≢false (sym (q .holds (omega (arith, p .ends))) ∙ p .before b (q .begins) l)))
+
+  -- it is one of the 2^k places from `low` on: `firstOf` finds it by halves
+  halved : (k low : ℕ) → GoesOn test from end → Between test from end low (low + 2 ^ k - 1) → FirstPlace test from end (firstOf test k low)
+  unfolding firstOf
+  halved zero low m v = found v (omega arith)
+  halved (suc k) low m v =
+      let p = pow-pos k in
+      let e : low + 2 ^ k - 1 + 1 ≡ low + 2 ^ k = omega arith in
+      let f : low + 2 ^ suc k - 1 ≡ low + 2 ^ k + 2 ^ k - 1 = omega arith in
+      by-test (test (low + 2 ^ k - 1))
+      (λ t. rw t (halved k low m (lower-half v (omega arith) (omega arith) t)))
+      (λ t. rw t (halved k (low + 2 ^ k) m (rw (e, f) at (upper-half m v (omega arith) (omega arith) t))))
+
+-- over the 2^k places from `from` on, where the test holds at the last of them
+pub first-of : (test : ℕ → Bool) (k from : ℕ) → GoesOn test from (from + 2 ^ k) → test (from + 2 ^ k - 1) ≡ true
+    → FirstPlace test from (from + 2 ^ k) (firstOf test k from)
+first-of test k from m t =
+    let p = pow-pos k in
+    halved k from m (lower-half (whole (omega arith)) (omega arith) (omega arith) t)

@@ -14,6 +14,7 @@ pub mod DrawLaws
 pub mod EvaluationLaws
 pub mod Exact
 pub mod FiniteOrder
+pub mod FloatRoots
 pub mod HazardBounds
 pub mod JoinedFaults
 pub mod Largest
@@ -21,6 +22,7 @@ pub mod Limits
 pub mod ListLaws
 pub mod ListOrder
 pub mod Members
+pub mod NearestRoots
 pub mod OrderLaws
 pub mod Overwrite
 pub mod Pieces
@@ -42,6 +44,8 @@ pub mod UptoClamped
 pub mod UptoOperations
 pub mod UptoOrder
 pub mod WaitBounds
+pub mod WholeRoots
 pub mod Winners
 pub mod WorkedLists
 pub mod WorkedRates
+pub mod WorkedRoots

@@ -12,7 +12,9 @@ use lib.Ieee.Bits.{ofBits-toBits, toBits-lt}
 use lib.Ieee.Exact.{HasValue}
 use lib.Ieee.Order.{le-of-values}
 use lib.Ieee.Positive.{positive, positive-of-value, values-of-le}
-use Rattle.hazards.proofs.PatternValues.{infinityPattern, multiple, multiple-value, multiple-mono, multiple-lt, multiple-back}
+use Rattle.hazards.specs.Roots.{fieldsMultiple, multiple}
+use Rattle.hazards.specs.RootsInternals.{infinityPattern}
+use Rattle.hazards.proofs.PatternValues.{multiple-value, multiple-mono, multiple-lt, multiple-back}
 
 -- ---- patterns of no positive value
 
@@ -74,7 +76,7 @@ module _ (x : Float) (f : T (fits binary64 x)) (p : T (positive x)) where
       (multiple-value (toBits binary64 x) pattern-finite)
 
 multiple-zero : multiple 0 ≡ 0
-unfolding multiple
+unfolding fieldsMultiple multiple
 multiple-zero = refl
 
 pub pattern-positive : (b : ℕ) → 0 < b → b < infinityPattern → T (positive (ofBits binary64 b))

@@ -3,7 +3,7 @@ use mathlib.Core.Path.{_≡_, refl, sym, ap, _∙_, subst}
 use mathlib.Core.Bool.{Bool, true, false}
 use Prim.Native.Nat.{ℕ, zero, suc, _+_, _-_, _*_, _/_, _%_, _^_, _≤_, _<_}
 use native.Mathlib.Nat.{le-trans, le-of-eq, lt-of-lt-of-le, mod-eq-of-lt, mul-one, pow-succ', le-of-suc-le-suc, lt-of-not-le}
-use native.Mathlib.Nat.{not-le-of-lt, le-add-right}
+use native.Mathlib.Nat.{not-le-of-lt, le-add-right, add-comm}
 use native.Mathlib.Omega.{arith}
 use native.Mathlib.Numerals.{add-one}
 use borrow.Author.Tests.{lt-leb, ne-eqb, ltb-true, ltb-false}
@@ -11,19 +11,8 @@ use lib.Dec.{ltb, lit<}
 use lib.Pow.{pow-pos}
 use lib.Ieee.{binary64, ofBits, ofFields}
 use lib.Ieee.Exact.{HasValue, odd-sign}
-
--- the pattern of the infinity, one past that of the largest finite value
-abbrev pub infinityPattern : ℕ
-infinityPattern = 0x7ff0_0000_0000_0000
-
--- by the exponent's field and the digits
-unfoldable fieldsMultiple : ℕ → ℕ → ℕ
-fieldsMultiple zero t = t
-fieldsMultiple (suc k) t = (2 ^ 52 + t) * 2 ^ k
-
-unfoldable pub multiple : ℕ → ℕ
-unfolding fieldsMultiple
-multiple b = fieldsMultiple (b / 2 ^ 52) (b % 2 ^ 52)
+use Rattle.hazards.specs.Roots.{fieldsMultiple, multiple}
+use Rattle.hazards.specs.RootsInternals.{infinityPattern}
 
 -- ---- from a pattern to the next
 
@@ -90,6 +79,37 @@ multiple-lt a b h =
 
 pub multiple-back : (a b : ℕ) → multiple a ≤ multiple b → a ≤ b
 multiple-back a b h = le-of-suc-le-suc (lt-of-not-le (λ (g : suc b ≤ a). not-le-of-lt (multiple-lt b a g) h))
+
+-- ---- a pattern made of 53 digits p and the power of two that they are multiplied by
+
+pub multiple-made : (j p : ℕ) → 2 ^ 52 ≤ p → p < 2 ^ 53 → multiple (j * 2 ^ 52 + p) ≡ p * 2 ^ j
+unfolding multiple fieldsMultiple
+multiple-made j p l h =
+    let e : (j * 2 ^ 52 + p) / 2 ^ 52 ≡ suc j = omega arith in
+    let f : (j * 2 ^ 52 + p) % 2 ^ 52 ≡ p - 2 ^ 52 = omega arith in
+    let g : 2 ^ 52 + (p - 2 ^ 52) ≡ p = omega arith in
+    rw (e, f) (ap (λ (x : ℕ). x * 2 ^ j) g)
+
+-- and the one after it
+pub next-made : (j p : ℕ) → 2 ^ 52 ≤ p → p < 2 ^ 53 → multiple (j * 2 ^ 52 + p + 1) ≡ p * 2 ^ j + 2 ^ j
+unfolding spacing
+next-made j p l h =
+    let e : (j * 2 ^ 52 + p) / 2 ^ 52 ≡ suc j = omega arith in
+    rw (multiple-next (j * 2 ^ 52 + p), multiple-made j p l h, e)
+
+-- ---- the fields of a pattern
+
+by-fields : (b e t : ℕ) → b / 2 ^ 52 ≡ e → b % 2 ^ 52 ≡ t → multiple b ≡ fieldsMultiple e t
+unfolding multiple
+by-fields b e t p q = rw (p, q)
+
+pub multiple-subnormal : (b : ℕ) → b / 2 ^ 52 ≡ 0 → multiple b ≡ b % 2 ^ 52
+unfolding fieldsMultiple
+multiple-subnormal b e = by-fields b 0 (b % 2 ^ 52) e refl
+
+pub multiple-normal : (b k : ℕ) → b / 2 ^ 52 ≡ suc k → multiple b ≡ (b % 2 ^ 52 + 2 ^ 52) * 2 ^ k
+unfolding fieldsMultiple
+multiple-normal b k e = by-fields b (suc k) (b % 2 ^ 52) e refl ∙ ap (λ (x : ℕ). x * 2 ^ k) (add-comm (2 ^ 52) (b % 2 ^ 52))
 
 -- ---- the value
 

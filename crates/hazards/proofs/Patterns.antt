@@ -1,11 +1,11 @@
 -- NaN patterns, and the NaN that they all read as.
 -- Assumes nothing.
 use mathlib.Core.Path.{_≡_, refl, sym, _∙_, subst}
-use mathlib.Core.Bool.{Bool, true, false, not}
+use mathlib.Core.Bool.{Bool, true, false, not, true≢false}
 use Prim.Native.Nat.{ℕ, _%_, _^_, _<_, _≤_}
 use lib.Dec.{T}
 use borrow.Author.Tests.{lt-ltb, le-ltb}
-use lib.Ieee.{Float, nan, inf, fin, div, ne, ofBits, toBits, nanBits, isNan, binary64}
+use lib.Ieee.{Float, nan, inf, fin, div, lt, le, ne, ofBits, toBits, nanBits, isNan, binary64}
 use lib.Ieee.Bits.{nanBits-is, nanBits-above}
 use lib.Ieee.Compare.{differs-from-itself, nan-differs}
 
@@ -40,3 +40,24 @@ same-no-nan (fin s m e) t = tt
 pub nan-bits : toBits binary64 nan ≡ 0x7ff8_0000_0000_0000
 unfolding toBits
 nan-bits = refl
+
+-- ---- what is above something, or at least something, is a number
+pub above-number : (x y : Float) → lt x y ≡ true → T (not (isNan y))
+unfolding lt isNan
+above-number nan y h = absurd (true≢false (sym h))
+above-number (inf s) nan h = absurd (true≢false (sym h))
+above-number (fin s m e) nan h = absurd (true≢false (sym h))
+above-number (inf s) (inf t) h = tt
+above-number (inf s) (fin t n d) h = tt
+above-number (fin s m e) (inf t) h = tt
+above-number (fin s m e) (fin t n d) h = tt
+
+pub at-least-number : (x y : Float) → le x y ≡ true → T (not (isNan y))
+unfolding le isNan
+at-least-number nan y h = absurd (true≢false (sym h))
+at-least-number (inf s) nan h = absurd (true≢false (sym h))
+at-least-number (fin s m e) nan h = absurd (true≢false (sym h))
+at-least-number (inf s) (inf t) h = tt
+at-least-number (inf s) (fin t n d) h = tt
+at-least-number (fin s m e) (inf t) h = tt
+at-least-number (fin s m e) (fin t n d) h = tt

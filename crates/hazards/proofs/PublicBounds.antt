@@ -1,5 +1,5 @@
--- The values of the public calls, whatever they are given: none is a NaN, and none is below 0. A hazard is at most 2^40 and a cumulative
--- hazard at most 2^140; a wait may be infinite. The delta of the sampler's answer is finite.
+-- The values of the public calls, whatever they are given: none is a NaN, and none is below 0. A hazard is at most 2^121 and a cumulative
+-- hazard at most 2^160; a wait may be infinite. The delta of the sampler's answer is finite.
 use mathlib.Core.Path.{_≡_, refl}
 use mathlib.Core.Bool.{Bool, true, false, not, cond, _&&_}
 use mathlib.Core.List.{List, [], _∷_}
@@ -37,11 +37,11 @@ use Rattle.hazards.proofs.AcceptedFlags.{accepted, joined-accepted}
 use Rattle.hazards.proofs.AcceptedHazards.{not-false, accepted-sound}
 use Rattle.hazards.proofs.Cases.{by-test}
 use Rattle.hazards.proofs.HazardBounds.{hazard-upto, cumulative-upto}
-use Rattle.hazards.proofs.Limits.{positive-rate-upto, time-upto, time-stays}
+use Rattle.hazards.proofs.Limits.{limit-upto, rate-upto, positive-rate-upto, time-upto, time-stays, times}
 use Rattle.hazards.proofs.ListLaws.{foldl-append}
 use Rattle.hazards.proofs.SamplerLaws.{faultNumber, passed-faults}
 use Rattle.hazards.proofs.Upto.{for-fin, zero-upto}
-use Rattle.hazards.proofs.UptoClamped.{clamped-difference-upto}
+use Rattle.hazards.proofs.UptoClamped.{clamped-below, clamped-difference-upto}
 use Rattle.hazards.proofs.UptoOperations.{sub-upto}
 use Rattle.hazards.proofs.UptoOrder.{lt-le, zero-le-upto}
 use Rattle.hazards.proofs.WaitBounds.{invert-not-below}
@@ -61,18 +61,20 @@ module _ (f : HazardFields) (ok : Bool) (h : evaluationRefusal f ok ≡ 0) where
   limits-accepted : T ok
   limits-accepted = not-false ok (accepted (rangeFaultUnless ok) (joined-accepted (hazardFaults f) (rangeFaultUnless ok) h .1) .range)
 
-pub evaluated-hazard-upto : (f : HazardFields) (t : Float) → Upto (2 ^ 40) (evaluatedHazardAt f t .value)
+pub evaluated-hazard-upto : (f : HazardFields) (t : Float) → Upto (2 ^ 121) (evaluatedHazardAt f t .value)
 unfolding evaluatedHazardAt
 evaluated-hazard-upto f t =
-    value-of (Upto (2 ^ 40)) (evaluationRefusal f (inRange t)) _ (zero-upto (2 ^ 40))
-    (λ h. hazard-upto (hazardOf f) (intervalsOf f) t (hazard-accepted f (inRange t) h))
+    value-of (Upto (2 ^ 121)) (evaluationRefusal f (inRange t)) _ (zero-upto (2 ^ 121))
+    (λ h.
+    hazard-upto times (hazardOf f) (intervalsOf f) t (hazard-accepted f (inRange t) h)
+    (rate-upto t (limits-accepted f (inRange t) h)))
 
-pub evaluated-cumulative-upto : (f : HazardFields) (t : Float) → Upto (2 ^ 140) (evaluatedCumulativeHazard f t .value)
+pub evaluated-cumulative-upto : (f : HazardFields) (t : Float) → Upto (2 ^ 160) (evaluatedCumulativeHazard f t .value)
 unfolding evaluatedCumulativeHazard
 evaluated-cumulative-upto f t =
-    value-of (Upto (2 ^ 140)) (evaluationRefusal f (inRange t)) _ (zero-upto (2 ^ 140))
+    value-of (Upto (2 ^ 160)) (evaluationRefusal f (inRange t)) _ (zero-upto (2 ^ 160))
     (λ h.
-    cumulative-upto (hazardOf f) (intervalsOf f) t (hazard-accepted f (inRange t) h)
+    cumulative-upto times (hazardOf f) (intervalsOf f) t (hazard-accepted f (inRange t) h)
     (λ n. positive-rate-upto t n (limits-accepted f (inRange t) h)))
 
 wait-value : (wait : Wait) → NotBelow wait → Signed false (waitValued wait .value)
@@ -91,7 +93,7 @@ evaluated-inversion-signed f start w held =
     let wait = invertCumulativeHazard (hazardOf f) (intervalsOf f) start w in
     wait-value wait
     (invert-not-below (hazardOf f) (intervalsOf f) start (2 ^ 40) (hazard-accepted f ok h) held
-    (and-r (le minusLimit start) (le start limit) (and-l (inRange start) (inRange w) both))
+    (clamped-below start (and-r (le minusLimit start) (le start limit) (and-l (inRange start) (inRange w) both)) limit-upto)
     (λ n. positive-rate-upto w n (and-r (inRange start) (inRange w) both)) time-stays))
 
 -- ---- the sampler

@@ -9,10 +9,10 @@ use lib.Ieee.{Float, nan, inf, fin, isNan, binary64, fits, ofBits, toBits, div, 
 use lib.Ieee.Fits.{div-fits}
 use lib.Ieee.Bits.{is-true, ofBits-toBits, ofBits-fits}
 use lib.Ieee.Positive.{positive, between}
-use Rattle.hazards.specs.Floats.{z, limit, mostThreshold}
+use Rattle.hazards.specs.Floats.{z, limit, inverseLimit, mostThreshold}
 use Rattle.hazards.specs.Refusals.{noRate}
 use Rattle.hazards.specs.FirstPlace.{FirstPlace}
-use Rattle.hazards.specs.RateForWait.{shortestWait, withinLimits, Gives, answered, Answers, OneAnswer}
+use Rattle.hazards.specs.RateForWait.{withinLimits, Gives, answered, Answers, OneAnswer}
 use Rattle.hazards.specs.RateForWait.Answers.{smallest, none, outside}
 use Rattle.hazards.specs.RateForWaitInternals.{pastLimit, usedUpWithin, exactRate}
 use Rattle.hazards.specs.declared.rate_for_wait.RateForWait.{RateForWait}
@@ -57,19 +57,19 @@ signed-number (fin t m e) s = tt
 module _ (w wait : Float) (within : withinLimits w wait ≡ true) where
   -- ---- what the limits say
 
-  limits : (T (lt z w) × T (le w mostThreshold)) × (T (le shortestWait wait) × T (le wait limit))
+  limits : (T (lt z w) × T (le w mostThreshold)) × (T (le inverseLimit wait) × T (le wait limit))
   unfolding withinLimits
   limits =
-      let b = both-true (lt z w && le w mostThreshold) (le shortestWait wait && le wait limit) within in
+      let b = both-true (lt z w && le w mostThreshold) (le inverseLimit wait && le wait limit) within in
       let t = both-true (lt z w) (le w mostThreshold) (b .0) in
-      let d = both-true (le shortestWait wait) (le wait limit) (b .1) in
+      let d = both-true (le inverseLimit wait) (le wait limit) (b .1) in
       ((rw (t .0) tt, rw (t .1) tt), (rw (d .0) tt, rw (d .1) tt))
 
   pub threshold-positive : T (positive w)
   threshold-positive = above-positive w mostThreshold (limits .0 .0) (limits .0 .1) tt
 
   wait-positive : T (positive wait)
-  wait-positive = between shortestWait wait limit tt tt (limits .1 .0) (limits .1 .1)
+  wait-positive = between inverseLimit wait limit tt tt (limits .1 .0) (limits .1 .1)
 
   wait-upto : Upto (2 ^ 40) wait
   wait-upto = upto-le wait (positive-signed wait wait-positive) (limits .1 .1) limit-upto

@@ -1,13 +1,14 @@
--- Sums, products and differences of values that are `Upto` some bound: each is one rounding, of a fraction whose bound says where it lands.
+-- Sums, products, quotients and differences of values that are `Upto` some bound: each is one rounding, of a fraction whose bound says where it lands.
 use mathlib.Core.Path.{_≡_, refl}
 use mathlib.Core.Bool.{Bool, true, false, cond}
 use Prim.Native.Nat.{ℕ, zero, suc, _+_, _-_, _*_, _/_, _%_, _^_, _≤_, _<_, compare}
 use native.Mathlib.Nat.{le-trans, le-of-eq, sub-le, mul-one, mul-assoc, mul-le-mul-right, mul-le-mul, mul-mul-mul-comm, mul-pos}
-use native.Mathlib.Nat.{not-le-of-lt}
+use native.Mathlib.Nat.{not-le-of-lt, lt-irrefl, zero-mul}
 use native.Mathlib.Omega.{arith}
+use borrow.Author.Tests.{ne-eqb}
 use lib.IntN.{ℤ}
-use lib.Dec.{T, not-T, ltb, ltb→lt, lit<}
-use lib.Ieee.{Float, inf, Format, prec, emax, low, binary64, size, nearest, odd, units, round, add, sub, mul, le}
+use lib.Dec.{T, not-T, eqb, ltb, ltb→lt, lit<}
+use lib.Ieee.{Float, inf, fin, Format, prec, emax, low, binary64, up, size, nearest, odd, units, round, add, sub, mul, div, le}
 use lib.Ieee.Fits.{round-is}
 use lib.Ieee.Order.{round-mono}
 use lib.Ieee.Bits.{cond-no}
@@ -58,6 +59,17 @@ mul-is u v =
     for-fins (λ (x y : Float). mul binary64 x y ≡ round binary64 false (num x * num y) (den x * den y))
     (λ (m : ℕ) (e : ℤ) (n : ℕ) (d : ℤ). refl) u v
 
+divisor-counts : (n k : ℕ) → 0 < n * k → eqb n 0 ≡ false
+divisor-counts zero k h = absurd (lt-irrefl 0 (rw (zero-mul k) at h))
+divisor-counts (suc n) k h = ne-eqb (suc n) 0 (omega arith)
+
+pub div-is : {a b : ℕ} {x y : Float} → Upto a x → Upto b y → 0 < num y
+    → div binary64 x y ≡ round binary64 false (num x * den y) (num y * den x)
+unfolding div
+div-is u v =
+    for-fins (λ (x y : Float). 0 < num y → div binary64 x y ≡ round binary64 false (num x * den y) (num y * den x))
+    (λ (m : ℕ) (e : ℤ) (n : ℕ) (d : ℤ). λ (h : 0 < n * up d). rw (divisor-counts n (up d) h)) u v
+
 -- A / c - B / c, whose sign is set where it is below 0
 abbrev pub roundedDifference : Bool → ℕ → ℕ → ℕ → Float
 roundedDifference below A B c = cond below (round binary64 true (B - A) c) (round binary64 false (A - B) c)
@@ -100,6 +112,17 @@ mul-upto {a} {b} {x} {y} c u v l =
     rw (mul-is u v)
     (round-upto (num x * num y) (den x * den y) (a * b) (mul-pos (den-pos x) (den-pos y))
     (le-trans (mul-le-mul (num-upto u) (num-upto v)) (le-of-eq (mul-mul-mul-comm a (den x) b (den y)))) l)
+
+quotient-within : (m n p q a k : ℕ) → m ≤ a * p → q ≤ k * n → m * q ≤ a * k * (n * p)
+quotient-within m n p q a k h l = le-trans (mul-le-mul h l) (le-of-eq (omega arith))
+
+-- by a y of 1 / k or more
+pub div-upto : {a b : ℕ} {x y : Float} (k c : ℕ) → Upto a x → Upto b y → 0 < num y → den y ≤ k * num y → T (lands (a * k) c)
+    → Upto c (div binary64 x y)
+div-upto {a} {b} {x} {y} k c u v p h l =
+    rw (div-is u v p)
+    (round-upto (num x * den y) (num y * den x) (a * k) (mul-pos p (den-pos x))
+    (quotient-within (num x) (num y) (den x) (den y) a k (num-upto u) h) l)
 
 scaled-within : (m p q a : ℕ) → m ≤ a * p → m * q ≤ a * (p * q)
 scaled-within m p q a h = le-trans (mul-le-mul-right q h) (le-of-eq (mul-assoc a p q))

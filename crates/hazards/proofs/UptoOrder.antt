@@ -2,8 +2,8 @@
 use mathlib.Core.Path.{_≡_, refl, ap, _∙_}
 use mathlib.Core.Logic.{inl, inr}
 use mathlib.Core.Bool.{Bool, true, false, not, _&&_, _||_, true≢false}
-use Prim.Native.Nat.{ℕ, _*_, _≤_, _<_, zero-le}
-use native.Mathlib.Nat.{le-refl, le-trans, lt-of-not-le, eq-or-lt-of-le, le-of-eq, le-of-lt, zero-mul, mul-right-comm}
+use Prim.Native.Nat.{ℕ, suc, _*_, _≤_, _<_, zero-le}
+use native.Mathlib.Nat.{le-refl, le-trans, lt-of-not-le, eq-or-lt-of-le, le-of-eq, le-of-lt, zero-mul, mul-right-comm, le-of-suc-le-suc}
 use native.Mathlib.Nat.{mul-le-mul-right, le-of-mul-le-mul-right}
 use native.Mathlib.Omega.{arith}
 use lib.IntN.{ℤ}
@@ -67,6 +67,11 @@ not-le-lt {x} {y} u v h = cross→lt u v (lt-of-not-le (λ (k : num y * den x �
 
 pub not-le : {a b : ℕ} {x y : Float} → Upto a x → Upto b y → T (not (le x y)) → T (le y x)
 not-le {x} {y} u v h = lt-le y x (not-le-lt v u h)
+
+pub not-lt : {a b : ℕ} {x y : Float} → Upto a x → Upto b y → T (not (lt x y)) → T (le y x)
+not-lt {x} {y} u v h =
+    cross→le v u
+    (le-of-suc-le-suc (lt-of-not-le (λ (k : suc (num x * den y) ≤ num y * den x). T-not (lt x y) h (cross→lt u v k))))
 
 pub le-refl-upto : {a : ℕ} {x : Float} → Upto a x → T (le x x)
 le-refl-upto {x} u = cross→le u u (le-refl (num x * den x))

@@ -1,6 +1,6 @@
--- The wait for a sound hazard, from a start up to 2^40 and for a w above 0, is no NaN and not below 0; any wait is a value that
+-- The wait for a sound hazard, from a start with any bound and for a w above 0, is no NaN and not below 0; any wait is a value that
 -- binary64 holds.
-use mathlib.Core.Path.{refl, sym}
+use mathlib.Core.Path.{_≡_, refl, sym}
 use mathlib.Core.Bool.{Bool, true, false, not, cond, _&&_}
 use mathlib.Core.List.{List, [], _∷_}
 use Prim.Native.Nat.{ℕ, _*_, _^_}
@@ -8,27 +8,26 @@ use native.Mathlib.Nat.{le-trans, le-of-eq, mul-one}
 use lib.IntN.{ℤ}
 use lib.ListN.{drop}
 use lib.Dec.{T, le→leb, nltb→le}
-use lib.Ieee.{Float, fin, binary64, up, down, add, sub, mul, div, lt, le, fits}
+use lib.Ieee.{Float, nan, inf, fin, binary64, up, down, add, sub, mul, div, lt, le, fits}
 use lib.Ieee.Fits.{and-l, cond-fits, sub-fits, div-fits}
-use Rattle.hazards.specs.Floats.{z, limit, notBelowZero, inRange}
+use Rattle.hazards.specs.Floats.{z, notBelowZero, inRange}
 use Rattle.hazards.specs.Rates.{Piece, usedPairs, firstAfter, waitThrough, waitFrom, constantWait, waitOfRate, invertCumulativeHazard}
-use Rattle.hazards.specs.Rates.{ownRate}
+use Rattle.hazards.specs.Rates.{weibullWait, ownRate}
 use Rattle.hazards.specs.declared.rates.HazardRate.{HazardRate}
-use Rattle.hazards.specs.declared.rates.HazardRate.the-variants.{Zero, Constant, Gompertz, Piecewise}
+use Rattle.hazards.specs.declared.rates.HazardRate.the-variants.{Zero, Constant, Gompertz, Piecewise, Weibull}
 use Rattle.hazards.specs.declared.rates.Intervals.{Intervals}
 use Rattle.hazards.specs.declared.rates.Wait.{Wait}
 use Rattle.hazards.specs.declared.rates.Wait.the-variants.{After, Never}
 use Rattle.hazards.proofs.Bounds.{Upto}
-use Rattle.hazards.proofs.Signs.{NotBelow, Held}
+use Rattle.hazards.proofs.Signs.{Signed, NotBelow, Held}
+use Rattle.hazards.proofs.Cases.{by-test}
 use Rattle.hazards.proofs.Upto.{for-fin, zero-upto, lands}
 use Rattle.hazards.proofs.UptoOrder.{lt-le, not-le, not-le-lt, nothing-le, le-refl-upto, le-trans-upto}
 use Rattle.hazards.proofs.UptoOperations.{mul-upto, sub-upto}
-use Rattle.hazards.proofs.UptoClamped.{clamped-below}
 use Rattle.hazards.proofs.Exact.{sum-at-least}
 use Rattle.hazards.proofs.SignedOperations.{div-signed, add-signed, sub-signed}
-use Rattle.hazards.proofs.Limits.{limit-upto, rate-upto, positive-rate-upto, time-stays}
-use Rattle.hazards.proofs.Limits.{piece-lands, nothing-lands}
-use Rattle.hazards.proofs.SoundPairs.{sound, Following, none, next, own-rate-sound, pairs-sound, end-upto, after-following}
+use Rattle.hazards.proofs.Limits.{rate-upto, positive-rate-upto, span-lands, capacity-lands, nothing-lands}
+use Rattle.hazards.proofs.SoundPairs.{sound, Following, none, next, own-rate-sound, pairs-sound, after-following}
 
 -- ---- held: nothing is asked of the hazard
 either-held : (b : Bool) (x y : Wait) → Held x → Held y → Held (cond b x y)
@@ -52,6 +51,19 @@ constant-held : (rate w : Float) → Held (constantWait rate w)
 unfolding constantWait
 constant-held rate w = either-held (le rate z) Never (After (div binary64 w rate)) tt (div-fits binary64 w rate)
 
+zero-held : T (fits binary64 z)
+unfolding fits
+zero-held = tt
+
+clamped-held : (x : Float) → T (fits binary64 x) → T (fits binary64 (notBelowZero x))
+unfolding notBelowZero
+clamped-held x f = cond-fits binary64 (lt z x) x z f zero-held
+
+weibull-held : (scale start w : Float) → Held (weibullWait scale start w)
+unfolding weibullWait
+weibull-held scale start w =
+    either-held (le scale z) Never _ tt (clamped-held (sub binary64 _ start) (sub-fits binary64 _ start))
+
 wait-of-rate-held : (h : HazardRate) (p : Intervals) (start w : Float) → Held (waitOfRate h p start w)
 unfolding waitOfRate
 wait-of-rate-held Zero p start w = tt
@@ -59,10 +71,7 @@ wait-of-rate-held (Constant rate) p start w = constant-held (notBelowZero rate) 
 wait-of-rate-held (Gompertz eta) p start w = constant-held eta w
 wait-of-rate-held (Piecewise trailing) p start w =
     piecewise-held (drop (firstAfter start (usedPairs p)) (usedPairs p)) trailing start start w
-
-zero-held : T (fits binary64 z)
-unfolding fits
-zero-held = tt
+wait-of-rate-held (Weibull scale) p start w = weibull-held scale start w
 
 pub invert-held : (h : HazardRate) (p : Intervals) (start w : Float) → Held (invertCumulativeHazard h p start w)
 unfolding invertCumulativeHazard
@@ -87,8 +96,8 @@ not-above-zero u h = for-fin (λ (w : Float). T (not (lt z w)) → Upto 0 w) go 
     }
 
 -- b bounds w, and rounding keeps that bound
-module _ (b : ℕ) (stays : T (lands b b)) (start : Float) (sf : T (fits binary64 start)) (su : Upto (2 ^ 40) start) where
-  through-not-below : {rate w cur : Float} → Upto (2 ^ 40) rate → T (lt z rate) → Upto b w → Upto (2 ^ 40) cur → T (le start cur)
+module _ (b : ℕ) (stays : T (lands b b)) {a : ℕ} (start : Float) (sf : T (fits binary64 start)) (su : Upto a start) where
+  through-not-below : {r k : ℕ} {rate w cur : Float} → Upto r rate → T (lt z rate) → Upto b w → Upto k cur → T (le start cur)
       → NotBelow (waitThrough start cur rate w)
   through-not-below {rate} {w} {cur} u a v c o =
       let d = div-signed v u a in
@@ -96,7 +105,7 @@ module _ (b : ℕ) (stays : T (lands b b)) (start : Float) (sf : T (fits binary6
       (sum-at-least (div binary64 w rate) sf su c o d)
 
   -- what a piece leaves of w: its rate is 0, and so is its capacity, or its capacity is below w
-  left-upto : {rate w capacity : Float} → Upto (2 ^ 40) rate → Upto b w → Upto (2 ^ 80) capacity → (Upto 0 rate → Upto 0 capacity)
+  left-upto : {r k : ℕ} {rate w capacity : Float} → Upto r rate → Upto b w → Upto k capacity → (Upto 0 rate → Upto 0 capacity)
       → T (not (lt z rate && le w capacity)) → Upto b (sub binary64 w capacity)
   left-upto {rate} {w} {capacity} u v c nothing n = sub-upto b v c (go (lt z rate) (not-above-zero u) n) stays
     where
@@ -105,7 +114,7 @@ module _ (b : ℕ) (stays : T (lands b b)) (start : Float) (sf : T (fits binary6
       go false f n = nothing-le (nothing (f tt)) v
 
   module _ (trailing : Float) (i : T (inRange trailing)) where
-    piecewise-not-below : {ps : List Piece} (cur w : Float) → Following cur ps → Upto b w → Upto (2 ^ 40) cur → T (le start cur)
+    piecewise-not-below : {k : ℕ} {ps : List Piece} (cur w : Float) → Following cur ps → Upto b w → Upto k cur → T (le start cur)
         → NotBelow (waitFrom ps trailing start cur w)
     unfolding waitFrom
     piecewise-not-below cur w none v c o =
@@ -116,16 +125,14 @@ module _ (b : ℕ) (stays : T (lands b b)) (start : Float) (sf : T (fits binary6
     piecewise-not-below cur w (next {p} {ps} l m r f) v c o =
         let rate = notBelowZero (p .rate) in
         let capacity = mul binary64 rate (sub binary64 (p .end) cur) in
-        let u = rate-upto (p .rate) r in
-        let e = end-upto (p .end) c l m in
-        let span = sub-upto (2 ^ 40) e c (lt-le cur (p .end) l) time-stays in
+        let span = sub-upto (2 ^ 43) m c (lt-le cur (p .end) l) span-lands in
         either-not-below (lt z rate && le w capacity) (waitThrough start cur rate w)
         (waitFrom ps trailing start (p .end) (sub binary64 w capacity))
-        (λ t. through-not-below u (and-l (lt z rate) (le w capacity) t) v c o)
+        (λ t. through-not-below r (and-l (lt z rate) (le w capacity) t) v c o)
         (λ n.
         piecewise-not-below (p .end) (sub binary64 w capacity) f
-        (left-upto u v (mul-upto (2 ^ 80) u span piece-lands) (λ q. mul-upto 0 q span nothing-lands) n)
-        e (le-trans-upto su c e o (lt-le cur (p .end) l)))
+        (left-upto r v (mul-upto (2 ^ 91) r span capacity-lands) (λ q. mul-upto 0 q span nothing-lands) n)
+        m (le-trans-upto su c m o (lt-le cur (p .end) l)))
 
 constant-not-below : {b : ℕ} {w : Float} (rate : Float) → Upto b w → (T (not (le rate z)) → Upto (2 ^ 40) rate)
     → NotBelow (constantWait rate w)
@@ -134,26 +141,36 @@ constant-not-below {w} rate v u =
     either-not-below (le rate z) Never (After (div binary64 w rate)) (λ t. tt)
     (λ n. div-signed v (u n) (not-le-lt (zero-upto 0) (u n) n))
 
-wait-of-rate-not-below : (h : HazardRate) (p : Intervals) (start : Float) {w : Float} (b : ℕ) → T (sound h p) → T (inRange (ownRate h))
-    → T (fits binary64 start) → Upto (2 ^ 40) start → Upto b w → T (lands b b) → NotBelow (waitOfRate h p start w)
+-- not below 0, whatever it is before
+clamped-signed : (x : Float) → Signed false (notBelowZero x)
+unfolding notBelowZero lt
+clamped-signed nan = refl
+clamped-signed (inf true) = refl
+clamped-signed (inf false) = refl
+clamped-signed (fin true m e) = refl
+clamped-signed (fin false m e) = by-test (lt z (fin false m e)) (λ q. rw q) (λ q. rw q)
+
+weibull-not-below : (scale start w : Float) → NotBelow (weibullWait scale start w)
+unfolding weibullWait
+weibull-not-below scale start w = either-not-below (le scale z) Never _ (λ t. tt) (λ n. clamped-signed (sub binary64 _ start))
+
+wait-of-rate-not-below : {a : ℕ} (h : HazardRate) (p : Intervals) (start : Float) {w : Float} (b : ℕ) → T (sound h p)
+    → T (inRange (ownRate h)) → T (fits binary64 start) → Upto a start → Upto b w → T (lands b b) → NotBelow (waitOfRate h p start w)
 unfolding waitOfRate ownRate
 wait-of-rate-not-below Zero p start b s i sf su v l = tt
 wait-of-rate-not-below (Constant rate) p start b s i sf su v l = constant-not-below (notBelowZero rate) v (λ n. rate-upto rate i)
 wait-of-rate-not-below (Gompertz eta) p start b s i sf su v l = constant-not-below eta v (λ n. positive-rate-upto eta n i)
 wait-of-rate-not-below (Piecewise trailing) p start {w} b s i sf su v l =
-    let after = after-following (zero-upto (2 ^ 40)) su (pairs-sound trailing p s) in
+    let after = after-following su (pairs-sound trailing p s) in
     piecewise-not-below b l start sf su trailing i start w after v su (le-refl-upto su)
-
-clamped-held : (x : Float) → T (fits binary64 x) → T (fits binary64 (notBelowZero x))
-unfolding notBelowZero
-clamped-held x f = cond-fits binary64 (lt z x) x z f zero-held
+wait-of-rate-not-below (Weibull scale) p start {w} b s i sf su v l = weibull-not-below scale start w
 
 -- b bounds a w above 0
-pub invert-not-below : (h : HazardRate) (p : Intervals) (start : Float) {w : Float} (b : ℕ) → T (sound h p) → T (fits binary64 start)
-    → T (le start limit) → (T (not (le w z)) → Upto b w) → T (lands b b) → NotBelow (invertCumulativeHazard h p start w)
+pub invert-not-below : {a : ℕ} (h : HazardRate) (p : Intervals) (start : Float) {w : Float} (b : ℕ) → T (sound h p)
+    → T (fits binary64 start) → Upto a (notBelowZero start) → (T (not (le w z)) → Upto b w) → T (lands b b) → NotBelow (invertCumulativeHazard h p start w)
 unfolding invertCumulativeHazard
-invert-not-below h p start {w} b s sf sl v l =
+invert-not-below h p start {w} b s sf su v l =
     either-not-below (le w z) (After z) (waitOfRate h p (notBelowZero start) w) (λ t. refl)
     (λ n.
     wait-of-rate-not-below h p (notBelowZero start) b s (own-rate-sound h p s) (clamped-held start sf)
-    (clamped-below start sl limit-upto) (v n) l)
+    su (v n) l)

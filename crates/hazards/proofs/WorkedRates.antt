@@ -6,11 +6,11 @@ use Prim.Native.Nat.{ℕ, _+_, _<_}
 use lib.IntN.{pos, negsuc}
 use lib.Dec.{T, ltb, lit<, lit≤}
 use lib.Ieee.{Float, nan, inf, fin, binary64, fits, ofBits, div, lt, le, eq}
-use Rattle.hazards.specs.Floats.{z, limit, mostThreshold}
+use Rattle.hazards.specs.Floats.{z, limit, inverseLimit, mostThreshold}
 use Rattle.hazards.specs.Refusals.{outsideLimits, noRate}
 use Rattle.hazards.specs.Rates.{invertCumulativeHazard}
 use Rattle.hazards.specs.FirstPlace.{FirstPlace}
-use Rattle.hazards.specs.RateForWait.{shortestWait, withinLimits, answered, Answers, WaitsExactly}
+use Rattle.hazards.specs.RateForWait.{withinLimits, answered, Answers, WaitsExactly}
 use Rattle.hazards.specs.RateForWait.Answers.{outside}
 use Rattle.hazards.specs.RateForWaitInternals.{pastLimit, usedUpWithin}
 use Rattle.hazards.specs.declared.rates.HazardRate.the-variants.{Constant}
@@ -101,16 +101,16 @@ worked-between-subnormals =
 
 -- ---- the largest rate: 1 and 2^-40 give 2^40, 1,024 and 2^-40 none, for 2^50 is too large
 
-pub worked-largest : Answers one shortestWait (answered 0 limit)
+pub worked-largest : Answers one inverseLimit (answered 0 limit)
 unfolding computed
-worked-largest = rate-behind one shortestWait 0x426f_ffff_ffff_ffff refl tt tt tt refl refl refl
+worked-largest = rate-behind one inverseLimit 0x426f_ffff_ffff_ffff refl tt tt tt refl refl refl
 
-pub worked-too-large : Answers mostThreshold shortestWait (answered noRate z)
+pub worked-too-large : Answers mostThreshold inverseLimit (answered noRate z)
 unfolding computed
 worked-too-large =
-    let l : withinLimits mostThreshold shortestWait ≡ true = refl in
-    past-answers mostThreshold shortestWait l
-    (at-none {place = 0x4270_0000_0000_0000} (goes-on mostThreshold shortestWait l) (lit≤ tt) refl refl) refl
+    let l : withinLimits mostThreshold inverseLimit ≡ true = refl in
+    past-answers mostThreshold inverseLimit l
+    (at-none {place = 0x4270_0000_0000_0000} (goes-on mostThreshold inverseLimit l) (lit≤ tt) refl refl) refl
 
 -- ---- outside the limits: 0, -0.0 and -1; just above 1,024; just below 2^-40; just above 2^40; infinity and NaN
 
@@ -126,7 +126,7 @@ pub worked-large-threshold : (withinLimits mostThreshold two ≡ true) × Refuse
 unfolding computed
 worked-large-threshold = (refl, outside refl, outside refl)
 
-pub worked-short-wait : (withinLimits one shortestWait ≡ true) × Refused one (ofBits binary64 0x3d6f_ffff_ffff_ffff) × Refused one z
+pub worked-short-wait : (withinLimits one inverseLimit ≡ true) × Refused one (ofBits binary64 0x3d6f_ffff_ffff_ffff) × Refused one z
 unfolding computed
 worked-short-wait = (refl, outside refl, outside refl)
 

@@ -1,27 +1,28 @@
--- Document 01, "A command comes in": what refusals 4 to 6 say of a hazard. 5 and 6 are stated of the hazard itself, so that they
--- serve the fields of a command and a stored channel alike.
+-- Document 01, "A command comes in", and document 02, change 4: what refusals 4 to 6 say of a hazard. 5 and 6 are stated of the hazard
+-- itself, so that they serve the fields of a command and a stored channel alike.
 use mathlib.Core.Bool.{Bool, true, false, not, _&&_, _||_}
 use mathlib.Core.List.{List, [], _∷_}
 use Prim.Native.Nat.{ℕ, _-_}
 use lib.Dec.{eqb, ltb}
 use lib.Ieee.{Float, lt, le}
-use Rattle.hazards.specs.Floats.{z, limit, zeroBits, inRange}
+use Rattle.hazards.specs.Floats.{z, limit, inverseLimit, zeroBits, inRange}
 use Rattle.hazards.specs.Lists.{all}
-use Rattle.hazards.specs.Rates.{rateOfKind, Piece, piecesBy, pairAt, usedPairs}
+use Rattle.hazards.specs.Rates.{kinds, rateOfKind, Piece, piecesBy, pairAt, usedPairs}
 use Rattle.hazards.specs.declared.checks.HazardFields.{HazardFields}
 use Rattle.hazards.specs.declared.refusals.Faults.{Faults}
 use Rattle.hazards.specs.declared.rates.HazardRate.{HazardRate}
-use Rattle.hazards.specs.declared.rates.HazardRate.the-variants.{Zero, Constant, Gompertz, Piecewise}
+use Rattle.hazards.specs.declared.rates.HazardRate.the-variants.{Zero, Constant, Gompertz, Piecewise, Weibull}
 use Rattle.hazards.specs.declared.rates.Intervals.{Intervals}
 
 -- ---- refusals 5 and 6 of a hazard
 
--- 5: first or a used rate not finite or of size above 2^40
+-- 5: first or a used rate not finite or of size above 2^40; a scale above 0 and below 2^-40
 unfoldable pub rangeFault : HazardRate → Intervals → Bool
 rangeFault Zero p = false
 rangeFault (Constant rate) p = not (inRange rate)
 rangeFault (Gompertz eta) p = not (inRange eta)
 rangeFault (Piecewise trailing) p = not (inRange trailing && all (λ q. inRange (q .rate)) (usedPairs p))
+rangeFault (Weibull scale) p = not (inRange scale) || (lt z scale && lt scale inverseLimit)
 
 -- the eight pairs from index i on
 abbrev pub pairsFrom : Intervals → ℕ → List Piece
@@ -49,6 +50,7 @@ intervalsFault Zero p = unusedFault p
 intervalsFault (Constant rate) p = unusedFault p
 intervalsFault (Gompertz eta) p = unusedFault p
 intervalsFault (Piecewise trailing) p = pairsFault p
+intervalsFault (Weibull scale) p = unusedFault p
 
 -- ---- the fields of a hazard as in SET
 
@@ -63,7 +65,7 @@ intervalsOf f = record { ends = f .ends; rates = f .rates; count = f .count }
 
 -- 4: a kind off its list, or the unused first of kind 0 not zero bits
 unfoldable pub choiceFault : HazardFields → Bool
-choiceFault f = ltb 3 (f .kind) || (eqb (f .kind) 0 && not (zeroBits (f .first)))
+choiceFault f = not (ltb (f .kind) kinds) || (eqb (f .kind) 0 && not (zeroBits (f .first)))
 
 unfoldable pub hazardFaults : HazardFields → Faults
 hazardFaults f = record {

@@ -1,7 +1,7 @@
 -- The first place at which a test holds.
 use mathlib.Core.Path.{_≡_}
-use mathlib.Core.Bool.{Bool, true, false}
-use Prim.Native.Nat.{ℕ, _≤_, _<_}
+use mathlib.Core.Bool.{Bool, true, false, cond}
+use Prim.Native.Nat.{ℕ, zero, suc, _+_, _-_, _^_, _≤_, _<_}
 
 -- of the places from `from` on and before `end` the first at which the test holds, and `end` where it holds at none of them
 pub record FirstPlace (test : ℕ → Bool) (from end first : ℕ) : Type 0 where
@@ -17,3 +17,8 @@ pub record Between (test : ℕ → Bool) (from end low high : ℕ) : Type 0 wher
   pub ends : high ≤ end
   pub before : (i : ℕ) → from ≤ i → i < low → test i ≡ false
   pub holds : high < end → test high ≡ true
+
+-- that place among the 2^k places from `from` on, found by halves: the test holds at the last of them, and once it holds it goes on to
+unfoldable pub firstOf : (ℕ → Bool) → ℕ → ℕ → ℕ
+firstOf test zero from = from
+firstOf test (suc k) from = firstOf test k (cond (test (from + 2 ^ k - 1)) from (from + 2 ^ k))

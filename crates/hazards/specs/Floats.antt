@@ -1,8 +1,9 @@
--- Document 01, "A command comes in", "Hazard arithmetic" and "Draws": the floats that it names, and its tests on one float.
+-- Document 01, "A command comes in", "Hazard arithmetic" and "Draws": the floats that it names, and its tests on one float; and those of
+-- document 02.
 -- Arithmetic is IEEE 754 binary64, round to nearest even (lib.Ieee).
 use mathlib.Core.Bool.{Bool, true, false, cond, _&&_}
 use Prim.Native.Nat.{_^_}
-use lib.IntN.{pos}
+use lib.IntN.{pos, negsuc}
 use lib.Dec.{eqb, ltb}
 use lib.Ieee.{Float, inf, fin, binary64, lt, le, toBits}
 
@@ -16,6 +17,14 @@ limit = fin false 1 (pos 40)
 
 abbrev pub minusLimit : Float
 minusLimit = fin true 1 (pos 40)
+
+-- 2^-40
+abbrev pub inverseLimit : Float
+inverseLimit = fin false 1 (negsuc 39)
+
+-- 2.0
+abbrev pub two : Float
+two = fin false 1 (pos 1)
 
 -- 1,024
 abbrev pub mostThreshold : Float

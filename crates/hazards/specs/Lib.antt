@@ -1,11 +1,13 @@
--- The definitions of the hazards crate, from floats and lists up to the sampler; what document 02 says of its list of records; the rate
--- for a wait.
+-- The definitions of the hazards crate, from floats, lists and roots up to the sampler; what document 02 says of its list of records;
+-- the rate for a wait.
 pub mod Floats
 pub mod Lists
 pub mod FirstPlace
 pub mod Fields
 pub mod Refusals
 pub mod Answers
+pub mod Roots
+pub mod RootsInternals
 pub mod Rates
 pub mod Checks
 pub mod Evaluations

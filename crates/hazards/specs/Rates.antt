@@ -1,25 +1,32 @@
 -- Document 01, "Hazard arithmetic": hazard_at, cumulative_hazard and invert_cumulative_hazard of competing_risks.rs, operation by
--- operation at binary64, each rounded once. Gompertz is the one with b = 0: its hazard is eta at every time.
+-- operation at binary64, each rounded once. Gompertz is the one with b = 0: its hazard is eta at every time. Document 02, change 4: kind
+-- 4, Weibull with shape 2.
 use mathlib.Core.Bool.{Bool, true, false, cond, _&&_}
 use mathlib.Core.List.{List, [], _∷_}
 use Prim.Native.Nat.{ℕ, zero, suc, min}
 use lib.Dec.{eqb}
 use lib.ListN.{getD, drop}
 use lib.Ieee.{Float, nan, binary64, add, sub, mul, div, lt, le}
-use Rattle.hazards.specs.Floats.{z, notBelowZero}
+use Rattle.hazards.specs.Floats.{z, two, notBelowZero}
+use Rattle.hazards.specs.Roots.{nearestRoot}
 use Rattle.hazards.specs.declared.rates.HazardRate.{HazardRate}
-use Rattle.hazards.specs.declared.rates.HazardRate.the-variants.{Zero, Constant, Gompertz, Piecewise}
+use Rattle.hazards.specs.declared.rates.HazardRate.the-variants.{Zero, Constant, Gompertz, Piecewise, Weibull}
 use Rattle.hazards.specs.declared.rates.Intervals.{Intervals}
 use Rattle.hazards.specs.declared.rates.Wait.{Wait}
 use Rattle.hazards.specs.declared.rates.Wait.the-variants.{After, Never}
 
--- ---- the kinds: 0 Zero, 1 Constant, 2 Gompertz, 3 PiecewiseConstant
+-- ---- the kinds: 0 Zero, 1 Constant, 2 Gompertz, 3 PiecewiseConstant, 4 Weibull with shape 2
 
--- the hazard of a kind and its first; a kind above 3 is refused by 4 before this is asked
+-- how many there are
+abbrev pub kinds : ℕ
+kinds = 5
+
+-- the hazard of a kind and its first; a kind off the list is refused by 4 before this is asked
 abbrev pub rateOfKind : ℕ → Float → HazardRate
 rateOfKind kind first =
     cond (eqb kind 0) Zero
-    (cond (eqb kind 1) (Constant first) (cond (eqb kind 2) (Gompertz first) (Piecewise first)))
+    (cond (eqb kind 1) (Constant first)
+    (cond (eqb kind 2) (Gompertz first) (cond (eqb kind 3) (Piecewise first) (Weibull first))))
 
 -- a hazard's kind
 abbrev pub kindNumber : HazardRate → ℕ
@@ -27,13 +34,15 @@ kindNumber Zero = 0
 kindNumber (Constant rate) = 1
 kindNumber (Gompertz eta) = 2
 kindNumber (Piecewise trailing) = 3
+kindNumber (Weibull scale) = 4
 
--- the hazard's own rate, +0.0 for Zero
+-- the hazard's first: its own rate or scale, +0.0 for Zero
 unfoldable pub ownRate : HazardRate → Float
 ownRate Zero = z
 ownRate (Constant rate) = rate
 ownRate (Gompertz eta) = eta
 ownRate (Piecewise trailing) = trailing
+ownRate (Weibull scale) = scale
 
 -- ---- a hazard curve in pieces
 
@@ -72,6 +81,24 @@ usesPairs Zero = false
 usesPairs (Constant rate) = false
 usesPairs (Gompertz eta) = false
 usesPairs (Piecewise trailing) = true
+usesPairs (Weibull scale) = false
+
+-- ---- Weibull with shape 2, a hazard proportional to age: "with q = t / scale, … hazard is (2 / scale) times q and the cumulative is q
+-- times q", for t from +0.0 on; "a scale at most 0 is Zero"
+
+unfoldable pub weibullHazard : Float → Float → Float
+weibullHazard scale t = cond (le scale z) z (mul binary64 (div binary64 two scale) (div binary64 t scale))
+
+unfoldable pub weibullCumulative : Float → Float → Float
+weibullCumulative scale t =
+    let q = div binary64 t scale in
+    cond (le scale z) z (mul binary64 q q)
+
+-- "scale times s, less the start, not below 0, where s is the f64 nearest to the root of (cumulative at start + w)"
+unfoldable pub weibullWait : Float → Float → Float → Wait
+weibullWait scale start w =
+    let s = nearestRoot (add binary64 (weibullCumulative scale start) w) in
+    cond (le scale z) Never (After (notBelowZero (sub binary64 (mul binary64 scale s) start)))
 
 -- ---- hazard_at
 
@@ -85,6 +112,7 @@ hazardOfRate Zero p t = z
 hazardOfRate (Constant rate) p t = notBelowZero rate
 hazardOfRate (Gompertz eta) p t = cond (le eta z) z eta
 hazardOfRate (Piecewise trailing) p t = piecewiseHazard (usedPairs p) trailing t
+hazardOfRate (Weibull scale) p t = weibullHazard scale (notBelowZero t)
 
 unfoldable pub hazardAt : HazardRate → Intervals → Float → Float
 hazardAt h p t = cond (lt t z) z (hazardOfRate h p t)
@@ -104,6 +132,7 @@ cumulativeOfRate Zero p t = z
 cumulativeOfRate (Constant rate) p t = mul binary64 (notBelowZero rate) t
 cumulativeOfRate (Gompertz eta) p t = cond (le eta z) z (mul binary64 eta t)
 cumulativeOfRate (Piecewise trailing) p t = piecewiseCumulative (usedPairs p) trailing t z z
+cumulativeOfRate (Weibull scale) p t = weibullCumulative scale t
 
 unfoldable pub cumulativeHazard : HazardRate → Intervals → Float → Float
 cumulativeHazard h p t = cond (le t z) z (cumulativeOfRate h p t)
@@ -137,6 +166,7 @@ waitOfRate Zero p start w = Never
 waitOfRate (Constant rate) p start w = constantWait (notBelowZero rate) w
 waitOfRate (Gompertz eta) p start w = constantWait eta w
 waitOfRate (Piecewise trailing) p start w = piecewiseWait (usedPairs p) trailing start w
+waitOfRate (Weibull scale) p start w = weibullWait scale start w
 
 -- w at most 0 waits 0.0, even for Zero
 unfoldable pub invertCumulativeHazard : HazardRate → Intervals → Float → Float → Wait

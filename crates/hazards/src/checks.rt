@@ -5,16 +5,18 @@ ghost use mathlib.Core.List.{List};
 ghost use Prim.Native.Nat.{ℕ};
 ghost use lib.Dec.{eqb, ltb};
 ghost use lib.Ieee.{Float, lt, le};
-ghost use Rattle.hazards.specs.Floats.{z, limit, zeroBits, inRange};
+ghost use Rattle.hazards.specs.Floats.{z, limit, inverseLimit, zeroBits, inRange};
 ghost use Rattle.hazards.specs.Lists.{all};
-ghost use Rattle.hazards.specs.Rates.{intervalsFrom, usedPairs};
+ghost use Rattle.hazards.specs.Rates.{kinds, intervalsFrom, usedPairs};
 ghost use Rattle.hazards.specs.Checks.{rangeFault, pairsFrom, zeroPair, ascending, unusedFault, pairsFault, intervalsFault, hazardOf};
 ghost use Rattle.hazards.specs.Checks.{intervalsOf, fieldsFrom, hazardFaults};
+use crate::floats::INVERSE_LIMIT;
 use crate::floats::LIMIT;
 use crate::floats::in_range;
 use crate::floats::zero_bits;
 use crate::rates::HazardRate;
 use crate::rates::Intervals;
+use crate::rates::KINDS;
 use crate::rates::rate_of_kind;
 use crate::refusals::Faults;
 
@@ -100,6 +102,15 @@ fn piecewise_range_fault(trailing: f64, rates: &[f64; 8], count: usize) -> bool
     !(own & used)
 }
 
+// Refusal 5 of a scale: out of range, or above 0 and below 2^-40.
+fn scale_fault(scale: f64) -> bool
+    ensures { λ r. ⌜ r ≡ (not (inRange scale) || (lt z scale && lt scale inverseLimit)) ⌝ }
+{
+    let out_of_range = !in_range(scale);
+    let too_small = (scale > 0.0) & (scale < INVERSE_LIMIT);
+    out_of_range | too_small
+}
+
 // Refusal 5 of a hazard, whatever its ends.
 pub fn range_fault(hazard: HazardRate, rates: &[f64; 8], count: usize) -> bool
     ensures { λ r. ⌜ ((ends : List Float) → r ≡ rangeFault hazard (intervalsFrom ends (now (rates .entry)) count)) ⌝ }
@@ -109,6 +120,7 @@ pub fn range_fault(hazard: HazardRate, rates: &[f64; 8], count: usize) -> bool
         HazardRate::Constant(rate) => !in_range(rate),
         HazardRate::Gompertz(eta) => !in_range(eta),
         HazardRate::Piecewise(trailing) => piecewise_range_fault(trailing, rates, count),
+        HazardRate::Weibull(scale) => scale_fault(scale),
     }
 }
 
@@ -147,14 +159,15 @@ pub fn intervals_fault<'a>(
         HazardRate::Constant(_) => unused_fault(ends, rates, count),
         HazardRate::Gompertz(_) => unused_fault(ends, rates, count),
         HazardRate::Piecewise(_) => pairs_fault(ends, rates, count),
+        HazardRate::Weibull(_) => unused_fault(ends, rates, count),
     }
 }
 
 // Refusal 4 of a hazard's fields.
 pub(crate) fn choice_fault(kind: u8, first: f64) -> bool
-    ensures { λ r. ⌜ r ≡ (ltb 3 kind || (eqb kind 0 && not (zeroBits first))) ⌝ }
+    ensures { λ r. ⌜ r ≡ (not (ltb kind kinds) || (eqb kind 0 && not (zeroBits first))) ⌝ }
 {
-    if kind > 3 {
+    if kind as u64 >= KINDS {
         return true;
     }
     if kind != 0 {

@@ -5,6 +5,9 @@ ghost use Rattle.hazards.specs.Floats.{notBelowZero, zeroBits, inRange, 
 // 2^40: the largest time, and the largest size of a rate or scale.
 pub const LIMIT: f64 = 1099511627776.0;
 
+// 2^-40: the smallest scale above 0, and the shortest wait that a rate is found for.
+pub const INVERSE_LIMIT: f64 = 0.0000000000009094947017729282379150390625;
+
 // The largest threshold.
 pub const MOST_THRESHOLD: f64 = 1024.0;
 

@@ -6,13 +6,11 @@ ghost use Rattle.hazards.specs.FirstPlace.{FirstPlace, Between};
 ghost use Rattle.hazards.specs.RateForWait.{withinLimits, answered, Answers};
 ghost use Rattle.hazards.specs.RateForWaitInternals.{pastLimit, usedUpWithin, bracketOf, exactRate};
 ghost use Rattle.hazards.specs.Floats.{z};
+use crate::floats::INVERSE_LIMIT;
 use crate::floats::LIMIT;
 use crate::floats::MOST_THRESHOLD;
 use crate::refusals::NO_RATE;
 use crate::refusals::OUTSIDE_LIMITS;
-
-// 2^-40.
-const SHORTEST_WAIT: f64 = 0.0000000000009094947017729282379150390625;
 
 // The bit pattern of 2^40, the largest rate, and the one behind it.
 const LIMIT_PATTERN: u64 = 0x4270_0000_0000_0000;
@@ -36,7 +34,7 @@ fn within_limits(threshold: f64, wait: f64) -> bool
     ensures { λ r. ⌜ r ≡ withinLimits threshold wait ⌝ }
 {
     let threshold_fits = (threshold > 0.0) & (threshold <= MOST_THRESHOLD);
-    let wait_fits = (wait >= SHORTEST_WAIT) & (wait <= LIMIT);
+    let wait_fits = (wait >= INVERSE_LIMIT) & (wait <= LIMIT);
     threshold_fits & wait_fits
 }
 

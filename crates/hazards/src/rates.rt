@@ -1,4 +1,5 @@
-// Hazard rates of competing_risks.rs: the hazard, the cumulative hazard and its inverse, each float operation rounded once.
+// Hazard rates of competing_risks.rs: the hazard, the cumulative hazard and its inverse, each float operation rounded once. Kind 4,
+// Weibull with shape 2, is document 02's.
 ghost use mathlib.Core.Path.{_≡_};
 ghost use mathlib.Core.Bool.{_&&_};
 ghost use Prim.Native.Nat.{min};
@@ -7,15 +8,19 @@ ghost use lib.Ieee.{lt, le};
 ghost use Rattle.hazards.specs.Floats.{z};
 ghost use Rattle.hazards.specs.Rates.{rateOfKind, kindNumber, ownRate};
 ghost use Rattle.hazards.specs.Rates.{intervalsFrom, usedPairs, usesPairs, piecewiseHazard, piecewiseCumulative, firstAfter};
+ghost use Rattle.hazards.specs.Rates.{weibullHazard, weibullCumulative, weibullWait};
 ghost use Rattle.hazards.specs.Rates.{waitFrom, piecewiseWait, constantWait, hazardAt, cumulativeHazard, invertCumulativeHazard};
 use crate::floats::not_below_zero;
+use crate::roots::nearest_root;
 
-// A hazard with its own rate: the rate of Constant, eta of Gompertz (with b = 0), the trailing rate of PiecewiseConstant.
+// A hazard with its first field: the rate of Constant, eta of Gompertz (with b = 0), the trailing rate of PiecewiseConstant, the scale of
+// Weibull (with shape 2).
 pub enum HazardRate {
     Zero,
     Constant(f64),
     Gompertz(f64),
     Piecewise(f64),
+    Weibull(f64),
 }
 
 // The pairs of a piecewise hazard, of which the first `count` are used.
@@ -31,7 +36,10 @@ pub enum Wait {
     Never,
 }
 
-// The hazard of a kind and its first field; a kind above 3 is refused by 4 before this is asked.
+// How many kinds there are.
+pub const KINDS: u64 = 5;
+
+// The hazard of a kind and its first field; a kind off the list is refused by 4 before this is asked.
 pub fn rate_of_kind(kind: u8, first: f64) -> HazardRate
     ensures { λ r. ⌜ r ≡ rateOfKind kind first ⌝ }
 {
@@ -44,7 +52,10 @@ pub fn rate_of_kind(kind: u8, first: f64) -> HazardRate
     if kind == 2 {
         return HazardRate::Gompertz(first);
     }
-    HazardRate::Piecewise(first)
+    if kind == 3 {
+        return HazardRate::Piecewise(first);
+    }
+    HazardRate::Weibull(first)
 }
 
 // A hazard's kind.
@@ -56,10 +67,11 @@ pub fn kind_number(hazard: HazardRate) -> u8
         HazardRate::Constant(_) => 1,
         HazardRate::Gompertz(_) => 2,
         HazardRate::Piecewise(_) => 3,
+        HazardRate::Weibull(_) => 4,
     }
 }
 
-// The hazard's own rate, +0.0 for Zero.
+// The hazard's first field: its own rate or scale, +0.0 for Zero.
 pub fn own_rate(hazard: HazardRate) -> f64
     ensures { λ r. ⌜ r ≡ ownRate hazard ⌝ }
 {
@@ -68,6 +80,7 @@ pub fn own_rate(hazard: HazardRate) -> f64
         HazardRate::Constant(rate) => rate,
         HazardRate::Gompertz(eta) => eta,
         HazardRate::Piecewise(trailing) => trailing,
+        HazardRate::Weibull(scale) => scale,
     }
 }
 
@@ -80,6 +93,7 @@ pub(crate) fn uses_pairs(hazard: HazardRate) -> bool
         HazardRate::Constant(_) => false,
         HazardRate::Gompertz(_) => false,
         HazardRate::Piecewise(_) => true,
+        HazardRate::Weibull(_) => false,
     }
 }
 
@@ -111,6 +125,17 @@ fn piecewise_hazard<'a>(
     not_below_zero(trailing)
 }
 
+// With q the age in scales, the hazard is (2 / scale) * q.
+fn weibull_hazard(scale: f64, t: f64) -> f64
+    ensures { λ r. ⌜ r ≡ weibullHazard scale t ⌝ }
+{
+    if scale <= 0.0 {
+        0.0
+    } else {
+        2.0 / scale * (t / scale)
+    }
+}
+
 // The hazard at time t, 0 before time 0.
 pub fn hazard_at<'a>(
     hazard: HazardRate,
@@ -129,6 +154,7 @@ pub fn hazard_at<'a>(
         HazardRate::Constant(rate) => not_below_zero(rate),
         HazardRate::Gompertz(eta) => if eta <= 0.0 { 0.0 } else { eta },
         HazardRate::Piecewise(trailing) => piecewise_hazard(ends, rates, count, trailing, t),
+        HazardRate::Weibull(scale) => weibull_hazard(scale, not_below_zero(t)),
     }
 }
 
@@ -159,6 +185,17 @@ fn piecewise_cumulative<'a>(
     cum + not_below_zero(trailing) * (t - cur_t)
 }
 
+// With q the age in scales, the hazard accumulated is q * q.
+fn weibull_cumulative(scale: f64, t: f64) -> f64
+    ensures { λ r. ⌜ r ≡ weibullCumulative scale t ⌝ }
+{
+    if scale <= 0.0 {
+        return 0.0;
+    }
+    let q = t / scale;
+    q * q
+}
+
 // The hazard accumulated from 0 to t.
 pub fn cumulative_hazard<'a>(
     hazard: HazardRate,
@@ -177,6 +214,7 @@ pub fn cumulative_hazard<'a>(
         HazardRate::Constant(rate) => not_below_zero(rate) * t,
         HazardRate::Gompertz(eta) => if eta <= 0.0 { 0.0 } else { eta * t },
         HazardRate::Piecewise(trailing) => piecewise_cumulative(ends, rates, count, trailing, t),
+        HazardRate::Weibull(scale) => weibull_cumulative(scale, t),
     }
 }
 
@@ -253,6 +291,17 @@ pub(crate) fn constant_wait(rate: f64, w: f64) -> Wait
     }
 }
 
+// The age at which the hazard accumulated is w more than at the start, less the start.
+fn weibull_wait(scale: f64, start: f64, w: f64) -> Wait
+    ensures { λ r. ⌜ r ≡ weibullWait scale start w ⌝ }
+{
+    if scale <= 0.0 {
+        return Wait::Never;
+    }
+    let s = nearest_root(weibull_cumulative(scale, start) + w);
+    Wait::After(not_below_zero(scale * s - start))
+}
+
 // The wait from an age on until the hazard accumulated reaches w.
 pub fn invert_cumulative_hazard<'a>(
     hazard: HazardRate,
@@ -280,5 +329,6 @@ pub fn invert_cumulative_hazard<'a>(
             not_below_zero(t_start),
             target_w,
         ),
+        HazardRate::Weibull(scale) => weibull_wait(scale, not_below_zero(t_start), target_w),
     }
 }

@@ -1,8 +1,15 @@
-// What is proved of document 02's changes, as contracts of functions that do nothing, so that the check's log names them. Change 8, "The
-// list's order must not matter": its five sentences, and that no order is left out. Change 11, "What rate would fail on that day?": that
-// one answer alone is right, and that the rates meant are those with which a cause waits so long.
+// What is proved of document 02's changes, as contracts of functions that do nothing, so that the check's log names them. Change 4, "Wear
+// that grows in a straight line": that one f64 alone is nearest to a root. Change 8, "The list's order must not matter": its five
+// sentences, and that no order is left out. Change 11, "What rate would fail on that day?": that one answer alone is right, and that the
+// rates meant are those with which a cause waits so long.
 ghost use Rattle.hazards.specs.ListOrder.{AnyOrder, EveryOrder, CensoredAnswer, UncensoredWinner, EmptyList, NoEvent};
 ghost use Rattle.hazards.specs.RateForWait.{OneAnswer, ConstantHazard};
+ghost use Rattle.hazards.specs.Roots.{OneNearest};
+
+// Of every f64 above 0 that is not infinite one f64 is the nearest to its root, and that is the one that nearest_root returns.
+pub fn one_nearest_root()
+    ensures { λ _. ⌜ OneNearest ⌝ }
+{}
 
 // Two orders of the same records, all causes different, give the same answer and the same position.
 pub fn any_order()

@@ -5,6 +5,7 @@ ghost use Prim.Native.Nat.{_≤_};
 ghost use lib.ListN.{length};
 ghost use mathlib.Core.Path.{_≡_};
 ghost use Rattle.hazards.specs.Rates.{intervalsFrom, hazardAt, cumulativeHazard, rateOfKind};
+ghost use Rattle.hazards.specs.Roots.{nearestRoot};
 use hazards::answers::ANSWER_WIDTH;
 use hazards::checks::HazardFields;
 use hazards::draws::StreamPosition;
@@ -220,6 +221,14 @@ pub extern "C" fn probe_invert_cumulative_hazard<'a>(
         Wait::After(value) => value,
         Wait::Never => 0.0 / 0.0,
     }
+}
+
+// The f64 nearest to the root of x.
+#[no_mangle]
+pub extern "C" fn probe_nearest_root(x: f64) -> f64
+    ensures { λ r. ⌜ r ≡ nearestRoot x ⌝ }
+{
+    hazards::roots::nearest_root(x)
 }
 
 // An answer, then the position after it.

@@ -7,6 +7,7 @@ use borrow.Author.Tests.{not-true, not-false}
 use lib.Dec.{eqb, ltb}
 use lib.ListN.{getD}
 use Rattle.hazards.proofs.Cases.{both-true}
+use Rattle.hazards.specs.Rates.{kinds}
 use Rattle.clocks.specs.Layout.{WordRows, FloatRows, codedWords, codedNumbers, codedChannel, everyBelow}
 use Rattle.clocks.proofs.EveryBelow.{every-none, every-step, every-fails, and-true}
 use Rattle.clocks.proofs.JoinedWords.{joined-more, not-coded}
@@ -97,7 +98,7 @@ loop-again c =
     let ws = getD (a .words .now) (2 + l .loop .j) [] in
     let ns = getD (a .floats .now) (1 + 3 * l .loop .j) [] in
     let passes = sym (e .before .kind-coded .ensures) ∙ not-false _ (e .if1 .left) in
-    let both = both-true (ltb (getD ws 2 0) 4) (codedNumbers (getD ws 2 0) ns) passes in (
+    let both = both-true (ltb (getD ws 2 0) kinds) (codedNumbers (getD ws 2 0) ns) passes in (
       omega arith,
       every-step (codedAt (a .words .now) (a .floats .now)) (l .loop .j)
           ∙ rw (l .loop .inv .1, both .1, and-true (codedWords ws)) (joined-more (l .loop .ids) (l .loop .spare) ws (both .0)),

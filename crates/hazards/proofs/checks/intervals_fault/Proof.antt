@@ -28,6 +28,12 @@ enum-told-4 c = search needs
 pairs-fault-requires : tie.Need-pairs-fault-requires
 pairs-fault-requires c κs = search needs
 
+enum-told-5 : tie.Need-enum-told-5
+enum-told-5 c = search needs
+
+unused-fault-requires-4 : tie.Need-unused-fault-requires-4
+unused-fault-requires-4 c κs = search needs
+
 returns : tie.Need-returns
 unfolding intervalsFault
 returns c = rw (c .before .enum-told .given .1) (c .unused-fault .ensures)
@@ -44,6 +50,10 @@ returns-4 : tie.Need-returns-4
 unfolding intervalsFault
 returns-4 c = rw (c .before .enum-told4 .given .1) (c .pairs-fault .ensures)
 
+returns-5 : tie.Need-returns-5
+unfolding intervalsFault
+returns-5 c = rw (c .before .enum-told5 .given .1) (c .unused-fault4 .ensures)
+
 pub intervals-fault-spec : {M : Type 1} → statement M
 intervals-fault-spec =
     tie.close
@@ -56,7 +66,10 @@ intervals-fault-spec =
     unused-fault-requires-3
     enum-told-4
     pairs-fault-requires
+    enum-told-5
+    unused-fault-requires-4
     returns
     returns-2
     returns-3
-    returns-4)
+    returns-4
+    returns-5)

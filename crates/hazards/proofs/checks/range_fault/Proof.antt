@@ -27,6 +27,12 @@ enum-known-hazard-3 c = search needs
 piecewise-range-fault-requires : tie.Need-piecewise-range-fault-requires
 piecewise-range-fault-requires c κs = search needs
 
+enum-known-hazard-4 : tie.Need-enum-known-hazard-4
+enum-known-hazard-4 c = search needs
+
+scale-fault-requires : tie.Need-scale-fault-requires
+scale-fault-requires c κs = search needs
+
 returns : tie.Need-returns
 unfolding rangeFault
 returns c = λ ends. rw (c .enum-told .given .1)
@@ -43,6 +49,10 @@ returns-4 : tie.Need-returns-4
 unfolding rangeFault
 returns-4 c = λ ends. rw (c .before .before .hazard3 .given .1) (c .piecewise-range-fault .ensures ends)
 
+returns-5 : tie.Need-returns-5
+unfolding rangeFault
+returns-5 c = λ ends. rw (c .before .before .hazard4 .given .1) (c .scale-fault .ensures)
+
 pub range-fault-spec : {M : Type 1} → statement M
 range-fault-spec =
     tie.close
@@ -54,7 +64,10 @@ range-fault-spec =
     in-range-requires-2
     enum-known-hazard-3
     piecewise-range-fault-requires
+    enum-known-hazard-4
+    scale-fault-requires
     returns
     returns-2
     returns-3
-    returns-4)
+    returns-4
+    returns-5)

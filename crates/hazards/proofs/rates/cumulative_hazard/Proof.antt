@@ -27,6 +27,12 @@ enum-known-hazard-3 c = search needs
 piecewise-cumulative-requires : tie.Need-piecewise-cumulative-requires
 piecewise-cumulative-requires c κs = search needs
 
+enum-known-hazard-4 : tie.Need-enum-known-hazard-4
+enum-known-hazard-4 c = search needs
+
+weibull-cumulative-requires : tie.Need-weibull-cumulative-requires
+weibull-cumulative-requires c κs = search needs
+
 returns-2 : tie.Need-returns-2
 unfolding cumulativeHazard cumulativeOfRate ofBits
 returns-2 c = simp (c .before .before .if1 .left, c .enum-told .given .1)
@@ -47,6 +53,10 @@ returns-6 : tie.Need-returns-6
 unfolding cumulativeHazard cumulativeOfRate ofBits
 returns-6 c = simp (c .before .before .before .before .if1 .left, c .before .before .hazard3 .given .1) (c .piecewise-cumulative .ensures)
 
+returns-7 : tie.Need-returns-7
+unfolding cumulativeHazard cumulativeOfRate ofBits
+returns-7 c = simp (c .before .before .before .before .if1 .left, c .before .before .hazard4 .given .1) (c .weibull-cumulative .ensures)
+
 pub cumulative-hazard-spec : {M : Type 1} → statement M
 cumulative-hazard-spec =
     tie.close
@@ -58,8 +68,11 @@ cumulative-hazard-spec =
     enum-known-hazard-2
     enum-known-hazard-3
     piecewise-cumulative-requires
+    enum-known-hazard-4
+    weibull-cumulative-requires
     returns-2
     returns-3
     returns-4
     returns-5
-    returns-6)
+    returns-6
+    returns-7)

@@ -27,6 +27,15 @@ enum-known-hazard-3 c = search needs
 piecewise-hazard-requires : tie.Need-piecewise-hazard-requires
 piecewise-hazard-requires c κs = search needs
 
+enum-known-hazard-4 : tie.Need-enum-known-hazard-4
+enum-known-hazard-4 c = search needs
+
+not-below-zero-requires-2 : tie.Need-not-below-zero-requires-2
+not-below-zero-requires-2 c κs = search needs
+
+weibull-hazard-requires : tie.Need-weibull-hazard-requires
+weibull-hazard-requires c κs = search needs
+
 returns-2 : tie.Need-returns-2
 unfolding hazardAt hazardOfRate ofBits
 returns-2 c = simp (c .before .before .if1 .left, c .enum-told .given .1)
@@ -47,6 +56,13 @@ returns-6 : tie.Need-returns-6
 unfolding hazardAt hazardOfRate ofBits
 returns-6 c = simp (c .before .before .before .before .if1 .left, c .before .before .hazard3 .given .1) (c .piecewise-hazard .ensures)
 
+returns-7 : tie.Need-returns-7
+unfolding hazardAt hazardOfRate ofBits
+returns-7 c =
+    let h = c .before .before .before in
+    simp (h .before .before .if1 .left, h .hazard4 .given .1, ← c .before .not-below-zero2 .ensures)
+    (c .weibull-hazard .ensures)
+
 pub hazard-at-spec : {M : Type 1} → statement M
 hazard-at-spec =
     tie.close
@@ -58,8 +74,12 @@ hazard-at-spec =
     enum-known-hazard-2
     enum-known-hazard-3
     piecewise-hazard-requires
+    enum-known-hazard-4
+    not-below-zero-requires-2
+    weibull-hazard-requires
     returns-2
     returns-3
     returns-4
     returns-5
-    returns-6)
+    returns-6
+    returns-7)

@@ -36,6 +36,15 @@ not-below-zero-requires-2 c κs = search needs
 piecewise-wait-requires : tie.Need-piecewise-wait-requires
 piecewise-wait-requires c κs = search needs
 
+enum-known-hazard-4 : tie.Need-enum-known-hazard-4
+enum-known-hazard-4 c = search needs
+
+not-below-zero-requires-3 : tie.Need-not-below-zero-requires-3
+not-below-zero-requires-3 c κs = search needs
+
+weibull-wait-requires : tie.Need-weibull-wait-requires
+weibull-wait-requires c κs = search needs
+
 returns-2 : tie.Need-returns-2
 unfolding invertCumulativeHazard waitOfRate ofBits
 returns-2 c = simp (c .before .before .if1 .left, c .enum-told .given .1)
@@ -58,6 +67,13 @@ returns-5 c =
     simp (h .before .before .if1 .left, h .hazard3 .given .1, ← c .before .not-below-zero2 .ensures)
     (c .piecewise-wait .ensures)
 
+returns-6 : tie.Need-returns-6
+unfolding invertCumulativeHazard waitOfRate ofBits
+returns-6 c =
+    let h = c .before .before .before in
+    simp (h .before .before .if1 .left, h .hazard4 .given .1, ← c .before .not-below-zero3 .ensures)
+    (c .weibull-wait .ensures)
+
 pub invert-cumulative-hazard-spec : {M : Type 1} → statement M
 invert-cumulative-hazard-spec =
     tie.close
@@ -72,7 +88,11 @@ invert-cumulative-hazard-spec =
     enum-known-hazard-3
     not-below-zero-requires-2
     piecewise-wait-requires
+    enum-known-hazard-4
+    not-below-zero-requires-3
+    weibull-wait-requires
     returns-2
     returns-3
     returns-4
-    returns-5)
+    returns-5
+    returns-6)

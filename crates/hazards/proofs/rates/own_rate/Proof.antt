@@ -17,6 +17,9 @@ enum-known-hazard-2 c = search needs
 enum-known-hazard-3 : tie.Need-enum-known-hazard-3
 enum-known-hazard-3 c = search needs
 
+enum-known-hazard-4 : tie.Need-enum-known-hazard-4
+enum-known-hazard-4 c = search needs
+
 returns : tie.Need-returns
 unfolding ownRate ofBits
 returns c = rw (c .enum-told .given .1)
@@ -33,6 +36,10 @@ returns-4 : tie.Need-returns-4
 unfolding ownRate
 returns-4 c = rw (c .before .hazard3 .given .1)
 
+returns-5 : tie.Need-returns-5
+unfolding ownRate
+returns-5 c = rw (c .before .hazard4 .given .1)
+
 pub own-rate-spec : {M : Type 1} → statement M
 own-rate-spec =
     tie.close
@@ -41,7 +48,9 @@ own-rate-spec =
     enum-known-hazard
     enum-known-hazard-2
     enum-known-hazard-3
+    enum-known-hazard-4
     returns
     returns-2
     returns-3
-    returns-4)
+    returns-4
+    returns-5)
