@@ -3,6 +3,9 @@ use lib.Ieee.{ofBits, toBits, isNan, add, sub, mul, div, lt, le}
 use Rattle.hazards.specs.Floats.{notBelowZero, zeroBits, inRange, isTime, isThreshold, isFiniteWait}
 use Rattle.hazards.specs.Lists.{all, foldl, insertBy, sortBy}
 use Rattle.hazards.specs.Fields.{littleEndian, bytesOf, fieldAt, f64At, i32At}
+use Rattle.hazards.specs.FirstPlace.{firstOf}
+use Rattle.hazards.specs.Roots.{fieldsMultiple, multiple, squareAbove, rootPattern, nearestRoot}
+use Rattle.hazards.specs.Rates.{weibullHazard, weibullCumulative, weibullWait}
 use Rattle.hazards.specs.Rates.{piecesBy, firstAfter, usedPairs, piecewiseHazard, hazardOfRate, hazardAt, piecewiseCumulative}
 use Rattle.hazards.specs.Rates.{cumulativeOfRate, cumulativeHazard, waitFrom, constantWait, waitOfRate, invertCumulativeHazard, ownRate}
 use Rattle.hazards.specs.Checks.{rangeFault, ascending, intervalsFault, choiceFault, hazardFaults}
@@ -33,7 +36,8 @@ use Rattle.engine.specs.Ledger.{recordCommand, ledgerOf}
 
 unfoldable pub computed : Unit {0}
 unfolding ofBits toBits isNan add sub mul div lt le notBelowZero zeroBits inRange isTime isThreshold isFiniteWait all foldl insertBy sortBy
-    littleEndian bytesOf fieldAt f64At i32At piecesBy firstAfter usedPairs piecewiseHazard hazardOfRate hazardAt piecewiseCumulative
+    littleEndian bytesOf fieldAt f64At i32At firstOf fieldsMultiple multiple squareAbove rootPattern nearestRoot weibullHazard
+    weibullCumulative weibullWait piecesBy firstAfter usedPairs piecewiseHazard hazardOfRate hazardAt piecewiseCumulative
     cumulativeOfRate cumulativeHazard waitFrom constantWait waitOfRate invertCumulativeHazard ownRate
     rangeFault ascending intervalsFault choiceFault hazardFaults drawAt headBytes answerBytes candidateAfter preferred precedes
     earlier earliest faultsOfAll settingsFaults drawsRefusal sampleRefusal candidates censoredAt sampledEvent sampleNext settledHazard

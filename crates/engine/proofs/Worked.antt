@@ -1,9 +1,12 @@
--- Demand 3 on two lists worked through, computed from the definitions: bytes that are no command, commands accepted, refused and undone;
--- then two events at one tick.
+-- Demand 3 on three lists worked through, computed from the definitions: bytes that are no command, commands accepted, refused and undone;
+-- then two events at one tick; then a cause of kind 4.
 use mathlib.Core.Path.{_≡_, refl}
 use mathlib.Core.List.{List, [], _∷_, _++_}
 use Prim.Native.Nat.{ℕ}
+use mathlib.Core.Bool.{false}
+use lib.IntN.{negsuc}
 use lib.ListN.{replicate}
+use lib.Ieee.{Float, fin, binary64, ofBits}
 use Rattle.hazards.specs.Floats.{z}
 use Rattle.hazards.specs.Fields.{bytesOf}
 use Rattle.hazards.specs.declared.answers.Answer.{Answer}
@@ -15,7 +18,7 @@ use Rattle.engine.specs.Sessions.{Session, feed, newSession}
 use Rattle.engine.specs.Instance.{engineOf}
 use Rattle.engine.specs.Demand3 as demand
 use Rattle.engine.specs.Rows as rows
-use Rattle.engine.specs.Rows.{two, stream, f64, setBytes, censorAt, undoBytes, channelIn}
+use Rattle.engine.specs.Rows.{two, three, stream, f64, setBytes, censorAt, undoBytes, channelIn}
 use Rattle.engine.proofs.Computed.{computed}
 
 -- CREATE of a clock, Restart, scale 1.0
@@ -105,3 +108,31 @@ pub worked-ticks : (numbers (newSession engine 236) equalTicks ≡ replicate 7 0
     × (demand.ledger stream 236 equalTicks .rows 0 .delivered ≡ 0) × (demand.ledger stream 236 equalTicks .rows 1 .delivered ≡ 1)
 unfolding computed
 worked-ticks = (refl, refl, refl, refl, refl)
+
+-- ---- guide rails that wear: cause 1 of kind 4
+
+-- SET of cause 1 of clock 0 at 0
+abbrev setWear : Float → Bytes
+setWear scale = (commands.set ∷ 0 ∷ bytesOf 4 1) ++ (replicate 4 0 ++ ((4 ∷ f64 scale) ++ (f64 z ++ replicate 129 0)))
+
+abbrev next : Bytes
+next = rows.rescheduleBytes z rows.noCensor
+
+-- a scale of 2^-41 is refused by 5; RESCHEDULE is undone and comes again
+abbrev wear : List Bytes
+wear =
+    create 0
+    ∷ setWear (fin false 1 (negsuc 40))
+    ∷ setWear three
+    ∷ next
+    ∷ undoBytes
+    ∷ next
+    ∷ deliver
+    ∷ []
+
+-- scale 3.0 and threshold 2.0: the event comes after 3 times the root of 2
+pub worked-wear : (numbers (newSession engine 236) wear ≡ 0 ∷ 5 ∷ 0 ∷ 0 ∷ 0 ∷ 0 ∷ 0 ∷ [])
+    × (rows.answerTo (create 0 ∷ setWear three ∷ []) next .delta ≡ ofBits binary64 0x4010_f876_ccdf_6cda)
+    × (demand.ledger stream 236 wear .rows 0 .delivered ≡ 1) × (demand.queued stream 236 wear 0 ≡ 0)
+unfolding computed
+worked-wear = (refl, refl, refl, refl)

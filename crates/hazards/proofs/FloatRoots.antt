@@ -67,12 +67,13 @@ one-nearest x s f l k =
     let b = toBits binary64 x in
     let h = pattern-finite x f p in
     let r = root-nearest b h (pattern-above-zero x f p) in
-    let e = root-of-positive x l p in
-    (λ (v : NearestRoot x s).
-        sym (ofBits-toBits binary64 s (v .isF64)) ∙ ap (ofBits binary64) (nearest-is b h (toBits binary64 s) (v .nearest)) ∙ sym e,
-        λ (q : s ≡ nearestRoot x).
-            subst (NearestRoot x) (sym (q ∙ e))
-            (record {
-                isF64 = ofBits-fits binary64 (rootPattern b);
-                nearest = subst (λ (c : ℕ). NearestPattern b c) (sym (pattern-back (rootPattern b) (r .1))) (r .0)
-            }))
+    let e = root-of-positive x l p in (
+      λ (v : NearestRoot x s).
+          sym (ofBits-toBits binary64 s (v .isF64)) ∙ ap (ofBits binary64) (nearest-is b h (toBits binary64 s) (v .nearest)) ∙ sym e,
+      λ (q : s ≡ nearestRoot x).
+          subst (NearestRoot x) (sym (q ∙ e))
+          (record {
+            isF64 = ofBits-fits binary64 (rootPattern b);
+            nearest = subst (λ (c : ℕ). NearestPattern b c) (sym (pattern-back (rootPattern b) (r .1))) (r .0);
+          }),
+    )

@@ -49,3 +49,4 @@ pub mod Winners
 pub mod WorkedLists
 pub mod WorkedRates
 pub mod WorkedRoots
+pub mod WorkedWeibull

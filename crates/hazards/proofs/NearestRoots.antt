@@ -13,7 +13,8 @@ use Rattle.hazards.specs.RootsInternals.{NearestWhole, infinityPattern}
 use Rattle.hazards.proofs.Cases.{by-test}
 use Rattle.hazards.proofs.PatternValues.{multiple-mono, multiple-made, next-made, multiple-subnormal, multiple-normal}
 use Rattle.hazards.proofs.Bisection.{GoesOn, first-of, at-step, one-first}
-use Rattle.hazards.proofs.WholeRoots.{square-le, moved, Even, made-even, halfway-under, halfway-over, nearest-ge, nearest-lt, some-nearest}
+use Rattle.hazards.proofs.WholeRoots.{square-le, moved, halfway-under, halfway-over, nearest-ge, nearest-lt}
+use Rattle.hazards.proofs.WholeRoots.{Even, made-even, some-nearest}
 
 -- ---- the pattern j * 2^52 + p, where p is nearest to the root of n * 2^52: from p's halfway points to the pattern's
 
@@ -23,7 +24,7 @@ over-made x p J pos h = lt-of-lt-of-le (mul-lt-mul-of-pos-right h (mul-pos pos p
 under-made : (x k J : ℕ) → 0 < J → (2 * k + 1) * (2 * k + 1) < x → (k * J + (k + 1) * J) * (k * J + (k + 1) * J) < x * (J * J)
 under-made x k J pos h = lt-of-le-of-lt (le-of-eq (omega arith)) (mul-lt-mul-of-pos-right h (mul-pos pos pos))
 
--- below 2^52 the neighbour is half as far
+-- at p = 2^52 the lower neighbour is half as far
 lowest-made : (x K : ℕ) → 0 < K → (2 ^ 54 - 1) * (2 ^ 54 - 1) < x * 4
     → ((2 ^ 53 - 1) * K + 2 ^ 52 * (2 * K)) * ((2 ^ 53 - 1) * K + 2 ^ 52 * (2 * K)) < x * (2 * K * (2 * K))
 lowest-made x K pos h =
@@ -42,7 +43,10 @@ module _ (n p j : ℕ) (big : 2 ^ 52 ≤ n) (small : n ≤ 2 ^ 54 - 2) (v : Near
   over : n * 2 ^ 54 * (2 ^ j * 2 ^ j) < halfwaySquare c
   over = rw (multiple-made j p ge lt, next-made j p ge lt) (over-made (n * 2 ^ 54) p (2 ^ j) (pow-pos j) (halfway-over n p v))
 
-  under-any : 2 ^ 52 < p → (multiple (c - 1) + multiple c) * (multiple (c - 1) + multiple c) < n * 2 ^ 54 * (2 ^ j * 2 ^ j)
+  abbrev Under : Type 0
+  Under = (multiple (c - 1) + multiple c) * (multiple (c - 1) + multiple c) < n * 2 ^ 54 * (2 ^ j * 2 ^ j)
+
+  under-any : 2 ^ 52 < p → Under
   under-any l =
       let a : c - 1 ≡ j * 2 ^ 52 + (p - 1) = omega arith in
       let d : p ≡ p - 1 + 1 = omega arith in
@@ -50,22 +54,20 @@ module _ (n p j : ℕ) (big : 2 ^ 52 ≤ n) (small : n ≤ 2 ^ 54 - 2) (v : Near
       rw (a, multiple-made j (p - 1) (omega arith) (omega (arith, lt)), f)
       (under-made (n * 2 ^ 54) (p - 1) (2 ^ j) (pow-pos j) (halfway-under n p v (p - 1) d))
 
-  under-lowest : p ≡ 2 ^ 52 → (multiple (c - 1) + multiple c) * (multiple (c - 1) + multiple c) < n * 2 ^ 54 * (2 ^ j * 2 ^ j)
+  under-lowest : p ≡ 2 ^ 52 → Under
   under-lowest q =
       let i = j - 1 in
       let a : c - 1 ≡ i * 2 ^ 52 + (2 ^ 53 - 1) = omega arith in
       let s : j ≡ suc i = omega arith in
       let t : 2 ^ j ≡ 2 * 2 ^ i = ap (λ (x : ℕ). 2 ^ x) s ∙ pow-succ' 2 i in
-      let f : multiple c ≡ 2 ^ 52 * (2 * 2 ^ i) =
-        multiple-made j p ge lt ∙ ap (λ (x : ℕ). x * 2 ^ j) q ∙ ap (λ (x : ℕ). 2 ^ 52 * x) t in
+      let f : multiple c ≡ 2 ^ 52 * 2 ^ j = multiple-made j p ge lt ∙ ap (λ (x : ℕ). x * 2 ^ j) q in
       rw (a, multiple-made i (2 ^ 53 - 1) (lit≤ tt) (lit< tt), f, t)
       (lowest-made (n * 2 ^ 54) (2 ^ i) (pow-pos i) (omega arith))
 
   under : halfwaySquare (c - 1) < n * 2 ^ 54 * (2 ^ j * 2 ^ j)
   under =
       let e : c - 1 + 1 ≡ c = omega arith in
-      rw e
-      (by-test (ltb (2 ^ 52) p) (λ t. under-any (ltb-true _ _ t)) (λ t. under-lowest (le-antisymm (ltb-false _ _ t) ge)))
+      rw e (by-test (ltb (2 ^ 52) p) (λ t. under-any (ltb-true _ _ t)) (λ t. under-lowest (le-antisymm (ltb-false _ _ t) ge)))
 
   nearest-made : (b : ℕ) → quarters b ≡ n * 2 ^ 54 * (2 ^ j * 2 ^ j) → NearestPattern b c
   nearest-made b e = record { below = rw e under; above = rw e over }
@@ -73,38 +75,36 @@ module _ (n p j : ℕ) (big : 2 ^ 52 ≤ n) (small : n ≤ 2 ^ 54 - 2) (v : Near
 -- ---- a value's 53 digits and the power of two that they are multiplied by
 
 -- d * 2^m is N
-abbrev pub AllDigits : (N d m : ℕ) → Type 0
+abbrev AllDigits : (N d m : ℕ) → Type 0
 AllDigits N d m = (d * 2 ^ m ≡ N) × (2 ^ 52 ≤ d) × (d < 2 ^ 53) × (1022 ≤ m) × (m < 3120)
 
--- the power taken apart
+-- four times that, with the power taken apart
+power-apart : (m j : ℕ) → m + 2 ≡ m % 2 + (54 + (j + j)) → 2 ^ m * 4 ≡ 2 ^ (m % 2) * (2 ^ 54 * (2 ^ j * 2 ^ j))
+power-apart m j e =
+    sym (pow-add 2 m 2)
+    ∙ ap (λ (x : ℕ). 2 ^ x) e
+    ∙ pow-add 2 (m % 2) (54 + (j + j))
+    ∙ ap (λ (x : ℕ). 2 ^ (m % 2) * x) (pow-add 2 54 (j + j) ∙ ap (λ (x : ℕ). 2 ^ 54 * x) (pow-add 2 j j))
+
+regrouped : (d a b k l : ℕ) → a * 4 ≡ b * (k * l) → 4 * (d * a) ≡ d * b * k * l
+regrouped d a b k l f =
+    let g : 4 * (d * a) ≡ d * (a * 4) = omega arith in
+    g ∙ ap (λ (x : ℕ). d * x) f ∙ sym (mul-assoc d b (k * l)) ∙ sym (mul-assoc (d * b) k l)
+
 four-times : (d m : ℕ) → 52 ≤ m → 4 * (d * 2 ^ m) ≡ d * 2 ^ (m % 2) * 2 ^ 54 * (2 ^ (m / 2 - 26) * 2 ^ (m / 2 - 26))
 four-times d m h =
     let j = m / 2 - 26 in
-    let e : m + 2 ≡ m % 2 + (54 + (j + j)) = omega arith in
-    let f : 2 ^ m * 4 ≡ 2 ^ (m % 2) * (2 ^ 54 * (2 ^ j * 2 ^ j)) =
-      sym (pow-add 2 m 2)
-      ∙ ap (λ (x : ℕ). 2 ^ x) e
-      ∙ pow-add 2 (m % 2) (54 + (j + j))
-      ∙ ap (λ (x : ℕ). 2 ^ (m % 2) * x) (pow-add 2 54 (j + j) ∙ ap (λ (x : ℕ). 2 ^ 54 * x) (pow-add 2 j j)) in
-    sides d (2 ^ m) (2 ^ (m % 2)) (2 ^ 54) (2 ^ j * 2 ^ j) f
-  where
-    sides : (d a b k l : ℕ) → a * 4 ≡ b * (k * l) → 4 * (d * a) ≡ d * b * k * l
-    sides d a b k l f =
-        let g : 4 * (d * a) ≡ d * (a * 4) = omega arith in
-        g ∙ ap (λ (x : ℕ). d * x) f ∙ sym (mul-assoc d b (k * l)) ∙ sym (mul-assoc (d * b) k l)
+    regrouped d (2 ^ m) (2 ^ (m % 2)) (2 ^ 54) (2 ^ j * 2 ^ j) (power-apart m j (omega arith))
 
 module _ (b d m p : ℕ) (a : AllDigits (multiple b * 2 ^ 1074) d m) (v : NearestWhole (d * (1 + m % 2)) p) where
   even : Even d (m % 2)
   even = made-even (a .1, a .2, omega arith)
 
+  quarters-are : quarters b ≡ d * (1 + m % 2) * 2 ^ 54 * (2 ^ (m / 2 - 26) * 2 ^ (m / 2 - 26))
+  quarters-are = rw (← a .0, even .0) (four-times d m (omega arith))
+
   pub root-made : NearestPattern b ((m / 2 - 26) * 2 ^ 52 + p)
-  root-made =
-      let j = m / 2 - 26 in
-      let e : quarters b ≡ d * (1 + m % 2) * 2 ^ 54 * (2 ^ j * 2 ^ j) =
-        ap (λ (x : ℕ). 4 * x) (sym (a .0))
-        ∙ four-times d m (omega arith)
-        ∙ ap (λ (x : ℕ). x * 2 ^ 54 * (2 ^ j * 2 ^ j)) (sym (even .0)) in
-      nearest-made (d * (1 + m % 2)) p j (even .1) (even .2) v (omega arith) b e
+  root-made = nearest-made (d * (1 + m % 2)) p (m / 2 - 26) (even .1) (even .2) v (omega arith) b quarters-are
 
   pub root-finite : (m / 2 - 26) * 2 ^ 52 + p < infinityPattern
   root-finite = omega (arith, nearest-lt (d * (1 + m % 2)) p v (even .2))
@@ -127,26 +127,24 @@ abbrev SomeDigits : ℕ → Type 0
 SomeDigits N = (d : ℕ) × ((m : ℕ) × AllDigits N d m)
 
 doubled : (N k d : ℕ) → k ≤ 52 → d < 2 ^ 53 → 2 ^ 52 ≤ d * 2 ^ k → d * 2 ^ (1022 + k) ≡ N → SomeDigits N
-doubled N zero d k h l e = (d, (1022, (e, omega arith, h, omega arith, omega arith)))
+doubled N zero d g h l e = (d, (1022, (e, omega arith, h, omega arith, omega arith)))
 doubled N (suc k) d g h l e =
     let s : 1022 + suc k - 1 ≡ 1022 + k = omega arith in
-    by-test (ltb d (2 ^ 52))
-    (λ t.
-        let short = ltb-true d (2 ^ 52) t in
-        let l' : 2 ^ 52 ≤ d * (2 * 2 ^ k) = rw (pow-succ' 2 k) at l in
-        doubled N k (2 * d) (omega arith) (omega arith) (omega arith) (rw s at (moved d (1022 + suc k) (omega arith) ∙ e)))
+    let two : 2 ^ 52 ≤ d * (2 * 2 ^ k) = rw (pow-succ' 2 k) at l in
+    let same : 2 * d * 2 ^ (1022 + k) ≡ N = rw s at (moved d (1022 + suc k) (omega arith) ∙ e) in
+    by-test (ltb d (2 ^ 52)) (λ t. doubled N k (2 * d) (omega arith) (omega (arith, ltb-true d (2 ^ 52) t)) (omega arith) same)
     (λ t. (d, (1022 + suc k, (e, ltb-false _ _ t, h, omega arith, omega arith))))
 
 some-digits : (b : ℕ) → 0 < b → b < infinityPattern → SomeDigits (multiple b * 2 ^ 1074)
-some-digits b pos h =
-    by-test (ltb 0 (b / 2 ^ 52))
-    (λ t.
-        let k = ltb-true 0 (b / 2 ^ 52) t in
-        (b % 2 ^ 52 + 2 ^ 52, (b / 2 ^ 52 + 1073, (normal-digits b k, omega arith, omega arith, omega arith, omega arith))))
-    (λ t.
-        let k = ltb-false 0 (b / 2 ^ 52) t in
+some-digits b pos h = by-test (ltb 0 (b / 2 ^ 52)) (λ t. normal (ltb-true _ _ t)) (λ t. subnormal (ltb-false _ _ t))
+  where
+    normal : 0 < b / 2 ^ 52 → SomeDigits (multiple b * 2 ^ 1074)
+    normal k = (b % 2 ^ 52 + 2 ^ 52, (b / 2 ^ 52 + 1073, (normal-digits b k, omega arith, omega arith, omega arith, omega arith)))
+
+    subnormal : b / 2 ^ 52 ≤ 0 → SomeDigits (multiple b * 2 ^ 1074)
+    subnormal k =
         doubled (multiple b * 2 ^ 1074) 52 (b % 2 ^ 52) (omega arith) (omega arith) (omega arith)
-        (subnormal-digits b (b % 2 ^ 52) 1074 (omega arith) refl))
+        (subnormal-digits b (b % 2 ^ 52) 1074 (omega arith) refl)
 
 -- ---- no pattern but `rootPattern b` is nearest: the halfway points grow, and the last one's square is above every finite value
 
@@ -171,25 +169,23 @@ module _ (b : ℕ) (h : b < infinityPattern) where
   first-is = first-of (squareAbove b) 63 0 (goes-on b) (lt-ltb _ _ above-last)
 
   module _ (c : ℕ) (v : NearestPattern b c) where
+    -- up to c's lower halfway point none has a square above
+    not-later : (i : ℕ) → i ≤ c - 1 → quarters b < halfwaySquare i → ⊥
+    not-later i h l = lt-irrefl (quarters b) (lt-of-lt-of-le l (le-trans (square-mono i (c - 1) h) (le-of-lt (v .below))))
+
     above-zero : 0 < c
-    above-zero = lt-of-not-le (λ (g : c ≤ 0). absurd (no (omega arith)))
-      where
-        no : c ≡ 0 → ⊥
-        no e = lt-irrefl (quarters b) (lt-of-lt-of-le (v .above) (le-trans (square-mono c (c - 1) (omega arith)) (le-of-lt (v .below))))
+    above-zero = lt-of-not-le (λ (g : c ≤ 0). not-later c (omega arith) (v .above))
 
     before-last : c - 1 < 2 ^ 63 - 1
-    before-last =
-        lt-of-not-le
-        (λ (g : 2 ^ 63 - 1 ≤ c - 1).
-            lt-irrefl (quarters b) (lt-of-lt-of-le above-last (le-trans (square-mono (2 ^ 63 - 1) (c - 1) g) (le-of-lt (v .below)))))
+    before-last = lt-of-not-le (λ (g : 2 ^ 63 - 1 ≤ c - 1). not-later (2 ^ 63 - 1) g above-last)
 
     nearest-first : FirstPlace (squareAbove b) 0 (2 ^ 63) c
     unfolding squareAbove
     nearest-first =
         let e : c - 1 + 1 ≡ c = omega (arith, above-zero) in
-        rw e at
-        (at-step {place = c - 1} (goes-on b) (omega arith) (omega (arith, before-last)) (le-ltb _ _ (le-of-lt (v .below)))
-        (rw e (lt-ltb _ _ (v .above))))
+        let below = le-ltb _ _ (le-of-lt (v .below)) in
+        let above = lt-ltb _ _ (v .above) in
+        rw e at (at-step {place = c - 1} (goes-on b) (omega arith) (omega (arith, before-last)) below (rw e above))
 
     pub nearest-is : c ≡ rootPattern b
     nearest-is = one-first nearest-first first-is

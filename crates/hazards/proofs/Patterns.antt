@@ -1,4 +1,4 @@
--- NaN patterns, and the NaN that they all read as.
+-- NaN patterns, the NaN that they all read as, and floats that are none.
 -- Assumes nothing.
 use mathlib.Core.Path.{_≡_, refl, sym, _∙_, subst}
 use mathlib.Core.Bool.{Bool, true, false, not, true≢false}

@@ -16,11 +16,13 @@ square-le h = mul-le-mul h h
 
 -- ---- a number given 53 digits, one doubling at a time
 
+-- while there are fewer than 53, a power is left
 pub few : (p d : ℕ) → 2 ^ (1074 - p) ≤ d → d < 2 ^ 52 → 1022 < p
 few p d l h =
     lt-of-not-le
     (λ (g : p ≤ 1022). lt-irrefl (2 ^ 52) (lt-of-le-of-lt (le-trans (pow-mono {i = 52} {j = 1074 - p} (omega arith)) l) h))
 
+-- twice the digits and one power less: the same value
 pub moved : (d p : ℕ) → 0 < p → 2 * d * 2 ^ (p - 1) ≡ d * 2 ^ p
 moved d p h =
     let e : p ≡ suc (p - 1) = omega arith in
@@ -149,7 +151,7 @@ even-nearest {d} {o} {p} h v = (v, nearest-lt (d * (1 + o)) p v (made-even h .2)
 pub rounded : (n r : ℕ) → 0 < n → r * r ≤ n * 2 ^ 54 → n * 2 ^ 54 < (r + 1) * (r + 1) → NearestWhole n ((r + 1) / 2)
 rounded n r pos low high = record {
   above = half n r ((r + 1) / 2 - 1) pos low (omega (arith, some)) (omega (arith, some));
-  below = omega (arith, high, square-le {a = r + 1} {b = 2 * ((r + 1) / 2) + 1} (omega arith))
+  below = omega (arith, high, square-le {a = r + 1} {b = 2 * ((r + 1) / 2) + 1} (omega arith));
 }
   where
     some : 0 < r

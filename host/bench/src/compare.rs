@@ -1,4 +1,4 @@
-//! Random evaluations and samples through both sides, up to the first difference.
+//! Random evaluations, samples and roots through both sides, up to the first difference.
 
 use crate::describe;
 use crate::formats::{self, EVALUATION_BYTES, POSITION_BYTES, SAMPLE_BYTES};
@@ -6,28 +6,53 @@ use crate::numbers::{self, SIDES, Sides};
 use crate::probe;
 use cases::chosen;
 use cases::evaluations::EvaluationCase;
+use cases::radicands::{self, radicand};
 use cases::random::Random;
 use cases::samples::SampleCase;
+use cases::words::float;
 use reference::answer::Answer;
 
 /// What stands in a buffer before a call, so that a byte left out is seen.
 const FILLED: u8 = 0xA5;
 
-/// The chosen cases, then as many random evaluations and samples as asked for.
+/// The chosen cases, then as many random evaluations, samples and roots in turn as asked for.
 pub fn run(seed: u64, count: u64) -> Result<(), String> {
-    chosen::evaluations().iter().try_for_each(evaluation)?;
-    for case in chosen::samples() {
-        sample(&case, &[])?;
+    let mut place = 0;
+    let mut said = |outcome: Result<(), String>| {
+        place += 1;
+        outcome.map_err(|sides| format!("seed {seed}, case {place}: the sides part\n{sides}"))
+    };
+    for case in chosen::evaluations() {
+        said(evaluation(&case))?;
     }
+    for case in chosen::samples() {
+        said(sample(&case, &[]).map(drop))?;
+    }
+    for x in radicands::chosen() {
+        said(root(x))?;
+    }
+    said(root(f64::INFINITY))?;
     let mut random = Random::new(seed);
-    for index in 0..count {
-        let place = |difference| format!("case {index} of seed {seed}: {difference}");
-        evaluation(&EvaluationCase::random(&mut random)).map_err(place)?;
+    for _ in 0..count {
+        said(evaluation(&EvaluationCase::random(&mut random)))?;
         let case = SampleCase::random(&mut random);
         let left_over = &random.word().to_le_bytes()[..random.index(8)];
-        sample(&case, left_over).map_err(place)?;
+        said(sample(&case, left_over).map(drop))?;
+        said(root(radicand(&mut random)))?;
     }
     Ok(())
+}
+
+/// The engine's nearest root beside the processor's.
+fn root(x: f64) -> Result<(), String> {
+    let (processor, rattle) = (x.sqrt(), probe::nearest_root(x));
+    if processor.to_bits() == rattle.to_bits() {
+        return Ok(());
+    }
+    let (x, processor, rattle) = (float(x), float(processor), float(rattle));
+    Err(format!(
+        "probe_nearest_root differs\nof {x}\nprocessor {processor}\nRattle    {rattle}"
+    ))
 }
 
 fn evaluation(case: &EvaluationCase) -> Result<(), String> {

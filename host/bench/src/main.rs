@@ -1,4 +1,5 @@
-//! `bench` times the Rattle libraries against the unchanged Rust: evaluations, sampler, engine; and the rate for a wait beside a model.
+//! `bench` times the Rattle libraries against the unchanged Rust: evaluations, sampler, engine; the nearest root beside the processor's,
+//! and the rate for a wait beside a model.
 //! `bench --engine`: the engine alone. `bench --compare SEED COUNT` compares their answers on random cases, `bench --orders SEED COUNT` on
 //! lists of records in several orders, `bench --rates SEED COUNT` the rates for random thresholds and waits with the model's.
 
@@ -16,6 +17,7 @@ mod probe;
 mod rate_report;
 mod rates;
 mod report;
+mod root_report;
 mod rust_side;
 mod timing;
 mod workloads;
@@ -29,6 +31,7 @@ fn main() -> ExitCode {
     match words.as_slice() {
         [] => {
             report::print();
+            root_report::print();
             rate_report::print();
             engine_report::print();
             execute_report::print();
@@ -62,7 +65,7 @@ fn comparison(option: &str) -> Option<Comparison> {
 fn compare(seed: u64, count: u64) -> Result<String, String> {
     compare::run(seed, count)?;
     Ok(format!(
-        "{count} evaluations and {count} samples, no difference"
+        "{count} evaluations, {count} samples and {count} roots, no difference"
     ))
 }
 

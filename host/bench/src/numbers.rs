@@ -2,7 +2,7 @@
 //! one call that is not inlined: Rattle's across the C boundary, the Rust's to a function here.
 
 use crate::probe::{self, Fields};
-use kairo_ecs_rng::HazardRate;
+use kairo_ecs_rng::{UnchangedHazard, Weibull};
 use reference::evaluation::{self, OPERATIONS};
 use reference::hazard::Hazard;
 use std::hint::black_box;
@@ -10,7 +10,7 @@ use std::hint::black_box;
 /// Hazard, t, w; a NaN where it is refused or there is no wait.
 type Call<H> = fn(&H, f64, f64) -> f64;
 
-/// By operation number. The Rust side checks by document 01's rules, builds the Rust's hazard and calls it.
+/// By operation number. The Rust side checks by document 01's rules, builds the Rust's hazard, or the model of kind 4, and calls it.
 const CHECKED_RUST: [Call<Hazard>; OPERATIONS.len()] = [
     |hazard, t, w| checked(0, hazard, t, w),
     |hazard, t, w| checked(1, hazard, t, w),
@@ -23,10 +23,17 @@ const CHECKED_RATTLE: [Call<Fields>; OPERATIONS.len()] = [
     |hazard, t, w| probe::evaluate_numbers(2, hazard, t, w),
 ];
 
-const RUST: [Call<HazardRate>; OPERATIONS.len()] = [
+const RUST: [Call<UnchangedHazard>; OPERATIONS.len()] = [
     |hazard, t, _| hazard_at(hazard, t),
     |hazard, t, _| cumulative_hazard(hazard, t),
     |hazard, t, w| invert_cumulative_hazard(hazard, t, w),
+];
+
+/// Kind 4 in plain Rust.
+const MODEL: [Call<Weibull>; OPERATIONS.len()] = [
+    |weibull, t, _| model_hazard_at(*weibull, t),
+    |weibull, t, _| model_cumulative_hazard(*weibull, t),
+    |weibull, t, w| model_invert_cumulative_hazard(*weibull, t, w),
 ];
 
 const RATTLE: [Call<Fields>; OPERATIONS.len()] = [
@@ -42,18 +49,34 @@ fn checked(operation: u8, hazard: &Hazard, t: f64, w: f64) -> f64 {
 }
 
 #[inline(never)]
-fn hazard_at(hazard: &HazardRate, t: f64) -> f64 {
+fn hazard_at(hazard: &UnchangedHazard, t: f64) -> f64 {
     hazard.hazard_at(t)
 }
 
 #[inline(never)]
-fn cumulative_hazard(hazard: &HazardRate, t: f64) -> f64 {
+fn cumulative_hazard(hazard: &UnchangedHazard, t: f64) -> f64 {
     hazard.cumulative_hazard(t)
 }
 
 #[inline(never)]
-fn invert_cumulative_hazard(hazard: &HazardRate, t_start: f64, target_w: f64) -> f64 {
+fn invert_cumulative_hazard(hazard: &UnchangedHazard, t_start: f64, target_w: f64) -> f64 {
     let wait = hazard.invert_cumulative_hazard(t_start, target_w);
+    wait.unwrap_or(f64::NAN)
+}
+
+#[inline(never)]
+fn model_hazard_at(weibull: Weibull, t: f64) -> f64 {
+    weibull.hazard_at(t)
+}
+
+#[inline(never)]
+fn model_cumulative_hazard(weibull: Weibull, t: f64) -> f64 {
+    weibull.cumulative_hazard(t)
+}
+
+#[inline(never)]
+fn model_invert_cumulative_hazard(weibull: Weibull, t_start: f64, target_w: f64) -> f64 {
+    let wait = weibull.invert_cumulative_hazard(t_start, target_w);
     wait.unwrap_or(f64::NAN)
 }
 
@@ -61,7 +84,8 @@ fn invert_cumulative_hazard(hazard: &HazardRate, t_start: f64, target_w: f64) ->
 pub struct Sides {
     operation: usize,
     hazard: Hazard,
-    rate: HazardRate,
+    rate: UnchangedHazard,
+    weibull: Option<Weibull>,
     fields: Fields,
 }
 
@@ -69,7 +93,10 @@ pub struct Sides {
 pub const SIDES: [fn(&Sides, &[(f64, f64)], &mut [f64]); 4] = [
     |s, points, out| each_point(CHECKED_RUST[s.operation], &s.hazard, points, out),
     |s, points, out| each_point(CHECKED_RATTLE[s.operation], &s.fields, points, out),
-    |s, points, out| each_point(RUST[s.operation], &s.rate, points, out),
+    |s, points, out| match &s.weibull {
+        Some(weibull) => each_point(MODEL[s.operation], weibull, points, out),
+        None => each_point(RUST[s.operation], &s.rate, points, out),
+    },
     |s, points, out| each_point(RATTLE[s.operation], &s.fields, points, out),
 ];
 
@@ -78,7 +105,8 @@ impl Sides {
         Self {
             operation: usize::from(operation),
             hazard: *hazard,
-            rate: hazard.build(),
+            rate: hazard.build_unchanged(),
+            weibull: hazard.weibull(),
             fields: Fields::of(hazard),
         }
     }

@@ -58,6 +58,8 @@ mod raw {
             target_w: f64,
         ) -> f64;
 
+        pub fn probe_nearest_root(x: f64) -> f64;
+
         pub fn probe_sample(
             request: *const u8,
             request_len: usize,
@@ -142,6 +144,12 @@ pub fn invert_cumulative_hazard(h: &Fields, t_start: f64, target_w: f64) -> f64 
             target_w,
         )
     }
+}
+
+/// The f64 nearest to the root of a number above 0; infinite for infinity.
+pub fn nearest_root(x: f64) -> f64 {
+    // SAFETY: a number.
+    unsafe { raw::probe_nearest_root(x) }
 }
 
 /// One checked sample for each position; returns how many were made.

@@ -11,7 +11,8 @@ use std::hint::black_box;
 
 const EVALUATIONS: &str = "
 Evaluations, on numbers, one driver for both sides. Checked: each call checks the fields, and the Rust
-side builds the Rust's hazard. Unchecked: the evaluation alone, on a hazard built beforehand.";
+side builds the Rust's hazard. Unchecked: the evaluation alone, on a hazard built beforehand. Weibull: beside
+the same steps in plain Rust with the processor's own root, not the Rust's powf.";
 
 const SAMPLER: &str = "
 Sampler, on records decoded beforehand. Checked: each call checks the records, and the Rust side builds

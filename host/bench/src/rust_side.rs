@@ -15,10 +15,10 @@ pub fn sample(request: &[u8], stream: &[u8], positions: &[u8], out: &mut [u8]) -
     })
 }
 
-/// The causes are built once and nothing is checked: the Rust's own `sample_next`.
+/// The causes, of kinds 0 to 3, are built once and nothing is checked: the Rust's own `sample_next`.
 pub fn sample_prebuilt(request: &[u8], stream: &[u8], positions: &[u8], out: &mut [u8]) -> u64 {
     let request = Request::decode(request);
-    let causes = request.build();
+    let causes = request.build(&DeterministicStream::new(stream, 0));
     each_position(positions, out, |position| {
         let mut stream = DeterministicStream::new(stream, *position);
         let event = causes.sample_next(request.age, request.censor_age(), &mut stream);

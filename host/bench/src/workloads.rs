@@ -1,9 +1,9 @@
-//! What is timed: points and hazards for the evaluations, causes and thresholds for the sampler, pairs for the rate.
+//! What is timed: points and hazards for the evaluations, causes and thresholds for the sampler, numbers for the root, pairs for the rate.
 
-use cases::floats::{Style, positive};
+use cases::floats::{LARGEST_SUBNORMAL, SMALLEST, Style, positive, spread};
 use cases::random::Random;
 use reference::fields::LIMIT;
-use reference::hazard::{CONSTANT, GOMPERTZ, Hazard};
+use reference::hazard::{CONSTANT, GOMPERTZ, Hazard, WEIBULL};
 use reference::request::{Record, Request};
 
 const SEED: u64 = 1;
@@ -27,11 +27,12 @@ pub struct EvaluationWorkload {
     pub hazard: Hazard,
 }
 
-pub fn evaluations() -> [EvaluationWorkload; 3] {
+pub fn evaluations() -> [EvaluationWorkload; 4] {
     [
         ("constant", Hazard::single_rate(CONSTANT, 0.3)),
         ("gompertz", Hazard::single_rate(GOMPERTZ, 0.3)),
         ("piecewise, 8 pairs", Hazard::piecewise(&PAIRS, 0.2)),
+        ("weibull", Hazard::single_rate(WEIBULL, 3.0)),
     ]
     .map(|(name, hazard)| EvaluationWorkload { name, hazard })
 }
@@ -41,6 +42,28 @@ pub fn points() -> Vec<(f64, f64)> {
     let mut random = Random::new(SEED);
     let mut number = || positive(&mut random, Style::Moderate);
     (0..POINTS).map(|_| (number(), number())).collect()
+}
+
+/// Numbers of moderate size, to take the root of.
+pub fn moderate_numbers() -> Vec<f64> {
+    let mut random = Random::new(SEED);
+    let number = || positive(&mut random, Style::Moderate);
+    std::iter::repeat_with(number).take(POINTS).collect()
+}
+
+/// Every exponent as likely.
+pub fn numbers_of_all_sizes() -> Vec<f64> {
+    numbers_between(SMALLEST, f64::MAX)
+}
+
+pub fn subnormal_numbers() -> Vec<f64> {
+    numbers_between(SMALLEST, LARGEST_SUBNORMAL)
+}
+
+fn numbers_between(low: f64, high: f64) -> Vec<f64> {
+    let mut random = Random::new(SEED);
+    let number = || spread(&mut random, low, high);
+    std::iter::repeat_with(number).take(POINTS).collect()
 }
 
 /// Thresholds of moderate size, and waits that rates of moderate size give.

@@ -110,7 +110,8 @@ enum olgaemuri_refusal {
     OLGAEMURI_UNKNOWN_CODE = 2,      /* code not 1 to 8; ends a run */
     OLGAEMURI_CUT_SHORT = 3,         /* fewer bytes than the width; ends a run */
     OLGAEMURI_INVALID_CHOICE = 4,    /* policy, tie, kind or has-byte off its list, or an unused entity, censor or first not zero */
-    OLGAEMURI_OUT_OF_RANGE = 5,      /* a time not from +0.0 to 2^40, or a rate or scale not finite or above 2^40 in size */
+    OLGAEMURI_OUT_OF_RANGE = 5,      /* a time not from +0.0 to 2^40, a rate or scale not finite or above 2^40 in size, or a
+                                        Weibull scale above 0 and below 2^-40 */
     OLGAEMURI_INVALID_PAIRS = 6,     /* count above 8, count or pairs not zero where unused, or ends not above 0, at most 2^40
                                         and strictly ascending */
     OLGAEMURI_INVALID_NAME = 7,      /* clock above 15, or the cause is OLGAEMURI_NO_CAUSE */
@@ -242,7 +243,7 @@ struct olgaemuri_cause {
     uint32_t cause;         /* its number */
     uint32_t priority;      /* in ties; the higher one wins */
     uint64_t pairs;         /* how many pairs of its hazard are used */
-    double rate;            /* the hazard's own: nothing, the rate, eta, the rate after the last pair */
+    double rate;            /* the hazard's own: nothing, the rate, eta, the rate after the last pair, the scale */
     double accumulated;     /* how much hazard is used up, counted up to the interval's start */
     double threshold;       /* how much may be used up before the event comes */
     double interval_start;  /* the time from which hazard is not counted yet */
@@ -296,8 +297,8 @@ struct olgaemuri_entity {
 
 /* A hazard. Unused fields are zero; the functions below see to it. */
 struct olgaemuri_hazard {
-    uint8_t kind;                /* 0 Zero, 1 Constant, 2 Gompertz with b = 0, 3 PiecewiseConstant */
-    double first;                /* nothing, the rate, eta, the rate after the last pair */
+    uint8_t kind;                /* 0 Zero, 1 Constant, 2 Gompertz with b = 0, 3 PiecewiseConstant, 4 Weibull with shape 2 */
+    double first;                /* nothing, the rate, eta, the rate after the last pair, the scale */
     uint8_t count;               /* how many pairs are used */
     double end[OLGAEMURI_PAIRS]; /* until when a rate holds, counted from the start of the interval */
     double rate[OLGAEMURI_PAIRS];
@@ -372,6 +373,15 @@ static inline struct olgaemuri_hazard olgaemuri_piecewise(const double *end, con
         hazard.end[i] = end[i];
         hazard.rate[i] = rate[i];
     }
+    return hazard;
+}
+
+/* Weibull with shape 2: wear whose hazard is proportional to the age, counted from the start of the interval. A threshold of 1 is used up
+   at the age `scale`, one of 4 at twice that age. A scale at most 0 is as olgaemuri_zero(); one above 0 and below 2^-40 is refused by 5. */
+static inline struct olgaemuri_hazard olgaemuri_weibull(double scale)
+{
+    struct olgaemuri_hazard hazard = olgaemuri_constant(scale);
+    hazard.kind = 4;
     return hazard;
 }
 

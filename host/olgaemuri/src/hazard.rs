@@ -1,4 +1,4 @@
-//! Hazards: how fast a cause uses up its threshold over time (document 01, kinds 0 to 3 of SET).
+//! Hazards: how fast a cause uses up its threshold over time (document 01, kinds 0 to 3 of SET; kind 4 is change 4 of document 02).
 
 use crate::refusal::Refusal;
 
@@ -32,6 +32,10 @@ pub enum Hazard {
         /// The rate after the last piece.
         trailing: f64,
     },
+    /// Weibull with shape 2 and this scale: wear whose hazard is proportional to the age, which counts from the start of the
+    /// interval. A threshold of 1 is used up at the age `scale`, one of 4 at twice that age. A scale at most 0 means
+    /// [`Hazard::Zero`]; one above 0 is refused by 5 where it is below 2^-40.
+    Weibull(f64),
 }
 
 impl Hazard {
@@ -43,10 +47,11 @@ impl Hazard {
             Self::Constant(_) => 1,
             Self::Gompertz(_) => 2,
             Self::PiecewiseConstant { .. } => 3,
+            Self::Weibull(_) => 4,
         }
     }
 
-    /// The field `first`: the rate, eta or the trailing rate; +0.0 for Zero.
+    /// The field `first`: the rate, eta, the trailing rate or the scale; +0.0 for Zero.
     #[must_use]
     pub fn first(&self) -> f64 {
         match self {
@@ -55,7 +60,8 @@ impl Hazard {
             | Self::Gompertz(first)
             | Self::PiecewiseConstant {
                 trailing: first, ..
-            } => *first,
+            }
+            | Self::Weibull(first) => *first,
         }
     }
 
@@ -64,7 +70,7 @@ impl Hazard {
     pub fn pairs(&self) -> &[Pair] {
         match self {
             Self::PiecewiseConstant { pairs, .. } => pairs,
-            Self::Zero | Self::Constant(_) | Self::Gompertz(_) => &[],
+            Self::Zero | Self::Constant(_) | Self::Gompertz(_) | Self::Weibull(_) => &[],
         }
     }
 
@@ -84,6 +90,7 @@ impl Hazard {
                 pairs: pairs.iter().take(usize::from(count)).copied().collect(),
                 trailing: first,
             },
+            4 => Self::Weibull(first),
             _ => return Err(Refusal::InvalidChoice),
         };
         let used = hazard.pairs().len();

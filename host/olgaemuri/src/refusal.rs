@@ -17,7 +17,8 @@ pub enum Refusal {
     CutShort = 3,
     /// 4: policy, tie, kind or a has-byte is off its list, or an unused entity, censor or rate is not zero.
     InvalidChoice = 4,
-    /// 5: a time is not from +0.0 to 2^40, or a rate or scale is not finite or above 2^40 in size.
+    /// 5: a time is not from +0.0 to 2^40, a rate or scale is not finite or above 2^40 in size, or a Weibull scale is above 0 and
+    /// below 2^-40.
     OutOfRange = 5,
     /// 6: more than eight pairs, pairs where none are used, or ends that are not above 0, at most 2^40 and strictly ascending.
     InvalidPairs = 6,
@@ -105,7 +106,8 @@ impl Refusal {
             Self::CutShort => "the command is cut short",
             Self::InvalidChoice => "a choice is off its list, or an unused field is not zero",
             Self::OutOfRange => {
-                "a time is not from +0.0 to 2^40, or a rate or scale is not finite or above 2^40 in size"
+                "a time is not from +0.0 to 2^40, a rate or scale is not finite or above 2^40 in size, or a Weibull scale is above 0 \
+                 and below 2^-40"
             }
             Self::InvalidPairs => {
                 "the pairs are not valid: at most eight, with ends above 0 that ascend"

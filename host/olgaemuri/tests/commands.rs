@@ -70,6 +70,23 @@ fn layout_of_set() {
 }
 
 #[test]
+fn layout_of_a_weibull_hazard() {
+    let front = [2, 0, 1, 0, 0, 0, 0, 0, 0, 0, 4];
+    let expected = [&front[..], &TWO, &TWO, &[0; 129]].concat();
+    assert_eq!(common::set_wear(1, 2.0, 2.0).to_bytes(), expected);
+    // every scale is kept bit for bit, a NaN's too
+    for bits in [1 << 63, 0x8000_0000_0000_0001, 0x7ff8_0000_0000_0001] {
+        let Ok(Command::Set { hazard, .. }) =
+            Command::from_bytes(&common::set_wear(1, f64::from_bits(bits), 0.0).to_bytes())
+        else {
+            panic!("a command's own bytes");
+        };
+        assert_eq!((hazard.kind(), hazard.first().to_bits()), (4, bits));
+        assert_eq!(hazard.pairs(), []);
+    }
+}
+
+#[test]
 fn layout_of_the_others() {
     let resume = Command::Resume {
         clock: 2,
@@ -140,7 +157,8 @@ fn choices_that_no_command_has() {
     let choices =
         [(10, 2), (11, 3), (20, 2), (21, 1), (32, 1)].map(|(at, byte)| changed(&create, at, byte));
     let censors = [(10, 2), (11, 1), (18, 0x80)].map(|(at, byte)| changed(&reschedule, at, byte));
-    let kinds = [(10, 4), (11, 1), (18, 0x80)].map(|(at, byte)| changed(&zero, at, byte));
+    let kinds =
+        [(10, 5), (10, 255), (11, 1), (18, 0x80)].map(|(at, byte)| changed(&zero, at, byte));
     for read in choices.into_iter().chain(censors).chain(kinds) {
         assert_eq!(read, Err(Refusal::InvalidChoice));
     }
@@ -149,15 +167,19 @@ fn choices_that_no_command_has() {
 #[test]
 fn pairs_that_no_command_has() {
     let constant = set_to(Hazard::Constant(0.5));
+    let wear = set_to(Hazard::Weibull(400.0));
     let piecewise = set_to(Hazard::PiecewiseConstant {
         pairs: vec![],
         trailing: 0.0,
     });
-    // count of kind 1, a pair of kind 1, the last pair's sign bit, count above 8 of kind 3
+    // count of kinds 1 and 4, a pair of theirs, the last pair's sign bit, count above 8 of kind 3
     for read in [
         changed(&constant, 27, 1),
         changed(&constant, 28, 1),
         changed(&constant, 155, 0x80),
+        changed(&wear, 27, 1),
+        changed(&wear, 28, 1),
+        changed(&wear, 155, 0x80),
         changed(&piecewise, 27, 9),
     ] {
         assert_eq!(read, Err(Refusal::InvalidPairs));

@@ -3,7 +3,7 @@
 
 mod common;
 
-use common::{Random, any_command, create, likely_session, reschedule, row_9, set};
+use common::{Random, any_command, create, likely_session, reschedule, row_9, set, set_wear};
 use olgaemuri::{Answer, Command, Hazard, NO_CAUSE, Pair, Policy, Refusal, Session};
 use std::error::Error;
 
@@ -78,6 +78,11 @@ fn by_4_a_choice_off_its_list() {
     let mut bytes = reschedule(0.0).to_bytes();
     bytes[11] = 1;
     refuses_raw(&row_9(), &bytes, Refusal::InvalidChoice);
+    for kind in [5, 6, 255] {
+        let mut bytes = set_wear(1, 400.0, 0.0).to_bytes();
+        bytes[10] = kind;
+        refuses_raw(&row_9(), &bytes, Refusal::InvalidChoice);
+    }
 }
 
 #[test]
@@ -92,6 +97,56 @@ fn by_5_what_is_out_of_range() {
     }
     for rate in [f64::NAN, f64::NEG_INFINITY, -2f64.powi(41)] {
         refuses(&row_9(), set(1, rate, 0.0), Refusal::OutOfRange);
+    }
+}
+
+/// Document 02's least scale above 0.
+const LEAST: f64 = 1.0 / 1_099_511_627_776.0;
+
+#[test]
+fn by_5_a_scale_of_wear() {
+    let least = [
+        f64::from_bits(1),
+        f64::MIN_POSITIVE,
+        LEAST / 2.0,
+        LEAST.next_down(),
+    ];
+    let most = [2f64.powi(40).next_up(), f64::MAX, f64::INFINITY];
+    let others = [
+        f64::NAN,
+        -f64::NAN,
+        f64::NEG_INFINITY,
+        -2f64.powi(40).next_up(),
+    ];
+    for scale in least.into_iter().chain(most).chain(others) {
+        refuses(&row_9(), set_wear(1, scale, 0.0), Refusal::OutOfRange);
+    }
+    let zero = [
+        0.0,
+        -0.0,
+        -f64::from_bits(1),
+        -LEAST.next_down(),
+        -2f64.powi(40),
+    ];
+    for scale in [LEAST, 1.0, 2f64.powi(40)].into_iter().chain(zero) {
+        let mut session = row_9();
+        session.push(set_wear(2, scale, 0.0));
+        let run = session.run();
+        assert!(run.steps.last().expect("answered").applied, "{scale}");
+        let kept = &run.clocks[0].causes[1].hazard;
+        assert_eq!((kept.kind(), kept.first().to_bits()), (4, scale.to_bits()));
+    }
+}
+
+#[test]
+fn by_6_wear_with_pairs() {
+    for (at, byte) in [(27, 1), (27, 9), (27, 255), (28, 1), (43, 0x80), (155, 1)] {
+        let mut bytes = set_wear(1, 400.0, 0.0).to_bytes();
+        bytes[at] = byte;
+        refuses_raw(&row_9(), &bytes, Refusal::InvalidPairs);
+        // 5 comes first
+        bytes[11..19].copy_from_slice(&LEAST.next_down().to_le_bytes());
+        refuses_raw(&row_9(), &bytes, Refusal::OutOfRange);
     }
 }
 

@@ -53,7 +53,8 @@ _MEANINGS = {
     Refusal.UNKNOWN_CODE: "no command has this code",
     Refusal.CUT_SHORT: "the command is cut short",
     Refusal.INVALID_CHOICE: "a choice is off its list, or an unused field is not zero",
-    Refusal.OUT_OF_RANGE: "a time is not from +0.0 to 2^40, or a rate or scale is not finite or above 2^40 in size",
+    Refusal.OUT_OF_RANGE: "a time is not from +0.0 to 2^40, a rate or scale is not finite or above 2^40 in size, or a Weibull scale is "
+    "above 0 and below 2^-40",
     Refusal.INVALID_PAIRS: "the pairs are not valid: at most eight, with ends above 0 that ascend",
     Refusal.INVALID_NAME: "the clock's number is above 15, or the cause is the one kept for censored events",
     Refusal.CLOCK_PRESENT: "the clock is there already",

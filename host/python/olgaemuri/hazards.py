@@ -46,7 +46,18 @@ class PiecewiseConstant:
         object.__setattr__(self, "pairs", tuple(Pair(*pair) for pair in self.pairs))
 
 
-Hazard = Union[Zero, Constant, Gompertz, PiecewiseConstant]
+@dataclass(frozen=True)
+class Weibull:
+    """Weibull with shape 2: wear whose hazard is proportional to the age, counted from the start of the interval.
+
+    A threshold of 1 is used up at the age ``scale``, one of 4 at twice that age. A scale at most 0 is as Zero; one
+    above 0 and below 2^-40 is refused by 5.
+    """
+
+    scale: float
+
+
+Hazard = Union[Zero, Constant, Gompertz, PiecewiseConstant, Weibull]
 
 
 def to_fields(hazard: Hazard) -> tuple[int, float, Sequence[Pair]]:
@@ -57,6 +68,8 @@ def to_fields(hazard: Hazard) -> tuple[int, float, Sequence[Pair]]:
         return 1, hazard.rate, ()
     if isinstance(hazard, Gompertz):
         return 2, hazard.eta, ()
+    if isinstance(hazard, Weibull):
+        return 4, hazard.scale, ()
     return 3, hazard.trailing, hazard.pairs
 
 
@@ -64,11 +77,11 @@ def from_fields(kind: int, first: float, count: int, pairs: Sequence[Pair]) -> H
     """The hazard with these fields. ValueError where no hazard has them; the engine refuses such fields by 4 or 6."""
     used = min(count, MAX_PAIRS) if kind == 3 else 0
     blank = all(_is_blank(value) for pair in pairs[used:] for value in pair)
-    if kind > 3 or count != used or not blank or (kind == 0 and not _is_blank(first)):
+    if kind > 4 or count != used or not blank or (kind == 0 and not _is_blank(first)):
         raise ValueError("no hazard has these fields")
     if kind == 3:
         return PiecewiseConstant(pairs[:used], first)
-    return (Zero(), Constant(first), Gompertz(first))[kind]
+    return Zero() if kind == 0 else {1: Constant, 2: Gompertz, 4: Weibull}[kind](first)
 
 
 def _is_blank(value: float) -> bool:

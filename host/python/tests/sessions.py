@@ -23,7 +23,7 @@ def row_9():
 def _hazard(source):
     rate = source.randrange(5) / 4
     pairs = [(float(end), rate) for end in range(1, source.randrange(1, 10))]
-    return source.choice([om.Zero(), om.Constant(rate), om.Gompertz(rate), om.PiecewiseConstant(pairs, 0.5)])
+    return source.choice([om.Zero(), om.Constant(rate), om.Gompertz(rate), om.PiecewiseConstant(pairs, 0.5), om.Weibull(4 * rate)])
 
 
 def likely_command(source: random.Random):

@@ -24,14 +24,21 @@ class Bytes(unittest.TestCase):
         self.assertEqual((set_[2:6], set_[10], set_[11:19]), (b"\1\0\0\0", 1, bytes.fromhex("000000000000e03f")))
         self.assertEqual(reschedule, bytes([4]) + bytes(22))
 
+    def test_places_of_wear(self):
+        bytes_ = om.Set(clock=0, cause=1, hazard=om.Weibull(400.0), now=0.0).to_bytes()
+        self.assertEqual((bytes_[10], bytes_[11:19], bytes_[19:]), (4, bytes.fromhex("0000000000007940"), bytes(137)))
+        for at, byte in [(10, 5), (27, 1), (28, 1), (155, 0x80)]:
+            changed = bytes_[:at] + bytes([byte]) + bytes_[at + 1:]
+            self.assertEqual(list(om.split(changed)), [om.Raw(changed)])
+
     def test_what_does_not_fit_is_an_error(self):
         for command in [om.Pause(256, 0.0), om.Remove(0, -1), om.Reschedule(0, 0.0, None, 2**31), om.Pause(0, 10**400), om.Pause(0, "x")]:
             with self.assertRaises(ValueError):
                 command.to_bytes()
 
     def test_what_is_no_hazard(self):
-        for wrong in [7, None, 0.5, om.Constant]:
-            with self.assertRaisesRegex(TypeError, "a hazard is Zero, Constant"):
+        for wrong in [7, None, 0.5, om.Constant, om.Weibull]:
+            with self.assertRaisesRegex(TypeError, "a hazard is Zero, Constant, Gompertz, PiecewiseConstant or Weibull, not"):
                 om.Set(clock=0, cause=1, hazard=wrong, now=0.0)
 
     def test_bytes_that_no_command_has(self):

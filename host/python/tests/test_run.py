@@ -1,4 +1,4 @@
-"""Runs of the engine: the worked rows, refusals as values, rows, and the press shop beside the command line's own output."""
+"""Runs of the engine: the worked rows, refusals as values, rows, and the examples beside the command line's own output."""
 
 import json
 import os
@@ -94,19 +94,20 @@ class Refusals(unittest.TestCase):
             om.run([], b"1234567")
 
 
-class PressShop(unittest.TestCase):
+class Examples(unittest.TestCase):
     @unittest.skipIf(command_line() is None, "the command line is not built")
     def test_beside_the_command_line(self):
-        with tempfile.TemporaryDirectory() as folder:
-            file = Path(folder) / "shop.bytes"
-            session = str(ROOT / "examples/press-shop.session")
-            subprocess.run([command_line(), "convert", "--to", "bytes", session, file], check=True, stdout=subprocess.DEVNULL)
-            outcome = om.load(file).run()
-        told = json.loads((ROOT / "examples/press-shop.json").read_text(encoding="utf-8"))
-        self.assertEqual(len(told["breakdowns"]), 12)
-        self.agree(outcome.answer_rows(), told["answers"])
-        self.agree(outcome.event_rows(), told["events"])
-        self.agree(outcome.breakdown_rows(), told["breakdowns"])
+        for name, breakdowns in [("press-shop", 12), ("guide-rails", 3)]:
+            with tempfile.TemporaryDirectory() as folder:
+                file = Path(folder) / "example.bytes"
+                session = str(ROOT / f"examples/{name}.session")
+                subprocess.run([command_line(), "convert", "--to", "bytes", session, file], check=True, stdout=subprocess.DEVNULL)
+                outcome = om.load(file).run()
+            told = json.loads((ROOT / f"examples/{name}.json").read_text(encoding="utf-8"))
+            self.assertEqual(len(told["breakdowns"]), breakdowns)
+            self.agree(outcome.answer_rows(), told["answers"])
+            self.agree(outcome.event_rows(), told["events"])
+            self.agree(outcome.breakdown_rows(), told["breakdowns"])
 
     def agree(self, rows, told):
         """The columns that the command line has too: machines are our clocks, and it words refusals for planners."""

@@ -3,7 +3,7 @@
 use olgaemuri_sys::{STATE_FLOAT_ROWS, STATE_WORD_ROWS};
 use reference::clock::CHANNELS;
 use reference::command_fields::CLOCKS;
-use reference::hazard::PAIRS;
+use reference::hazard::{PAIRS, WEIBULL};
 use reference::record::{SLOT_BYTES, SLOTS_AT};
 use reference::validation::QUEUE;
 
@@ -27,6 +27,9 @@ impl Kind {
         }
     }
 }
+
+/// The kind of a hazard; no other field has so many choices.
+pub const HAZARD_KIND: Kind = Kind::Choice(WEIBULL + 1);
 
 /// A number of the rows: which row, and which of its eight.
 #[derive(Clone, Copy, Debug, PartialEq)]
@@ -87,6 +90,11 @@ pub struct Field {
 }
 
 impl Field {
+    /// Whether this is the field of a part by its name.
+    pub fn is(&self, part: Part, name: &str) -> bool {
+        self.part == part && self.name == name
+    }
+
     /// In words: the field, and the clock, channel or place of the queue that it belongs to.
     pub fn words(&self) -> String {
         let name = self.name;
@@ -152,7 +160,7 @@ const CLOCK_HEAD: [Row; 9] = [
 const CHANNEL_HEAD: [Row; 5] = [
     word(Kind::Word32, "cause", 0, 0),
     word(Kind::Word32, "priority", 0, 1),
-    word(Kind::Choice(4), "kind", 0, 2),
+    word(HAZARD_KIND, "kind", 0, 2),
     float("first", 0, 3),
     word(Kind::Byte, "pair count", 0, 3),
 ];

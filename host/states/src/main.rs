@@ -1,14 +1,15 @@
-//! `states [SEED [COUNT [EACH]]]`: the fixed sessions and COUNT random ones, one of ten with events at equal ticks, command by command
-//! through the proved engine, whose state lies in rows of this program, and through the unchanged Rust behind document 01's rules. After
-//! each command the answer, the journal, the applied commands and every field of the state are compared; beside each, the same is done
-//! EACH times (once where it is left out; 0 for none) from a state or a journal with a field changed, and from rows with any number
-//! changed. At the end the answers and the journal are held to those of the batch run; after some sessions UNDO is given to rows with each
-//! number changed in turn. Ends with 1 at the first difference.
+//! `states [SEED [COUNT [EACH]]]`: chosen states that are handed in, with two or three commands each; then the fixed sessions and COUNT
+//! random ones, one of ten with events at equal ticks, command by command through the proved engine, whose state lies in rows of this
+//! program, and through the unchanged Rust behind document 01's rules. After each command the answer, the journal, the applied commands and
+//! every field of the state are compared; beside each, the same is done EACH times (once where it is left out; 0 for none) from a state or
+//! a journal with a field changed, and from rows with any number changed. At the end the answers and the journal are held to those of the
+//! batch run; after some sessions UNDO is given to rows with each number changed in turn. Ends with 1 at the first difference.
 
 #![forbid(unsafe_code)]
 
 mod both;
 mod engine;
+mod handed_in;
 mod layout;
 mod reading;
 mod rows;
@@ -36,10 +37,29 @@ fn main() -> ExitCode {
         eprintln!("usage: states [SEED [COUNT [EACH]]]");
         return ExitCode::from(2);
     };
+    match compare_all(seed, count, each) {
+        Ok(tally) => {
+            println!(
+                "seed {seed}: the fixed sessions and {count} random ones, {tally}; no difference"
+            );
+            ExitCode::SUCCESS
+        }
+        Err(words) => {
+            println!("seed {seed}, {words}");
+            ExitCode::FAILURE
+        }
+    }
+}
+
+/// What was compared, or the first difference in words.
+fn compare_all(seed: u64, count: u64, each: u64) -> Result<Tally, String> {
     let layout = Layout::new();
+    let mut tally = Tally {
+        handed_in: handed_in::compare(&layout)?,
+        ..Tally::default()
+    };
     let (mut source, mut random) = (Random::new(seed), Random::new(!seed));
     let more = (0..count).map(|place| random_session(&mut source, place));
-    let mut tally = Tally::default();
     for (index, s) in lists::sessions().into_iter().chain(more).enumerate() {
         let mut tries = Tries {
             layout: &layout,
@@ -48,17 +68,15 @@ fn main() -> ExitCode {
             tally: &mut tally,
         };
         let swept = each > 0 && index % SWEPT == 0;
-        if let Err(words) = compare(&mut tries, &s, each, swept) {
-            println!("seed {seed}, session {index}, {words}\n{s:?}");
-            return ExitCode::FAILURE;
-        }
+        let said = |words| format!("session {index}, {words}\n{s:?}");
+        compare(&mut tries, &s, each, swept).map_err(said)?;
     }
     if each > 0 && !tally.is_full() {
-        println!("seed {seed}: {tally}: a kind of refusal or of rows did not occur");
-        return ExitCode::FAILURE;
+        return Err(format!(
+            "{tally}: a kind of refusal or of rows did not occur"
+        ));
     }
-    println!("seed {seed}: the fixed sessions and {count} random ones, {tally}; no difference");
-    ExitCode::SUCCESS
+    Ok(tally)
 }
 
 /// The random session at a place.

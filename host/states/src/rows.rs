@@ -1,6 +1,6 @@
 //! A state in the engine's rows, between them and a state's record.
 
-use crate::layout::{Field, Kind, Layout, Place};
+use crate::layout::{Field, HAZARD_KIND, Kind, Layout, Place};
 use olgaemuri_sys::{STATE_FLOAT_ROWS, STATE_WORD_ROWS};
 use reference::hazard::ZERO;
 use reference::record::STATE_BYTES;
@@ -88,7 +88,7 @@ impl Rows {
     /// In the order of the fields a channel's own rate comes after its kind.
     fn kinds_coded(&self, layout: &Layout) -> bool {
         let pairs = layout.fields.windows(2);
-        let mut kinds = pairs.filter(|two| two[0].kind == Kind::Choice(4));
+        let mut kinds = pairs.filter(|two| two[0].kind == HAZARD_KIND);
         kinds.all(|two| self.bits(two[0].place) != u64::from(ZERO) || self.bits(two[1].place) == 0)
     }
 }
@@ -116,7 +116,7 @@ mod tests {
         };
         let minus_zero = (-0.0f64).to_bits();
         assert!(with(Place::Word(0, 0), 1) && !with(Place::Word(0, 0), 2));
-        assert!(with(Place::Word(2, 2), 3) && !with(Place::Word(2, 2), 4));
+        assert!(with(Place::Word(2, 2), 4) && !with(Place::Word(2, 2), 5));
         assert!(with(Place::Word(161, 3), 0xFFFF_FFFF) && !with(Place::Word(161, 3), 1 << 32));
         assert!(!with(Place::Word(160, 4), 1) && !with(Place::Float(0, 3), minus_zero));
         assert!(!with(Place::Float(1, 3), minus_zero) && with(Place::Float(1, 2), minus_zero));

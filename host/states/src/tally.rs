@@ -32,6 +32,8 @@ impl Display for Refusals {
 
 #[derive(Default)]
 pub struct Tally {
+    /// Inputs to the chosen states.
+    pub handed_in: Refusals,
     pub commands: u64,
     /// Inputs to states with another field or another applied bit, with any other number of the rows; UNDOs with each other number.
     pub fields: Refusals,
@@ -46,7 +48,7 @@ pub struct Tally {
 impl Tally {
     /// Whether every sort of refusal and of rows occurred.
     pub fn is_full(&self) -> bool {
-        let refusals = [&self.fields, &self.numbers, &self.each];
+        let refusals = [&self.handed_in, &self.fields, &self.numbers, &self.each];
         let rows = [self.uncoded, self.inexpressible, self.beside];
         refusals.iter().all(|r| r.has_both()) && !rows.contains(&0)
     }
@@ -54,7 +56,8 @@ impl Tally {
 
 impl Display for Tally {
     fn fmt(&self, f: &mut Formatter<'_>) -> fmt::Result {
-        write!(f, "{} commands; inputs to tampered states: ", self.commands)?;
+        write!(f, "{} commands; inputs to chosen states ", self.commands)?;
+        write!(f, "{}; inputs to tampered states: ", self.handed_in)?;
         write!(f, "another field {}, ", self.fields)?;
         write!(f, "any other number {}, ", self.numbers)?;
         write!(f, "each number before UNDO {}; ", self.each)?;

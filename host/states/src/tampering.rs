@@ -5,10 +5,11 @@ use crate::rows::Rows;
 use cases::random::Random;
 use olgaemuri_sys::{STATE_FLOAT_ROWS, STATE_WORD_ROWS};
 use reference::dump::QUEUED_BYTES;
+use reference::hazard::SMALLEST_SCALE;
 use reference::record::HEAD_BYTES;
 
 /// Extreme floats, those among them that state validation refuses.
-const FLOATS: [f64; 12] = [
+const FLOATS: [f64; 17] = [
     0.0,
     -0.0,
     1.0,
@@ -16,7 +17,12 @@ const FLOATS: [f64; 12] = [
     0.5,
     1_099_511_627_776.0,
     1_099_511_627_777.0,
+    SMALLEST_SCALE,
+    SMALLEST_SCALE.next_down(),
     f64::MIN_POSITIVE,
+    f64::from_bits(1),
+    1e308,
+    -1e308,
     f64::MAX,
     f64::INFINITY,
     f64::NEG_INFINITY,
@@ -24,12 +30,13 @@ const FLOATS: [f64; 12] = [
 ];
 
 /// Words around the bounds of flags, choices, counts, bytes and numbers of 32 bits.
-const WORDS: [u64; 20] = [
+const WORDS: [u64; 21] = [
     0,
     1,
     2,
     3,
     4,
+    5,
     7,
     8,
     9,

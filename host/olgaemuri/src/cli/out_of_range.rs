@@ -6,6 +6,8 @@ use olgaemuri::{Command, Hazard};
 /// 2^40.
 const LIMIT: f64 = 1_099_511_627_776.0;
 
+const SCALE: &str = "a scale is finite and at most 2^40 in size";
+
 /// The operands of a command that are out of their range and what the range is; nothing where all are within.
 pub fn out_of_range(command: &Command) -> String {
     let times = bad_times(command);
@@ -16,14 +18,16 @@ pub fn out_of_range(command: &Command) -> String {
         "a time is from 0 to 2^40"
     };
     let parts = [
-        (
-            bad_scale(command),
-            "a scale is finite and at most 2^40 in size",
-        ),
+        (bad_scale(command), SCALE),
         (times, time),
         (
             bad_rates(command),
             "a rate is finite and at most 2^40 in size",
+        ),
+        (bad_wear(command, |scale| !is_rate(scale)), SCALE),
+        (
+            bad_wear(command, |scale| 0.0 < scale && scale < 1.0 / LIMIT),
+            "a weibull scale above 0 is at least 2^-40",
         ),
     ];
     let told = parts.iter().filter(|(bad, _)| !bad.is_empty());
@@ -62,6 +66,17 @@ fn bad_scale(command: &Command) -> Vec<String> {
     }
 }
 
+/// The scale of a weibull hazard, where it is bad in this way.
+fn bad_wear(command: &Command, is_bad: impl Fn(f64) -> bool) -> Vec<String> {
+    match command {
+        Command::Set {
+            hazard: Hazard::Weibull(scale),
+            ..
+        } if is_bad(*scale) => vec![format!("scale={}", float_text(*scale))],
+        _ => Vec::new(),
+    }
+}
+
 fn bad_rates(command: &Command) -> Vec<String> {
     let Command::Set { hazard, .. } = command else {
         return Vec::new();
@@ -69,6 +84,8 @@ fn bad_rates(command: &Command) -> Vec<String> {
     let name = match hazard {
         Hazard::Constant(_) => "rate",
         Hazard::Gompertz(_) => "eta",
+        // it has no rate
+        Hazard::Weibull(_) => return Vec::new(),
         _ => "then",
     };
     let pairs = hazard.pairs().iter().filter(|pair| !is_rate(pair.rate));

@@ -83,6 +83,7 @@ fn hazard_words(hazard: &Hazard) -> String {
             let pieces: String = pairs.iter().map(piece).collect();
             format!("{pieces}then {}", rounded(*trailing))
         }
+        Hazard::Weibull(scale) => format!("weibull scale {}", rounded(*scale)),
         _ => "zero".to_string(),
     }
 }

@@ -21,6 +21,7 @@ pub(crate) const COMMANDS: [(&str, &[&str]); 8] = [
         "set",
         &[
             "machine", "cause", "priority", "now", "hazard", "rate", "eta", "pieces", "then",
+            "scale",
         ],
     ),
     ("remove", &["machine", "cause"]),
@@ -31,8 +32,8 @@ pub(crate) const COMMANDS: [(&str, &[&str]); 8] = [
     ("undo", &[]),
 ];
 
-/// By document 01's number.
-pub(crate) const HAZARDS: [&str; 4] = ["zero", "constant", "gompertz", "piecewise"];
+/// By the number of the kind.
+pub(crate) const HAZARDS: [&str; 5] = ["zero", "constant", "gompertz", "piecewise", "weibull"];
 
 /// The command of a line whose first word is a known one, and which of its operands are names.
 pub(crate) fn read_command(
@@ -136,12 +137,13 @@ fn set(operands: &mut Operands) -> Result<Command, Misplaced> {
         0 => Hazard::Zero,
         1 => Hazard::Constant(operands.float("rate")?),
         2 => Hazard::Gompertz(operands.float("eta")?),
-        _ => Hazard::PiecewiseConstant {
+        3 => Hazard::PiecewiseConstant {
             pairs: operands
                 .optional("pieces")
                 .map_or(Ok(Vec::new()), |word| pieces(&word))?,
             trailing: operands.float("then")?,
         },
+        _ => Hazard::Weibull(operands.float("scale")?),
     };
     operands.finish(&format!("hazard={}", HAZARDS[kind]))?;
     Ok(Command::Set {

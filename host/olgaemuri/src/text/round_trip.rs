@@ -69,7 +69,7 @@ impl Random {
     }
 
     fn set(&mut self) -> Vec<u8> {
-        let kind = self.below(4);
+        let kind = self.below(5);
         let mut bytes = self.next().to_le_bytes().to_vec();
         bytes.extend([0, kind as u8]);
         bytes.extend(if kind == 0 { [0; 8] } else { self.float() });

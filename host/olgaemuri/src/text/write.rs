@@ -192,6 +192,7 @@ impl Display for Hazard {
                 }
                 write!(f, " then={first}")
             }
+            Self::Weibull(_) => write!(f, "hazard={kind} scale={first}"),
         }
     }
 }

@@ -138,6 +138,24 @@ fn every_field_of_csv_and_json_is_in_the_format() {
     }
 }
 
+/// The line for wear that the format shows, with the thresholds and the hours that it tells.
+#[test]
+fn the_wear_in_the_format() {
+    let line = "set machine=0 cause=3 now=0 hazard=weibull scale=400";
+    let told = format!("`{line}` uses up a threshold of 0.25 in 200 hours, 1 in 400 and 4 in 800.");
+    let words = |text: &str| text.split_whitespace().collect::<Vec<_>>().join(" ");
+    assert!(words(&text_of(FORMAT)).contains(&told), "{told}");
+    for (threshold, hours) in [("0.25", 200), ("1", 400), ("4", 800)] {
+        let session = format!(
+            "thresholds {threshold}\ncreate machine=0 policy=retain\n{line}\nreschedule machine=0 now=0\n"
+        );
+        let ran = olgaemuri(&["run", "-"], session.as_bytes());
+        let breakdown = format!("machine 0  cause 3  {hours}   {hours}  scheduled");
+        assert!(ran.text().contains(&breakdown), "{}", ran.text());
+        assert!(ran.text().contains("cause 3: weibull scale 400"));
+    }
+}
+
 /// What "What the commands do" says: behind one press that is due at tick 4, these lines, and the tick at which it is due then.
 const DUE: [(&str, u32); 7] = [
     ("reschedule machine=0 now=2", 6),

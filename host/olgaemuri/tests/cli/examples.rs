@@ -1,10 +1,26 @@
-//! The worked example's output is what is stored beside it.
+//! The worked examples' output is what is stored beside them.
 
 use super::json::{self, Value};
 use super::program::{example, olgaemuri, scratch};
 use std::fs;
 
-const SESSION: &str = "examples/press-shop.session";
+/// The examples with all their output, and the titles of their pictures.
+const EXAMPLES: [(&str, &str); 2] = [
+    ("press-shop", "A press shop over two weeks, in hours"),
+    (
+        "guide-rails",
+        "A press with guide rails that wear, in hours",
+    ),
+];
+
+/// The output of `run` for each example, held to the stored file with this ending.
+fn check_runs(options: &[&str], ending: &str) {
+    for (name, _) in EXAMPLES {
+        let session = format!("examples/{name}.session");
+        let words = [&["run", &session], options].concat();
+        check(&words, &format!("{name}.{ending}"));
+    }
+}
 
 /// The program's output, held to a stored file.
 fn check(words: &[&str], stored: &str) {
@@ -22,46 +38,70 @@ fn check(words: &[&str], stored: &str) {
 
 #[test]
 fn table() {
-    check(&["run", SESSION], "press-shop.out");
+    check_runs(&[], "out");
 }
 
 #[test]
 fn csv() {
-    check(&["run", SESSION, "--csv"], "press-shop.csv");
+    check_runs(&["--csv"], "csv");
 }
 
 #[test]
 fn json() {
-    check(&["run", SESSION, "--json"], "press-shop.json");
+    check_runs(&["--json"], "json");
 }
 
 #[test]
 fn picture() {
-    let file = scratch("example.svg");
-    let ran = olgaemuri(
-        &[
-            "run",
-            SESSION,
-            "--title",
-            "A press shop over two weeks, in hours",
-            "--svg",
-            file.to_str().unwrap(),
-        ],
-        b"",
-    );
-    assert_eq!(ran.status, 0);
-    let drawn = fs::read(&file).unwrap();
-    fs::remove_file(&file).unwrap();
-    assert!(
-        drawn == example("press-shop.svg"),
-        "the picture is another than examples/press-shop.svg"
-    );
+    for (name, title) in EXAMPLES {
+        let file = scratch(&format!("{name}.svg"));
+        let session = format!("examples/{name}.session");
+        let path = file.to_str().unwrap();
+        let ran = olgaemuri(&["run", &session, "--title", title, "--svg", path], b"");
+        assert_eq!(ran.status, 0);
+        let drawn = fs::read(&file).unwrap();
+        fs::remove_file(&file).unwrap();
+        assert!(
+            drawn == example(&format!("{name}.svg")),
+            "the picture is another than examples/{name}.svg"
+        );
+    }
+}
+
+/// What the comments of the guide rails say: 400 h times the root of 0.81, softer ones 250 h times that of 0.64; then the hose, which has
+/// used up 0.9 of 1.5; then 400 h times the root of 1.44.
+#[test]
+fn guide_rails() {
+    let stored = String::from_utf8(example("guide-rails.json")).unwrap();
+    let report = json::parse(&stored).unwrap();
+    let told = |line: &Value| ["cause", "time"].map(|name| line.get(name).number());
+    let breakdowns: Vec<[f64; 2]> = report.get("breakdowns").array().iter().map(told).collect();
+    assert_eq!(breakdowns, [[1.0, 360.0], [2.0, 606.0], [1.0, 1090.0]]);
+    assert_eq!(report.get("draws").number(), 5.0);
+    let undone = |answer: &&Value| *answer.get("undone_by") != Value::Null;
+    let undone: Vec<&Value> = report
+        .get("answers")
+        .array()
+        .iter()
+        .filter(undone)
+        .collect();
+    let [softer, resumed] = undone[..] else {
+        panic!("{stored}");
+    };
+    let line = "set machine=0 cause=1 priority=0 now=366 hazard=weibull scale=250";
+    assert_eq!(softer.get("text").text(), line);
+    let event = ["cause", "delta"].map(|name| resumed.get(name).number());
+    assert_eq!(event, [1.0, 200.0]);
 }
 
 #[test]
 fn side_by_side() {
     check(
-        &["compare", "examples/press-shop-before.session", SESSION],
+        &[
+            "compare",
+            "examples/press-shop-before.session",
+            "examples/press-shop.session",
+        ],
         "press-shop-compare.out",
     );
 }

@@ -308,7 +308,7 @@ fn help_fits_80_columns() {
 }
 
 /// Lines that are refused by 5, and what is said of them.
-const OUT_OF_RANGE: [(&str, &str); 8] = [
+const OUT_OF_RANGE: [(&str, &str); 12] = [
     (
         "create machine=1 policy=retain scale=inf",
         "scale=inf: a scale is finite and at most 2^40 in size",
@@ -337,6 +337,22 @@ const OUT_OF_RANGE: [(&str, &str); 8] = [
     (
         "set machine=0 cause=2 now=-3 hazard=piecewise pieces=1:1,2:inf then=inf",
         "now=-3: a time is from 0 to 2^40; rate inf up to 2, then=inf: a rate is finite and at most 2^40 in size",
+    ),
+    (
+        "set machine=0 cause=2 now=0 hazard=weibull scale=1e-13",
+        "scale=1e-13: a weibull scale above 0 is at least 2^-40",
+    ),
+    (
+        "set machine=0 cause=2 now=0 hazard=weibull scale=0x3d6fffffffffffff",
+        "scale=9.094947017729281e-13: a weibull scale above 0 is at least 2^-40",
+    ),
+    (
+        "set machine=0 cause=2 now=0 hazard=weibull scale=inf",
+        "scale=inf: a scale is finite and at most 2^40 in size",
+    ),
+    (
+        "set machine=0 cause=2 now=-3 hazard=weibull scale=-1e13",
+        "now=-3: a time is from 0 to 2^40; scale=-10000000000000: a scale is finite and at most 2^40 in size",
     ),
 ];
 

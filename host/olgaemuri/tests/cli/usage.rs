@@ -31,6 +31,7 @@ fn help_is_there_for_everything() {
     );
     let refusals = olgaemuri(&["help", "refusals"], b"");
     for line in [
+        "\n   5  a time is not from +0.0 to 2^40, a rate or scale is not finite or above\n      2^40 in size, or a Weibull scale is above 0 and below 2^-40\n",
         "\n  15  a threshold is to be drawn",
         "\n  23  the threshold is not above 0",
         "\n  24  no rate above 0",
@@ -49,6 +50,11 @@ fn help_on_a_word_of_the_format() {
             .all(|line| line.starts_with("  set ") || line.starts_with("      "))
     );
     assert!(help.text().contains("hazard=gompertz eta=R"));
+    assert!(help.text().contains("hazard=weibull scale=AGE"));
+    let help = olgaemuri(&["help", "scale"], b"");
+    for part in ["of `create`: ticks", "Of a weibull hazard: the"] {
+        assert!(help.text().contains(part), "{}", help.text());
+    }
     let help = olgaemuri(&["help", "policy"], b"");
     assert!(help.text().starts_with("  policy    what `set` does"));
     assert_eq!(olgaemuri(&["help", "A"], b"").status, 2);

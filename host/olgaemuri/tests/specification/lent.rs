@@ -10,9 +10,9 @@ use olgaemuri_sys::{
 
 const WORDS: &str = "| row of words | place | word | values | holds |";
 const FLOATS: &str = "| row of floats | place | float | values | holds |";
-const DELIVER: [u8; 1] = [7];
-const INVALID_STATE: u8 = 1;
-const QUEUE_EMPTY: u8 = 11;
+pub const DELIVER: [u8; 1] = [7];
+pub const INVALID_STATE: u8 = 1;
+pub const QUEUE_EMPTY: u8 = 11;
 
 /// One line of a table: its row by clock, channel and request, its places, name and values.
 struct Field {
@@ -75,14 +75,14 @@ impl Field {
 
 /// A state with its journal.
 #[derive(Clone, PartialEq, Debug)]
-struct Lent {
-    words: Vec<[u64; ROW]>,
-    floats: Vec<[u64; ROW]>,
+pub struct Lent {
+    pub words: Vec<[u64; ROW]>,
+    pub floats: Vec<[u64; ROW]>,
     journal: Vec<u8>,
 }
 
 impl Lent {
-    fn opened() -> Self {
+    pub fn opened() -> Self {
         let mut lent = Self {
             words: vec![[7; ROW]; STATE_WORD_ROWS],
             floats: vec![[7; ROW]; STATE_FLOAT_ROWS],
@@ -110,7 +110,7 @@ impl Lent {
             .collect()
     }
 
-    fn number(&mut self, input: &[u8]) -> u8 {
+    pub fn number(&mut self, input: &[u8]) -> u8 {
         let stream: Vec<u8> = [2.0_f64, 4.0]
             .iter()
             .flat_map(|value| value.to_le_bytes())
@@ -121,7 +121,7 @@ impl Lent {
         })
     }
 
-    fn give(&mut self, command: &Command) {
+    pub fn give(&mut self, command: &Command) {
         assert_eq!(self.number(&command.to_bytes()), 0, "{command}");
     }
 }
@@ -167,7 +167,7 @@ fn edge(values: &str) -> (u64, Option<u64>) {
         "0" => (0, Some(1)),
         "0, 1" => (1, Some(2)),
         "0 to 2" => (2, Some(3)),
-        "0 to 3" => (3, Some(4)),
+        "0 to 4" => (4, Some(5)),
         "below 2^32" => ((1 << 32) - 1, Some(1 << 32)),
         "+0.0" | "+0.0 with kind 0, else any" => (0, Some((-0.0_f64).to_bits())),
         _ => panic!("{values}"),
@@ -230,6 +230,7 @@ fn a_rate_of_its_own_is_coded_with_the_other_kinds() {
             (1, QUEUE_EMPTY),
             (2, QUEUE_EMPTY),
             (3, QUEUE_EMPTY),
+            (4, QUEUE_EMPTY),
         ] {
             let mut lent = Lent::opened();
             lent.words[kind.0][kind.1] = value;

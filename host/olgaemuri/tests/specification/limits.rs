@@ -1,11 +1,11 @@
 //! The limits, each tried at its value and just beyond it.
 
-use crate::common::{create, reschedule, set};
+use crate::common::{create, reschedule, set, set_wear};
 use crate::document::{number, table};
 use olgaemuri::{CLOCKS, Command, Hazard, MAX_PAIRS, NO_CAUSE, Pair, Policy, Session};
 
 /// A limit's value and the refusal beyond it.
-fn limit(name: &str) -> (&'static str, usize) {
+pub fn limit(name: &str) -> (&'static str, usize) {
     let rows = table("| limit | value | beyond it |");
     let row = rows
         .iter()
@@ -23,7 +23,7 @@ fn float(value: &str) -> f64 {
 }
 
 /// The number in the answer to a command behind CREATE of clock 0, with this one threshold.
-fn answer(threshold: f64, command: Command) -> usize {
+pub fn answer(threshold: f64, command: Command) -> usize {
     let mut session = Session::new([threshold]);
     session.extend([create(Policy::Restart), command]);
     usize::from(session.run().steps[1].answer.number())
@@ -80,6 +80,12 @@ fn of_floats() {
     });
     holds("largest size of a rate or scale", |value| {
         (1.0, set(1, -value, 0.0))
+    });
+    holds("largest size of a rate or scale", |value| {
+        (1.0, set_wear(1, value, 0.0))
+    });
+    holds("largest size of a rate or scale", |value| {
+        (1.0, set_wear(1, -value, 0.0))
     });
     holds("largest end of a pair", |value| {
         let hazard = ending_at(value);

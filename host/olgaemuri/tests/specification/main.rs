@@ -13,3 +13,4 @@ mod rates;
 mod records;
 mod refusals;
 mod rows;
+mod wear;

@@ -5,7 +5,7 @@ use olgaemuri::rate_for_wait;
 use olgaemuri::text::parse_float;
 
 /// The float in a cell: a power of two, NaN, or as in a session.
-fn float(cell: &str) -> f64 {
+pub fn float(cell: &str) -> f64 {
     let cell = cell.replace('−', "-");
     match cell.strip_prefix("2^") {
         Some(exponent) => 2f64.powi(exponent.parse().expect("an exponent")),

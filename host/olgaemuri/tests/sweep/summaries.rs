@@ -50,6 +50,32 @@ fn a_constant_cause() {
     assert!((p95 / (4.0 * 20f64.ln()) - 1.0).abs() < 0.03, "{p95}");
 }
 
+/// Weibull with shape 2: the time is the scale times the root of an exponential one. Its mean is half the root of pi, its deviation over
+/// 20,000 runs 0.4 % of it.
+#[test]
+fn a_cause_that_wears() {
+    let session = ONE_CAUSE.replace("hazard=constant rate=0.25", "hazard=weibull scale=400");
+    let summary = summary(&session, "--streams 20000 --seed 1");
+    let [line] = summary.get("summary").array() else {
+        panic!("one machine, one cause");
+    };
+    assert_eq!(
+        of(line, ["machine", "cause", "count"]),
+        [3.0, 7.0, 20_000.0]
+    );
+    let [mean, p50, p95] = of(line, ["mean", "p50", "p95"]);
+    let pi = std::f64::consts::PI;
+    assert!((mean / (200.0 * pi.sqrt()) - 1.0).abs() < 0.015, "{mean}");
+    assert!(
+        (p50 / (400.0 * 2f64.ln().sqrt()) - 1.0).abs() < 0.02,
+        "{p50}"
+    );
+    assert!(
+        (p95 / (400.0 * 20f64.ln().sqrt()) - 1.0).abs() < 0.02,
+        "{p95}"
+    );
+}
+
 /// The first of two exponential times has mean 1 / (sum of the rates), whichever it is; each comes in proportion to its rate.
 #[test]
 fn competing_causes() {

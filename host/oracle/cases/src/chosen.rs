@@ -1,5 +1,6 @@
-//! Chosen cases: rows 1 to 7 of document 01's table, and the limits.
+//! Chosen cases: rows 1 to 7 of document 01's table, the limits, and those of kind 4.
 
+use crate::chosen_weibull;
 use crate::evaluations::EvaluationCase;
 use crate::floats::{LARGEST_SUBNORMAL, SMALLEST};
 use crate::samples::SampleCase;
@@ -13,7 +14,7 @@ fn table_hazard() -> Hazard {
     Hazard::piecewise(&[(2.0, 1.0), (5.0, 0.0)], 0.5)
 }
 
-fn at(hazard: Hazard, t: f64) -> [EvaluationCase; 2] {
+pub(crate) fn at(hazard: Hazard, t: f64) -> [EvaluationCase; 2] {
     [HAZARD_AT, CUMULATIVE_HAZARD].map(|operation| EvaluationCase {
         operation,
         hazard,
@@ -22,7 +23,7 @@ fn at(hazard: Hazard, t: f64) -> [EvaluationCase; 2] {
     })
 }
 
-fn wait(hazard: Hazard, start: f64, w: f64) -> EvaluationCase {
+pub(crate) fn wait(hazard: Hazard, start: f64, w: f64) -> EvaluationCase {
     EvaluationCase {
         operation: INVERT_CUMULATIVE_HAZARD,
         hazard,
@@ -41,6 +42,7 @@ pub fn evaluations() -> Vec<EvaluationCase> {
             cases.push(wait(hazard, start, w));
         }
     }
+    cases.extend(chosen_weibull::evaluations());
     cases
 }
 
@@ -95,11 +97,12 @@ pub fn samples() -> Vec<SampleCase> {
         case.request.n = n;
         cases.push(case);
     }
+    cases.extend(chosen_weibull::samples());
     cases
 }
 
 /// Causes and priorities as given, each with a wait of 4.0 from age 0.
-fn tied(tie: u8, causes: &[(u32, u32)]) -> SampleCase {
+pub(crate) fn tied(tie: u8, causes: &[(u32, u32)]) -> SampleCase {
     let mut request = Request {
         n: causes.len() as u8,
         tie,

@@ -2,6 +2,7 @@
 //! clock that is written anew is likely to part from the Rust. All draw from the start of the
 //! stream: 2.0, 1.0, 2.0, 2.0, 1.0, 0.5, 4.0, 1.5, 0.25, 3.0, 0.0, -0.0.
 
+use crate::chosen_weibull;
 use crate::clock_steps::History;
 use crate::floats::SMALLEST;
 use kairo_ecs_rng::DeterministicStream;
@@ -9,8 +10,8 @@ use reference::command::{Command, Create, Reschedule, Set};
 use reference::fields::LIMIT;
 use reference::hazard::{CONSTANT, Hazard, PIECEWISE};
 
-const RESTART: u8 = 0;
-const RETAIN: u8 = 1;
+pub(crate) const RESTART: u8 = 0;
+pub(crate) const RETAIN: u8 = 1;
 
 /// Where the thresholds 0.0 and -0.0 stand in the stream.
 const ZERO_THRESHOLDS: u64 = 10;
@@ -30,7 +31,7 @@ pub fn constant(cause: u32, rate: f64, now: f64) -> Command {
     hazard(cause, 0, Hazard::single_rate(CONSTANT, rate), now)
 }
 
-fn hazard(cause: u32, priority: u32, hazard: Hazard, now: f64) -> Command {
+pub(crate) fn hazard(cause: u32, priority: u32, hazard: Hazard, now: f64) -> Command {
     Command::Set(Set {
         clock: 0,
         cause,
@@ -70,7 +71,7 @@ pub fn remove(cause: u32) -> Command {
 }
 
 /// A CREATE, the draw position it begins with, and the commands after it.
-type Chosen = (Create, u64, Vec<Command>);
+pub(crate) type Chosen = (Create, u64, Vec<Command>);
 
 pub fn histories(thresholds: &[u8]) -> Vec<History<'_>> {
     let all = [
@@ -81,6 +82,7 @@ pub fn histories(thresholds: &[u8]) -> Vec<History<'_>> {
         pauses(),
         draws(),
         floats(),
+        chosen_weibull::histories(),
     ];
     let run = |(create, position, commands): Chosen| {
         let stream = DeterministicStream::new(thresholds, position);

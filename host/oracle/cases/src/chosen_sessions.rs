@@ -1,13 +1,15 @@
 //! Chosen sessions: rows 9 to 12 of document 01's table with their undos, its errors to shut out,
-//! sixteen clocks, priorities at the ends of i32.
+//! sixteen clocks, priorities at the ends of i32, hazard kind 4.
 
 use crate::chosen_histories::{censored, constant, create, pause, remove, reschedule, resume};
+use crate::chosen_weibull::wears;
+use crate::floats::SMALLEST;
 use crate::sessions::{Session, command_count};
 use reference::answer::ANSWER_BYTES;
 use reference::batch::RESULT_BYTES;
 use reference::command::{Command, Create, Reschedule, Set};
 use reference::command_fields::CLOCKS;
-use reference::hazard::{CONSTANT, Hazard};
+use reference::hazard::{CONSTANT, Hazard, SMALLEST_SCALE, WEIBULL};
 
 /// A session with room for all answers.
 pub fn session(stream: &[f64], journal: usize, inputs: &[Vec<u8>]) -> Session {
@@ -36,6 +38,7 @@ pub fn sessions() -> Vec<Session> {
     all.extend(undos());
     all.extend(sixteen_clocks());
     all.push(urgent_first());
+    all.extend(guide_rails());
     all
 }
 
@@ -164,4 +167,33 @@ fn urgent_first() -> Session {
         journal: 1200,
         ..of(&[2.0; 5], &commands)
     }
+}
+
+/// Kind 4 (document 02, change 4): paused, resumed, set again, with undos and a delivery; a subnormal threshold; its refusals.
+fn guide_rails() -> [Session; 3] {
+    let (new, set, start) = (table_clock(), wears(1, 3.0, 0.0), reschedule(0.0));
+    let (undo, deliver) = (Command::Undo, Command::Deliver);
+    let edited = [pause(5.0), resume(0.0), undo, undo];
+    let again = [wears(1, 49.0, 4.0), reschedule(4.0), pause(5.0)];
+    let ended = [resume(6.0), undo, deliver];
+    let commands = [&[new, set, start][..], &edited, &again, &ended].concat();
+    [
+        of(&[4.0, 1.0], &commands),
+        of(&[SMALLEST, 1.0], &[new, set, start, deliver]),
+        refused_scales(),
+    ]
+}
+
+/// Scales beside and at the smallest, -0.0, then the kind after the last, a count and bits in the first and in the last pair.
+fn refused_scales() -> Session {
+    let scales = [SMALLEST_SCALE.next_down(), SMALLEST_SCALE, -0.0, 3.0];
+    let mut inputs = vec![table_clock().to_bytes()];
+    inputs.extend(scales.map(|scale| wears(1, scale, 0.0).to_bytes()));
+    for (at, byte) in [(10, WEIBULL + 1), (27, 1), (28, 1), (155, 0x80)] {
+        let mut changed = wears(1, 3.0, 0.0).to_bytes();
+        changed[at] = byte;
+        inputs.push(changed);
+    }
+    inputs.extend([reschedule(0.0), Command::Undo, Command::Undo].map(|c| c.to_bytes()));
+    session(&[2.0, 1.0], 700, &inputs)
 }

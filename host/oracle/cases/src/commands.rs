@@ -5,6 +5,7 @@ use crate::floats::{Style, near, positive, signed, time};
 use crate::hazards::hazard;
 use crate::random::Random;
 use crate::samples::CAUSES;
+use crate::weibull;
 use kairo_ecs_des::{HazardChannelState, SurvivalClock};
 use reference::command::{Command, Create, Reschedule, Set};
 use reference::fields::{LIMIT, size_in_range};
@@ -125,14 +126,22 @@ fn removed_cause(random: &mut Random, view: &View) -> u32 {
 /// Any hazard, or one that uses up the next threshold in a wait that others have too.
 fn aimed_hazard(random: &mut Random, view: &View) -> Hazard {
     let due = view.due.filter(|w| threshold_valid(*w) && *w > 0.0);
+    match due {
+        Some(w) if random.chance(50) => hazard_with_wait(random, view.style, w),
+        _ => None,
+    }
+    .unwrap_or_else(|| hazard(random, view.style))
+}
+
+/// A hazard that uses up a threshold in one of the waits, if there is one with fields that are accepted.
+fn hazard_with_wait(random: &mut Random, style: Style, w: f64) -> Option<Hazard> {
     let wait = random.pick(&WAITS);
-    match due.map(|w| w / wait) {
-        Some(rate) if size_in_range(rate) && random.chance(50) => match random.below(4) {
-            0 | 1 => Hazard::single_rate(CONSTANT, rate),
-            2 => Hazard::single_rate(GOMPERTZ, rate),
-            _ => Hazard::piecewise(&[(wait, rate)], signed(random, view.style)),
-        },
-        _ => hazard(random, view.style),
+    let rate = Some(w / wait).filter(|rate| size_in_range(*rate))?;
+    match random.below(5) {
+        0 | 1 => Some(Hazard::single_rate(CONSTANT, rate)),
+        2 => Some(Hazard::single_rate(GOMPERTZ, rate)),
+        3 => weibull::with_wait(w, wait),
+        _ => Some(Hazard::piecewise(&[(wait, rate)], signed(random, style))),
     }
 }
 

@@ -1,16 +1,18 @@
 //! Changes that make an accepted hazard a refused one, one function for each condition.
 
-use crate::floats::{Style, not_an_end, not_zero_bits, out_of_size};
+use crate::floats::{SMALLEST, Style, not_an_end, not_zero_bits, out_of_size, spread};
 use crate::hazards::{piecewise, single_rate};
 use crate::random::Random;
-use reference::hazard::{CONSTANT, GOMPERTZ, Hazard, PAIRS, PIECEWISE, ZERO};
+use crate::weibull;
+use reference::hazard::{CONSTANT, GOMPERTZ, Hazard, PAIRS, SMALLEST_SCALE, WEIBULL, ZERO};
 
 type Damage = fn(&mut Random, &mut Hazard);
 
-const DAMAGES: [Damage; 11] = [
+const DAMAGES: [Damage; 12] = [
     kind_off_its_list,
     first_of_zero,
     first_out_of_size,
+    scale_too_small,
     used_rate_out_of_size,
     rate_out_of_size_and_count_above_eight,
     count_above_eight,
@@ -29,9 +31,9 @@ pub fn damage(random: &mut Random, hazard: &mut Hazard) {
 /// 4.
 fn kind_off_its_list(random: &mut Random, hazard: &mut Hazard) {
     hazard.kind = if random.chance(50) {
-        PIECEWISE + 1
+        WEIBULL + 1
     } else {
-        random.byte_from(PIECEWISE + 1)
+        random.byte_from(WEIBULL + 1)
     };
 }
 
@@ -43,6 +45,17 @@ fn first_of_zero(random: &mut Random, hazard: &mut Hazard) {
 /// 5, or 4 for kind 0.
 fn first_out_of_size(random: &mut Random, hazard: &mut Hazard) {
     hazard.first = out_of_size(random);
+}
+
+/// 5.
+fn scale_too_small(random: &mut Random, hazard: &mut Hazard) {
+    let below = SMALLEST_SCALE.next_down();
+    let scale = match random.below(3) {
+        0 => below,
+        1 => random.pick(&[SMALLEST, f64::MIN_POSITIVE, SMALLEST_SCALE / 2.0]),
+        _ => spread(random, SMALLEST, below),
+    };
+    *hazard = Hazard::single_rate(WEIBULL, scale);
 }
 
 /// 5.
@@ -113,10 +126,11 @@ fn ends_descending(random: &mut Random, hazard: &mut Hazard) {
 }
 
 fn without_pairs(random: &mut Random) -> Hazard {
-    match random.below(3) {
+    match random.below(4) {
         0 => Hazard::default(),
         1 => single_rate(random, Style::Simple, CONSTANT),
-        _ => single_rate(random, Style::Simple, GOMPERTZ),
+        2 => single_rate(random, Style::Simple, GOMPERTZ),
+        _ => weibull::hazard(random, Style::Simple),
     }
 }
 

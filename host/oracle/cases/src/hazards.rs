@@ -2,14 +2,16 @@
 
 use crate::floats::{Style, near, positive, signed, time};
 use crate::random::Random;
+use crate::weibull;
 use reference::fields::{LIMIT, size_in_range};
-use reference::hazard::{CONSTANT, GOMPERTZ, Hazard, PAIRS};
+use reference::hazard::{CONSTANT, GOMPERTZ, Hazard, PAIRS, WEIBULL};
 
 pub fn hazard(random: &mut Random, style: Style) -> Hazard {
-    match random.below(12) {
+    match random.below(15) {
         0 => Hazard::default(),
         1..4 => single_rate(random, style, CONSTANT),
         4..6 => single_rate(random, style, GOMPERTZ),
+        6..9 => weibull::hazard(random, style),
         _ => {
             let count = random.index(PAIRS + 1);
             piecewise(random, style, count)
@@ -68,17 +70,22 @@ fn neighbours(random: &mut Random, count: usize) -> Vec<f64> {
 
 /// A time that an evaluation accepts; often an end or a neighbour of one.
 pub fn evaluation_time(random: &mut Random, hazard: &Hazard, style: Style) -> f64 {
-    end_or_neighbour(random, hazard).unwrap_or_else(|| signed(random, style))
+    special_time(random, hazard).unwrap_or_else(|| signed(random, style))
 }
 
 /// An age that the sampler accepts; often an end or a neighbour of one.
 pub fn age(random: &mut Random, hazard: &Hazard, style: Style) -> f64 {
-    end_or_neighbour(random, hazard).unwrap_or_else(|| time(random, style))
+    special_time(random, hazard).unwrap_or_else(|| time(random, style))
 }
 
-fn end_or_neighbour(random: &mut Random, hazard: &Hazard) -> Option<f64> {
-    if hazard.used().is_empty() || random.chance(60) {
+/// Beside an end, or for kind 4 beside a multiple of the scale.
+fn special_time(random: &mut Random, hazard: &Hazard) -> Option<f64> {
+    let has_ends = !hazard.used().is_empty();
+    if !(has_ends || hazard.kind == WEIBULL) || random.chance(60) {
         return None;
+    }
+    if !has_ends {
+        return Some(weibull::multiple(random, hazard));
     }
     let end = random.pick(hazard.used()).end;
     Some(near(random, end).min(LIMIT))
@@ -86,6 +93,9 @@ fn end_or_neighbour(random: &mut Random, hazard: &Hazard) -> Option<f64> {
 
 /// A w that the inversion accepts; often just what is left up to an end.
 pub fn evaluation_w(random: &mut Random, hazard: &Hazard, start: f64, style: Style) -> f64 {
+    if hazard.kind == WEIBULL {
+        return weibull::w(random, hazard, start, style);
+    }
     if hazard.used().is_empty() || random.chance(60) {
         return signed(random, style);
     }

@@ -3,6 +3,7 @@
 use crate::command_tally::{answered, decided_by_tie, deciding_priorities, delivered_by};
 use crate::sessions::{Outcome, Session, Step};
 use crate::tally::count;
+use crate::weibull_coverage::of_weibull;
 use kairo_ecs_rng::{DeterministicStream, THRESHOLD_BYTES};
 use reference::answer::ANSWER_BYTES;
 use reference::batch::RESULT_BYTES;
@@ -36,6 +37,7 @@ impl Coverage {
         let mut shown = of_buffers(session, &outcome);
         shown.extend(of_steps(steps));
         shown.extend(of_undos(steps, unanswered));
+        shown.extend(of_weibull(steps));
         for (name, is_shown) in shown {
             if is_shown {
                 count(&mut self.sessions, name);

@@ -9,7 +9,7 @@ use cases::samples::{self, SampleCase};
 use cases::{lists, tally};
 use common::{checksum, numbers};
 use reference::fields::LIMIT;
-use reference::hazard::{Hazard, PIECEWISE};
+use reference::hazard::{Hazard, PIECEWISE, SMALLEST_SCALE, WEIBULL};
 use std::collections::BTreeSet;
 
 #[test]
@@ -20,7 +20,7 @@ fn evaluations_are_the_same_each_time() {
         bytes.len(),
         lists::EVALUATION_COUNT * evaluations::CASE_BYTES
     );
-    assert_eq!(checksum(&bytes), 0xD06E_98E4_9EA3_8C47);
+    assert_eq!(checksum(&bytes), 0x1C85_5C7E_1F79_9F04);
 }
 
 #[test]
@@ -28,7 +28,7 @@ fn samples_are_the_same_each_time() {
     let bytes = lists::sample_bytes(&lists::samples());
     assert_eq!(bytes, lists::sample_bytes(&lists::samples()));
     assert_eq!(bytes.len(), lists::SAMPLE_COUNT * samples::CASE_BYTES);
-    assert_eq!(checksum(&bytes), 0x4CDD_A67A_AC5B_ACC0);
+    assert_eq!(checksum(&bytes), 0x9FF9_1CCA_0534_A43A);
 }
 
 #[test]
@@ -103,14 +103,44 @@ fn most_cases_are_accepted() {
 }
 
 #[test]
-fn every_count_is_accepted_by_every_operation() {
-    let accepted: BTreeSet<(u8, u8)> = lists::evaluations()
+fn every_kind_and_count_is_accepted_by_every_operation() {
+    let accepted: BTreeSet<(u8, u8, u8)> = lists::evaluations()
         .iter()
-        .filter(|case| case.hazard.kind == PIECEWISE && case.expected().number == 0)
-        .map(|case| (case.operation, case.hazard.count))
+        .filter(|case| case.expected().number == 0)
+        .map(|case| (case.operation, case.hazard.kind, case.hazard.count))
         .collect();
-    let all = (0..3).flat_map(|operation| (0..=8).map(move |count| (operation, count)));
+    let kinds = (0..=WEIBULL).map(|kind| (kind, 0));
+    let counts = (1..=8).map(|count| (PIECEWISE, count));
+    let kinds: Vec<(u8, u8)> = kinds.chain(counts).collect();
+    let all = (0..3).flat_map(|operation| kinds.iter().map(move |(k, n)| (operation, *k, *n)));
     assert_eq!(accepted, all.collect());
+}
+
+/// Kind 4 with each sort of scale: by its own refusal, at its ends, as Zero; and waits that the product does not reach.
+#[test]
+fn every_sort_of_scale_is_among_the_evaluations() {
+    let cases = lists::evaluations();
+    let kind_4: Vec<&EvaluationCase> = cases.iter().filter(|c| c.hazard.kind == WEIBULL).collect();
+    let some = |name: &str, test: &dyn Fn(f64, &EvaluationCase) -> bool| {
+        let count = kind_4.iter().filter(|case| test(case.hazard.first, case));
+        assert!(count.count() >= 10, "{name}");
+    };
+    let number = |case: &EvaluationCase| case.expected().number;
+    some("too small", &|scale, case| {
+        scale > 0.0 && scale < SMALLEST_SCALE && number(case) == 5
+    });
+    some("smallest", &|scale, case| {
+        scale == SMALLEST_SCALE && number(case) == 0
+    });
+    some("largest", &|scale, case| {
+        scale == LIMIT && number(case) == 0
+    });
+    some("Zero", &|scale, case| scale <= 0.0 && number(case) == 0);
+    some("a wait of zero", &|scale, case| {
+        let answer = case.expected();
+        scale > 0.0 && case.operation == 2 && case.w > 0.0 && answer.found && answer.value == 0.0
+    });
+    some("pairs or a count", &|_, case| number(case) == 6);
 }
 
 #[test]

@@ -10,7 +10,7 @@ const SEED: u64 = 20_261_115;
 const SESSIONS: usize = 4000;
 
 /// Each with the least number of sessions among the random ones that show it.
-const KINDS: [(&str, usize); 26] = [
+const KINDS: [(&str, usize); 31] = [
     ("many undos", 100),
     ("undone draw", 100),
     ("undone request", 100),
@@ -33,6 +33,11 @@ const KINDS: [(&str, usize); 26] = [
     ("command cut short", 100),
     ("damaged field", 100),
     ("extreme float", 100),
+    ("kind 4 wins", 100),
+    ("kind 4 settled", 100),
+    ("kind 4 is Zero", 50),
+    ("smallest scale", 10),
+    ("scale too small", 20),
     ("answers cut", 100),
     ("answer cut within", 50),
     ("threshold cut", 50),

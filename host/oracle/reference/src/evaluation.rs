@@ -1,4 +1,4 @@
-//! The three public evaluations (document 01, "Hazard arithmetic").
+//! The three public evaluations (document 01, "Hazard arithmetic"; kind 4 from document 02).
 
 use crate::fields::size_in_range;
 use crate::hazard::Hazard;

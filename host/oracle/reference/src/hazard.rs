@@ -1,7 +1,7 @@
 //! A hazard as it stands in a SET or a sampler record: kind, first, count, eight pairs.
 
 use crate::fields::{LIMIT, Reader, is_zero_bits, size_in_range};
-use kairo_ecs_rng::HazardRate;
+use kairo_ecs_rng::{HazardRate, UnchangedHazard, Weibull};
 
 pub const PAIRS: usize = 8;
 pub const HAZARD_BYTES: usize = 138;
@@ -10,6 +10,11 @@ pub const ZERO: u8 = 0;
 pub const CONSTANT: u8 = 1;
 pub const GOMPERTZ: u8 = 2;
 pub const PIECEWISE: u8 = 3;
+/// Document 02, change 4.
+pub const WEIBULL: u8 = 4;
+
+/// 2^-40: a scale of kind 4 is not below it unless it is at most 0.
+pub const SMALLEST_SCALE: f64 = 1.0 / LIMIT;
 
 #[derive(Clone, Copy, Debug, Default, PartialEq)]
 pub struct Pair {
@@ -21,14 +26,14 @@ pub struct Pair {
 #[derive(Clone, Copy, Debug, Default, PartialEq)]
 pub struct Hazard {
     pub kind: u8,
-    /// Rate of Constant, eta of Gompertz, trailing rate of PiecewiseConstant.
+    /// Rate of Constant, eta of Gompertz, trailing rate of PiecewiseConstant, scale of Weibull.
     pub first: f64,
     pub count: u8,
     pub pairs: [Pair; PAIRS],
 }
 
 impl Hazard {
-    /// Constant or Gompertz.
+    /// Constant, Gompertz or Weibull.
     pub fn single_rate(kind: u8, first: f64) -> Self {
         Self {
             kind,
@@ -47,14 +52,21 @@ impl Hazard {
         hazard
     }
 
-    /// The fields of the Rust's own value. `None` for what is not carried and for more than eight
+    /// The fields of what a clock holds. `None` for what is not carried and for more than eight
     /// pairs.
     pub fn of(rate: &HazardRate) -> Option<Self> {
         match rate {
-            HazardRate::Zero => Some(Self::default()),
-            HazardRate::Constant { rate } => Some(Self::single_rate(CONSTANT, *rate)),
-            HazardRate::Gompertz { eta, b: 0.0 } => Some(Self::single_rate(GOMPERTZ, *eta)),
-            HazardRate::PiecewiseConstant {
+            HazardRate::Unchanged(rate) => Self::of_unchanged(rate),
+            HazardRate::Weibull(weibull) => Some(Self::single_rate(WEIBULL, weibull.scale)),
+        }
+    }
+
+    fn of_unchanged(rate: &UnchangedHazard) -> Option<Self> {
+        match rate {
+            UnchangedHazard::Zero => Some(Self::default()),
+            UnchangedHazard::Constant { rate } => Some(Self::single_rate(CONSTANT, *rate)),
+            UnchangedHazard::Gompertz { eta, b: 0.0 } => Some(Self::single_rate(GOMPERTZ, *eta)),
+            UnchangedHazard::PiecewiseConstant {
                 intervals,
                 trailing_rate,
             } if intervals.len() <= PAIRS => Some(Self::piecewise(intervals, *trailing_rate)),
@@ -104,13 +116,20 @@ impl Hazard {
 
     /// Not refused by 4: the kind is on its list, and first of kind 0 is zero.
     pub fn choice_valid(&self) -> bool {
-        self.kind <= PIECEWISE && (self.kind != ZERO || is_zero_bits(self.first))
+        self.kind <= WEIBULL && (self.kind != ZERO || is_zero_bits(self.first))
     }
 
-    /// Not refused by 5: first and the used rates are finite and at most 2^40 in size.
-    /// First of kind 0 is zero by then.
+    /// Not refused by 5: first and the used rates are finite and at most 2^40 in size, and a scale
+    /// is not too small. First of kind 0 is zero by then.
     pub fn rates_in_range(&self) -> bool {
-        size_in_range(self.first) && self.used().iter().all(|pair| size_in_range(pair.rate))
+        size_in_range(self.first)
+            && !self.scale_too_small()
+            && self.used().iter().all(|pair| size_in_range(pair.rate))
+    }
+
+    /// The scale of kind 4 is above 0 and below 2^-40.
+    fn scale_too_small(&self) -> bool {
+        self.kind == WEIBULL && self.first > 0.0 && self.first < SMALLEST_SCALE
     }
 
     /// Not refused by 6: count, unused pairs and used ends.
@@ -142,19 +161,32 @@ impl Hazard {
         })
     }
 
-    /// The Rust's own value for a hazard that passes 4 and 6.
+    /// What a clock holds, for a hazard that passes 4 and 6.
     pub fn build(&self) -> HazardRate {
+        match self.weibull() {
+            Some(weibull) => HazardRate::Weibull(weibull),
+            None => HazardRate::Unchanged(self.build_unchanged()),
+        }
+    }
+
+    /// Kind 4 of document 02, which the Rust does not have.
+    pub fn weibull(&self) -> Option<Weibull> {
+        (self.kind == WEIBULL).then_some(Weibull { scale: self.first })
+    }
+
+    /// The Rust's own value for a hazard of kinds 0 to 3 that passes 4 and 6.
+    pub fn build_unchanged(&self) -> UnchangedHazard {
         match self.kind {
-            CONSTANT => HazardRate::Constant { rate: self.first },
-            GOMPERTZ => HazardRate::Gompertz {
+            CONSTANT => UnchangedHazard::Constant { rate: self.first },
+            GOMPERTZ => UnchangedHazard::Gompertz {
                 eta: self.first,
                 b: 0.0,
             },
-            PIECEWISE => HazardRate::PiecewiseConstant {
+            PIECEWISE => UnchangedHazard::PiecewiseConstant {
                 intervals: self.used().iter().map(|p| (p.end, p.rate)).collect(),
                 trailing_rate: self.first,
             },
-            _ => HazardRate::Zero,
+            _ => UnchangedHazard::Zero,
         }
     }
 }

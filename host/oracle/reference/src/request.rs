@@ -4,7 +4,7 @@ use crate::choices::{TIES, has_field_valid};
 use crate::fields::{Reader, is_zero_bits, time_in_range};
 use crate::hazard::{HAZARD_BYTES, Hazard};
 use crate::refusal::{Refusal, first_failure};
-use kairo_ecs_rng::{CauseId, CompetingCause, CompetingHazards};
+use kairo_ecs_rng::{CauseId, CompetingCause, CompetingHazards, DeterministicStream};
 
 pub const RECORDS: usize = 8;
 pub const RECORD_BYTES: usize = 8 + HAZARD_BYTES;
@@ -47,14 +47,6 @@ impl Record {
         out.extend(self.cause.to_le_bytes());
         out.extend(self.priority.to_le_bytes());
         self.hazard.encode(out);
-    }
-
-    fn build(&self) -> CompetingCause {
-        CompetingCause {
-            cause_id: CauseId(self.cause),
-            priority: self.priority,
-            hazard: self.hazard.build(),
-        }
     }
 }
 
@@ -105,10 +97,32 @@ impl Request {
         (self.has_censor == 1).then_some(self.censor)
     }
 
-    /// The Rust's own value for a request that passes 4 and 6.
-    pub fn build(&self) -> CompetingHazards {
-        let tie_breaker = TIES[usize::from(self.tie)];
-        CompetingHazards::new(self.used().iter().map(Record::build).collect(), tie_breaker)
+    /// The Rust's own value for a request that passes 4 and 6 and whose draws from the stream can
+    /// be made.
+    pub fn build(&self, stream: &DeterministicStream) -> CompetingHazards {
+        let causes = (0..self.used_count()).map(|place| self.cause(place, stream));
+        CompetingHazards::new(causes.collect(), TIES[usize::from(self.tie)])
+    }
+
+    /// A used record. Kind 4 is given as pieces that have its wait for the threshold that it draws.
+    fn cause(&self, place: usize, stream: &DeterministicStream) -> CompetingCause {
+        let record = &self.records[place];
+        CompetingCause {
+            cause_id: CauseId(record.cause),
+            priority: record.priority,
+            hazard: match record.hazard.weibull() {
+                Some(weibull) => weibull.as_pieces(self.age, self.drawn(place, stream)),
+                None => record.hazard.build_unchanged(),
+            },
+        }
+    }
+
+    /// The threshold that a used record draws: by ascending cause, repeated causes in list order.
+    fn drawn(&self, place: usize, stream: &DeterministicStream) -> f64 {
+        let order = |other: usize| (self.records[other].cause, other);
+        let before = (0..self.used_count()).filter(|other| order(*other) < order(place));
+        let threshold = stream.threshold(stream.position() + before.count() as u64);
+        threshold.expect("a draw that can be made")
     }
 
     /// By 4 to 7, each number over all fields before the next, then 10.

@@ -38,7 +38,7 @@ pub fn sample(request: &Request, thresholds: &[u8], position: &mut u64) -> Answe
     if let Some(refusal) = refused {
         return Answer::refused(refusal);
     }
-    let causes = request.build();
+    let causes = request.build(&stream);
     let event = causes.sample_next(request.age, request.censor_age(), &mut stream);
     *position = stream.position();
     Answer::sampled(event)

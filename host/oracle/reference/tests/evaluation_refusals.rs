@@ -4,7 +4,7 @@ use reference::evaluation::{
     Evaluation, HAZARD_AT, INVERT_CUMULATIVE_HAZARD, evaluate, hazard_at, invert_cumulative_hazard,
 };
 use reference::fields::LIMIT;
-use reference::hazard::{CONSTANT, GOMPERTZ, Hazard, PIECEWISE, ZERO};
+use reference::hazard::{CONSTANT, GOMPERTZ, Hazard, PIECEWISE, WEIBULL, ZERO};
 use reference::refusal::Refusal;
 
 fn single_rate(kind: u8, first: f64) -> Hazard {
@@ -38,7 +38,7 @@ fn refused(number: u8) -> Evaluation {
 
 #[test]
 fn refused_by_4() {
-    assert_eq!(number(&single_rate(4, 0.0), 1.0), 4);
+    assert_eq!(number(&single_rate(5, 0.0), 1.0), 4);
     assert_eq!(number(&single_rate(255, f64::NAN), f64::NAN), 4);
     assert_eq!(number(&single_rate(ZERO, -0.0), 1.0), 4);
     assert_eq!(number(&single_rate(ZERO, f64::NAN), 1.0), 4);
@@ -47,7 +47,7 @@ fn refused_by_4() {
 #[test]
 fn refused_by_5() {
     for bad in [f64::NAN, f64::INFINITY, LIMIT.next_up(), -LIMIT.next_up()] {
-        for kind in [CONSTANT, GOMPERTZ, PIECEWISE] {
+        for kind in [CONSTANT, GOMPERTZ, PIECEWISE, WEIBULL] {
             assert_eq!(number(&single_rate(kind, bad), 1.0), 5);
         }
         assert_eq!(number(&single_rate(CONSTANT, 1.0), bad), 5);

@@ -65,6 +65,9 @@ fn what_the_rust_cannot_express() {
         changed(clock + 32 + CHANNEL_BYTES, 0),
         "causes that descend"
     );
-    assert!(changed(clock + 32 + 8, 4), "kind");
+    assert!(
+        !changed(clock + 32 + 8, 4) && changed(clock + 32 + 8, 5),
+        "kind"
+    );
     assert!(changed(clock + 32 + 17, 9), "pair count");
 }

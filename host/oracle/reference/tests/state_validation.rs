@@ -5,9 +5,11 @@ mod common;
 use common::{Engine, constant, create, pause, remove, reschedule};
 use kairo_ecs_core::Queued;
 use kairo_ecs_des::HazardChannelState;
-use kairo_ecs_rng::{CauseId, HazardRate};
+use kairo_ecs_rng::{CauseId, HazardRate, UnchangedHazard, Weibull};
 use kairo_ecs_types::EventId;
 use reference::command::Command;
+use reference::fields::LIMIT;
+use reference::hazard::SMALLEST_SCALE;
 use reference::refusal::Refusal;
 use reference::state::applied;
 use reference::validation::validate;
@@ -64,13 +66,16 @@ fn floats_that_are_not_finite() {
 
 #[test]
 fn hazards_that_5_or_6_would_refuse() {
-    let piecewise = |intervals: &[(f64, f64)]| HazardRate::PiecewiseConstant {
-        intervals: intervals.to_vec(),
-        trailing_rate: 1.0,
+    let constant = |rate| HazardRate::Unchanged(UnchangedHazard::Constant { rate });
+    let piecewise = |intervals: &[(f64, f64)]| {
+        HazardRate::Unchanged(UnchangedHazard::PiecewiseConstant {
+            intervals: intervals.to_vec(),
+            trailing_rate: 1.0,
+        })
     };
     for hazard in [
-        HazardRate::Constant { rate: f64::NAN },
-        HazardRate::Constant { rate: 2e12 },
+        constant(f64::NAN),
+        constant(2e12),
         piecewise(&[(1.0, f64::NAN)]),
         piecewise(&[(0.0, 1.0)]),
         piecewise(&[(2.0, 1.0), (2.0, 1.0)]),
@@ -82,6 +87,23 @@ fn hazards_that_5_or_6_would_refuse() {
         let pairs: Vec<(f64, f64)> = (1..=count).map(|end| (f64::from(end), 1.0)).collect();
         channel(&mut engine).hazard = piecewise(&pairs);
         assert_eq!(validate(&engine.state, 2, 300), expected);
+    }
+}
+
+/// A scale above 0 and below 2^-40, or of a size that is refused anyhow.
+#[test]
+fn scales_that_5_would_refuse() {
+    let weibull = |scale| HazardRate::Weibull(Weibull { scale });
+    let smallest = SMALLEST_SCALE;
+    let bad = [f64::NAN, f64::INFINITY, LIMIT.next_up(), -LIMIT.next_up()];
+    let small = [smallest.next_down(), f64::MIN_POSITIVE, f64::from_bits(1)];
+    for scale in bad.into_iter().chain(small) {
+        refused("scale", |engine| channel(engine).hazard = weibull(scale));
+    }
+    for scale in [smallest, LIMIT, 0.0, -0.0, -smallest, -LIMIT] {
+        let mut engine = engine();
+        channel(&mut engine).hazard = weibull(scale);
+        assert_eq!(validate(&engine.state, 2, 300), Ok(()), "{scale:e}");
     }
 }
 

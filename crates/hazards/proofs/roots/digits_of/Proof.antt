@@ -11,9 +11,13 @@ with-all-digits-requires c κs = search needs
 returns : tie.Need-returns
 returns c =
     let d = c .with-all-digits in
-    let f = d .ensures in
-    (subnormal-digits (c .before .before .args .pattern) (d .result .digits) (d .result .power) (c .before .if1 .taken) (f .0), f .1, f .2,
-        f .3, omega (arith, f .4))
+    let f = d .ensures in (
+      subnormal-digits (c .before .before .args .pattern) (d .result .digits) (d .result .power) (c .before .if1 .taken) (f .0),
+      f .1,
+      f .2,
+      f .3,
+      omega (arith, f .4),
+    )
 
 add-t5 : tie.Need-add-t5
 add-t5 c = search needs

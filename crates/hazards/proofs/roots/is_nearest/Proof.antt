@@ -14,10 +14,10 @@ mul-square : tie.Need-mul-square
 mul-square c = omega (arith, high-square (c .args .p) (c .pre .1))
 
 returns : tie.Need-returns
-returns c = λ e. absurd (true≢false (sym e))
+returns c e = absurd (true≢false (sym e))
 
 returns-2 : tie.Need-returns-2
-returns-2 c = λ e. absurd (true≢false (sym e))
+returns-2 c e = absurd (true≢false (sym e))
 
 mul-room : tie.Need-mul-room
 mul-room c = search needs
@@ -29,10 +29,10 @@ mul-cross : tie.Need-mul-cross
 mul-cross c = let s = c .before .before in omega (arith, cross-product (s .args .p) (s .pre .1))
 
 returns-3 : tie.Need-returns-3
-returns-3 c = λ e. absurd (true≢false (sym e))
+returns-3 c e = absurd (true≢false (sym e))
 
 returns-4 : tie.Need-returns-4
-returns-4 c = λ e. absurd (true≢false (sym e))
+returns-4 c e = absurd (true≢false (sym e))
 
 mul-above : tie.Need-mul-above
 mul-above c = search needs
@@ -53,12 +53,11 @@ add-result : tie.Need-add-result
 add-result c = omega (arith, low-square (c .before .before .before .before .args .p))
 
 returns-5 : tie.Need-returns-5
-returns-5 c =
+returns-5 c e =
     let a = c .before .before .before .before .args in
-    λ e.
-        let t = both-true _ _ e in
-        test-nearest (a .n) (a .p / 2 ^ 26) (a .p % 2 ^ 26) (a .p) (omega arith) (omega arith) (omega arith) (ltb-true _ _ (t .0))
-        (leb-true _ _ (t .1))
+    let t = both-true _ _ e in
+    test-nearest (a .n) (a .p / 2 ^ 26) (a .p % 2 ^ 26) (a .p) (omega arith) (omega arith) (omega arith) (ltb-true _ _ (t .0))
+    (leb-true _ _ (t .1))
 
 pub is-nearest-spec : {M : Type 1} → statement M
 is-nearest-spec =

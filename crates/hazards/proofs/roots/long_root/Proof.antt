@@ -29,10 +29,10 @@ add-i : tie.Need-add-i Inv-loop μ-loop
 add-i c = omega arith
 
 mul-left-2 : tie.Need-mul-left-2 Inv-loop μ-loop
-mul-left-2 c = omega (arith, after-small (c .before .before .loop .inv) (c .before .loop-test .taken))
+mul-left-2 c = omega (arith, after-small (c .before .before .loop .inv) (omega arith))
 
 mul-left-3 : tie.Need-mul-left-3 Inv-loop μ-loop
-mul-left-3 c = omega (arith, after-small (c .before .before .loop .inv) (c .before .loop-test .taken))
+mul-left-3 c = omega (arith, after-small (c .before .before .loop .inv) (omega arith))
 
 sub-left-2 : tie.Need-sub-left-2 Inv-loop μ-loop
 sub-left-2 c = omega arith
@@ -41,28 +41,28 @@ sub-left-3 : tie.Need-sub-left-3 Inv-loop μ-loop
 sub-left-3 c = omega arith
 
 mul-root : tie.Need-mul-root Inv-loop μ-loop
-mul-root c = omega (arith, after-small (c .before .before .loop .inv) (c .before .loop-test .taken))
+mul-root c = omega (arith, after-small (c .before .before .loop .inv) (omega arith))
 
 add-root : tie.Need-add-root Inv-loop μ-loop
-add-root c = omega (arith, after-small (c .before .before .loop .inv) (c .before .loop-test .taken))
+add-root c = omega (arith, after-small (c .before .before .loop .inv) (omega arith))
 
 loop-less : tie.Need-loop-less Inv-loop μ-loop
 loop-less c = omega arith
 
 loop-again : tie.Need-loop-again Inv-loop μ-loop
-loop-again c = after-one (c .before .before .loop .inv) (c .before .loop-test .taken) (c .if1 .taken)
+loop-again c = after-one (c .before .before .loop .inv) (omega arith) (c .if1 .taken)
 
 mul-left-4 : tie.Need-mul-left-4 Inv-loop μ-loop
-mul-left-4 c = omega (arith, after-small (c .before .before .loop .inv) (c .before .loop-test .taken))
+mul-left-4 c = omega (arith, after-small (c .before .before .loop .inv) (omega arith))
 
 mul-root-2 : tie.Need-mul-root-2 Inv-loop μ-loop
-mul-root-2 c = omega (arith, after-small (c .before .before .loop .inv) (c .before .loop-test .taken))
+mul-root-2 c = omega (arith, after-small (c .before .before .loop .inv) (omega arith))
 
 loop-less-2 : tie.Need-loop-less-2 Inv-loop μ-loop
 loop-less-2 c = omega arith
 
 loop-again-2 : tie.Need-loop-again-2 Inv-loop μ-loop
-loop-again-2 c = after-zero (c .before .before .loop .inv) (c .before .loop-test .taken) (c .if1 .left)
+loop-again-2 c = after-zero (c .before .before .loop .inv) (omega arith) (c .if1 .left)
 
 returns : tie.Need-returns Inv-loop μ-loop
 returns c =

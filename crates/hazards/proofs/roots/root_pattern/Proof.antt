@@ -27,9 +27,10 @@ returns c =
     let d = c .before .before .before .digits-of in
     let r = d .result in
     let w = c .before .whole-root in
-    let v = root-made b (r .digits) (r .power) (w .result) (d .ensures) (w .ensures .0) in
-    (nearest-is b (s .pre .1) ((r .power / 2 - 26) * 2 ^ 52 + w .result) v,
-        root-finite b (r .digits) (r .power) (w .result) (d .ensures) (w .ensures .0))
+    let v = root-made b (r .digits) (r .power) (w .result) (d .ensures) (w .ensures .0) in (
+      nearest-is b (s .pre .1) ((r .power / 2 - 26) * 2 ^ 52 + w .result) v,
+      root-finite b (r .digits) (r .power) (w .result) (d .ensures) (w .ensures .0),
+    )
 
 pub root-pattern-spec : {M : Type 1} → statement M
 root-pattern-spec = tie.close (tie.spec digits-of-requires whole-root-requires sub-result mul-result add-result returns)

@@ -43,7 +43,9 @@ sub-result : tie.Need-sub-result
 sub-result c = search needs
 
 returns-3 : tie.Need-returns-3
-returns-3 c = even-nearest (c .before .before .before .before .before .before .before .pre) (c .before .is-nearest3 .ensures (c .if3 .taken))
+returns-3 c =
+    let s = c .before .before .before .before .before .before .before in
+    even-nearest (s .pre) (c .before .is-nearest3 .ensures (c .if3 .taken))
 
 long-root-requires : tie.Need-long-root-requires
 long-root-requires c κs = omega (arith, made-even (c .before .before .before .before .before .before .before .pre))

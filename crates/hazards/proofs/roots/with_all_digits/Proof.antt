@@ -27,10 +27,13 @@ loop-less c = omega arith
 
 loop-again : tie.Need-loop-again Inv-loop μ-loop
 loop-again c =
-    let l = c .before .loop in
-    (moved (l .digits) (l .power) (omega arith) ∙ l .inv .0, omega arith,
-        longer (l .digits) (l .power) (omega arith) (omega arith) (l .inv .2), omega arith,
-        omega (arith, few (l .power) (l .digits) (l .inv .2) (omega arith)))
+    let l = c .before .loop in (
+      moved (l .digits) (l .power) (omega arith) ∙ l .inv .0,
+      omega arith,
+      longer (l .digits) (l .power) (omega arith) (omega arith) (l .inv .2),
+      omega arith,
+      omega (arith, few (l .power) (l .digits) (l .inv .2) (omega arith)),
+    )
 
 returns : tie.Need-returns Inv-loop μ-loop
 returns c = let l = c .before .loop in (l .inv .0, omega arith, omega arith, omega arith, omega arith)
