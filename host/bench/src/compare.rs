@@ -9,14 +9,15 @@ use cases::evaluations::EvaluationCase;
 use cases::radicands::{self, radicand};
 use cases::random::Random;
 use cases::samples::SampleCase;
+use cases::weibull_tally::WeibullTally;
 use cases::words::float;
 use reference::answer::Answer;
 
 /// What stands in a buffer before a call, so that a byte left out is seen.
 const FILLED: u8 = 0xA5;
 
-/// The chosen cases, then as many random evaluations, samples and roots in turn as asked for.
-pub fn run(seed: u64, count: u64) -> Result<(), String> {
+/// The chosen cases, then as many random evaluations, samples and roots in turn as asked for; what these show of kind 4.
+pub fn run(seed: u64, count: u64) -> Result<WeibullTally, String> {
     let mut place = 0;
     let mut said = |outcome: Result<(), String>| {
         place += 1;
@@ -33,14 +34,23 @@ pub fn run(seed: u64, count: u64) -> Result<(), String> {
     }
     said(root(f64::INFINITY))?;
     let mut random = Random::new(seed);
+    let mut tally = WeibullTally::default();
     for _ in 0..count {
-        said(evaluation(&EvaluationCase::random(&mut random)))?;
+        let case = EvaluationCase::random(&mut random);
+        said(evaluation(&case))?;
+        tally.add_evaluation(&case, &case.expected());
         let case = SampleCase::random(&mut random);
         let left_over = &random.word().to_le_bytes()[..random.index(8)];
         said(sample(&case, left_over).map(drop))?;
+        tally.add_sample(&case, &case.expected().0);
         said(root(radicand(&mut random)))?;
     }
-    Ok(())
+    match tally.least() {
+        (0, sort) => Err(format!(
+            "seed {seed}: of {count} random cases there is none of kind 4 {sort}"
+        )),
+        _ => Ok(tally),
+    }
 }
 
 /// The engine's nearest root beside the processor's.

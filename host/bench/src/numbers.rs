@@ -110,6 +110,18 @@ impl Sides {
             fields: Fields::of(hazard),
         }
     }
+
+    /// Kind 4, with the Rust's own Weibull of shape 2 in place of the model. The compiler does not know the shape.
+    pub fn with_powf(operation: u8, hazard: &Hazard) -> Self {
+        Self {
+            rate: UnchangedHazard::Weibull {
+                shape: black_box(2.0),
+                scale: hazard.first,
+            },
+            weibull: None,
+            ..Self::new(operation, hazard)
+        }
+    }
 }
 
 #[inline(never)]

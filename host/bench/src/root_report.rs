@@ -1,15 +1,23 @@
-//! The benchmark of the nearest root (document 02, change 4): Rattle's, in whole numbers, beside the processor's own, in one run.
+//! The benchmark of the nearest root and of the wait that takes it (document 02, change 4): Rattle's, in whole numbers, beside the
+//! processor's own, in one run.
 
+use crate::numbers::{SIDES as EVALUATIONS, Sides};
 use crate::probe;
 use crate::timing::best;
 use crate::workloads::{self, POINTS};
+use reference::evaluation::INVERT_CUMULATIVE_HAZARD;
+use reference::hazard::Hazard;
 use std::hint::black_box;
 
 const HEAD: &str = "
 Nearest root, one driver for both. Rattle: whole numbers decide, after a guess with floats. Processor: its own instruction, in a
 function that is called as Rattle's is. Inlined: the same instruction without the call. Chain: each root is added to the next
-number before that one's root is taken, so that each waits for the one before; apart: none waits for another.
-ratio = Rattle / Processor.";
+number before that one's root is taken, so that each waits for the one before; apart: none waits for another. Digit by digit:
+numbers whose guess is tested in vain, as few are. ratio = Rattle / Processor.";
+
+const INVERSIONS: &str = "
+Wait of kind 4, unchecked, from an age. Plain: the same steps in Rust with the processor's root. powf: the Rust's own Weibull of
+shape 2, which may differ in the last bits. ratio = Rattle / Plain.";
 
 type Root = fn(f64) -> f64;
 
@@ -70,15 +78,24 @@ pub fn print() {
     let moderate = workloads::moderate_numbers();
     print_row("moderate numbers, chain", CHAIN, &moderate);
     print_row("moderate numbers, apart", APART, &moderate);
-    print_row(
-        "all sizes, apart",
-        APART,
-        &workloads::numbers_of_all_sizes(),
+    let [all_sizes, subnormal, below_squares] = [
+        workloads::numbers_of_all_sizes(),
+        workloads::subnormal_numbers(),
+        workloads::numbers_below_squares(),
+    ];
+    print_row("all sizes, apart", APART, &all_sizes);
+    print_row("subnormal numbers, apart", APART, &subnormal);
+    print_row("digit by digit, apart", APART, &below_squares);
+    println!("{INVERSIONS}");
+    println!(
+        "{:<43}{:>11}{:>9}{:>7}{:>9}",
+        "", "Plain", "Rattle", "ratio", "powf"
     );
-    print_row(
-        "subnormal numbers, apart",
-        APART,
-        &workloads::subnormal_numbers(),
+    let [plain, rattle, powf] = inversion_times(&workloads::weibull());
+    println!(
+        "invert_cumulative_hazard {:<18}{plain:>11.2}{rattle:>9.2}{:>7.2}{powf:>9.2}",
+        "weibull",
+        rattle / plain
     );
 }
 
@@ -111,6 +128,32 @@ fn times([by_call, inlined]: [Driver; 2], numbers: &[f64]) -> [f64; 3] {
             &mut || batch(by_call, 0, a),
             &mut || batch(by_call, 1, b),
             &mut || batch(inlined, 1, c),
+        ],
+    )
+}
+
+/// Plain Rust and Rattle, first held to the same numbers, and the Rust with `powf`.
+fn inversion_times(hazard: &Hazard) -> [f64; 3] {
+    let points = workloads::points();
+    let sides = Sides::new(INVERT_CUMULATIVE_HAZARD, hazard);
+    let with_powf = Sides::with_powf(INVERT_CUMULATIVE_HAZARD, hazard);
+    let [plain, rattle] = [EVALUATIONS[2], EVALUATIONS[3]];
+    let mut outs =
+        [(plain, &sides), (rattle, &sides), (plain, &with_powf)].map(|(side, hazard)| {
+            let mut out = vec![0.0; POINTS];
+            side(hazard, &points, &mut out);
+            out
+        });
+    assert!(outs[0] == outs[1], "the sides differ");
+    let near = |(a, b): (&f64, &f64)| (a - b).abs() <= 1e-9 * a;
+    assert!(outs[0].iter().zip(&outs[2]).all(near), "powf is far off");
+    let [a, b, c] = outs.each_mut();
+    best(
+        POINTS,
+        [
+            &mut || plain(black_box(&sides), black_box(&points), black_box(a)),
+            &mut || rattle(black_box(&sides), black_box(&points), black_box(b)),
+            &mut || plain(black_box(&with_powf), black_box(&points), black_box(c)),
         ],
     )
 }

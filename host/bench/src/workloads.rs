@@ -1,6 +1,7 @@
 //! What is timed: points and hazards for the evaluations, causes and thresholds for the sampler, numbers for the root, pairs for the rate.
 
 use cases::floats::{LARGEST_SUBNORMAL, SMALLEST, Style, positive, spread};
+use cases::radicands::below_short_square;
 use cases::random::Random;
 use reference::fields::LIMIT;
 use reference::hazard::{CONSTANT, GOMPERTZ, Hazard, WEIBULL};
@@ -32,9 +33,13 @@ pub fn evaluations() -> [EvaluationWorkload; 4] {
         ("constant", Hazard::single_rate(CONSTANT, 0.3)),
         ("gompertz", Hazard::single_rate(GOMPERTZ, 0.3)),
         ("piecewise, 8 pairs", Hazard::piecewise(&PAIRS, 0.2)),
-        ("weibull", Hazard::single_rate(WEIBULL, 3.0)),
+        ("weibull", weibull()),
     ]
     .map(|(name, hazard)| EvaluationWorkload { name, hazard })
+}
+
+pub fn weibull() -> Hazard {
+    Hazard::single_rate(WEIBULL, 3.0)
 }
 
 /// Times and w of moderate size, reaching every piece.
@@ -58,6 +63,13 @@ pub fn numbers_of_all_sizes() -> Vec<f64> {
 
 pub fn subnormal_numbers() -> Vec<f64> {
     numbers_between(SMALLEST, LARGEST_SUBNORMAL)
+}
+
+/// Just below the square of a number with few digits, to which the root is rounded up.
+pub fn numbers_below_squares() -> Vec<f64> {
+    let mut random = Random::new(SEED);
+    let number = || below_short_square(&mut random);
+    std::iter::repeat_with(number).take(POINTS).collect()
 }
 
 fn numbers_between(low: f64, high: f64) -> Vec<f64> {

@@ -2,7 +2,7 @@
 //! sixteen clocks, priorities at the ends of i32, hazard kind 4.
 
 use crate::chosen_histories::{censored, constant, create, pause, remove, reschedule, resume};
-use crate::chosen_weibull::wears;
+use crate::chosen_weibull::{SHORT_ROOT, wears};
 use crate::floats::SMALLEST;
 use crate::sessions::{Session, command_count};
 use reference::answer::ANSWER_BYTES;
@@ -169,7 +169,8 @@ fn urgent_first() -> Session {
     }
 }
 
-/// Kind 4 (document 02, change 4): paused, resumed, set again, with undos and a delivery; a subnormal threshold; its refusals.
+/// Kind 4 (document 02, change 4): paused, resumed, set again, with undos and a delivery; a subnormal threshold and one just below a square;
+/// its refusals.
 fn guide_rails() -> [Session; 3] {
     let (new, set, start) = (table_clock(), wears(1, 3.0, 0.0), reschedule(0.0));
     let (undo, deliver) = (Command::Undo, Command::Deliver);
@@ -177,9 +178,18 @@ fn guide_rails() -> [Session; 3] {
     let again = [wears(1, 49.0, 4.0), reschedule(4.0), pause(5.0)];
     let ended = [resume(6.0), undo, deliver];
     let commands = [&[new, set, start][..], &edited, &again, &ended].concat();
+    let alone = [
+        new,
+        set,
+        start,
+        deliver,
+        remove(1),
+        wears(1, 1.0, 0.0),
+        start,
+    ];
     [
         of(&[4.0, 1.0], &commands),
-        of(&[SMALLEST, 1.0], &[new, set, start, deliver]),
+        of(&[SMALLEST, SHORT_ROOT], &alone),
         refused_scales(),
     ]
 }

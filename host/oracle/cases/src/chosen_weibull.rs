@@ -38,6 +38,9 @@ const BAD_SCALES: [f64; 7] = [
     f64::NAN,
 ];
 
+/// 1 + 2^-25, which is just below the square of 1 + 2^-26: the root is rounded up to a number with few digits.
+pub(crate) const SHORT_ROOT: f64 = 1.0 + 1.0 / (1u64 << 25) as f64;
+
 /// Where the thresholds 4.0 and 1.5 stand in the stream of the histories.
 const FOUR_THEN_ONE_AND_A_HALF: u64 = 6;
 
@@ -99,7 +102,7 @@ fn refused() -> Vec<Hazard> {
 fn roots() -> Vec<f64> {
     let one = 1.0f64;
     let mut all = vec![SMALLEST, one.next_down(), one, one.next_up(), 2.0];
-    all.push(one.next_up().next_up());
+    all.extend([one.next_up().next_up(), SHORT_ROOT]);
     for root in [one, one.next_up(), 1.5, 3.0, 1000.0, 1e-100] {
         let (above, below) = halfway_squares(root);
         for square in [above, below] {

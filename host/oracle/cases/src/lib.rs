@@ -38,4 +38,5 @@ pub mod sessions;
 pub mod tally;
 pub mod weibull;
 pub mod weibull_coverage;
+pub mod weibull_tally;
 pub mod words;

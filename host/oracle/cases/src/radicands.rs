@@ -1,5 +1,5 @@
-//! Numbers to take the root of: of every size, at the ends, beside squares, and beside the squares of numbers that lie halfway between two
-//! floats, whose roots are the hardest to round.
+//! Numbers to take the root of: of every size, at the ends, beside squares, beside the squares of numbers with few digits, and beside
+//! those of numbers that lie halfway between two floats, whose roots are the hardest to round.
 
 use crate::floats::{LARGEST_SUBNORMAL, SMALLEST, near, spread};
 use crate::random::Random;
@@ -21,15 +21,35 @@ fn whole_power(x: f64) -> f64 {
 
 /// Above 0 and finite.
 pub fn radicand(random: &mut Random) -> f64 {
-    match random.below(4) {
+    match random.below(5) {
         0 => spread(random, SMALLEST, f64::MAX),
         1 => {
             let root = spread(random, LEAST_ROOT, MOST_ROOT);
             near(random, root * root).clamp(SMALLEST, f64::MAX)
         }
         2 => power_beside(random),
+        3 => near_short_square(random, 484),
         _ => near_halfway(random, LEAST_ROOT, MOST_ROOT),
     }
+}
+
+/// The least number of 27 binary digits; the square of one has 53 or 54.
+const LEAST_SHORT: u64 = 1 << 26;
+
+/// About the square of a number of 27 binary digits, times 4^-511 to 4^`most`.
+pub fn near_short_square(random: &mut Random, most: i64) -> f64 {
+    let short = LEAST_SHORT + random.below(LEAST_SHORT);
+    let power = random.below((most + 512) as u64) as i64 - 511;
+    near(random, (short * short) as f64) * power_of_two(2 * power)
+}
+
+/// From 1 to 4, and just below the square of a number of 27 binary digits, the last of them 1: that number is the nearest root.
+pub fn below_short_square(random: &mut Random) -> f64 {
+    below_square(LEAST_SHORT + (random.below(LEAST_SHORT) | 1))
+}
+
+fn below_square(odd: u64) -> f64 {
+    (odd * odd - 1) as f64 * power_of_two(-(FRACTION_BITS as i64))
 }
 
 /// A power of two or a neighbour: odd powers have no root among the floats.
@@ -66,12 +86,18 @@ const EXPONENTS: [i64; 14] = [
     -1022, -1021, -537, -80, -40, -1, 0, 1, 2, 40, 80, 160, 161, 1023,
 ];
 
-/// The ends, both sides of powers of two, small whole numbers, and beside the squares of halfway points.
+/// The ends, both sides of powers of two, small whole numbers, and beside the squares of halfway points and of numbers with few digits.
 pub fn chosen() -> Vec<f64> {
     let beside = |x: f64| [x.next_down(), x, x.next_up(), x.next_up().next_up()];
     let mut all = [SMALLEST, LARGEST_SUBNORMAL, f64::MAX].map(beside).concat();
     all.extend(EXPONENTS.map(power_of_two).map(beside).concat());
     all.extend((1..=40).map(f64::from));
+    let short = [
+        LEAST_SHORT + 1,
+        LEAST_SHORT * 3 / 2 + 1,
+        2 * LEAST_SHORT - 1,
+    ];
+    all.extend(short.map(below_square).map(beside).concat());
     let one = 1.0f64;
     for root in [
         LEAST_ROOT,

@@ -1,7 +1,7 @@
 //! Hazards of kind 4 (document 02, change 4), with times, w and thresholds at which a rounding decides.
 
 use crate::floats::{Style, near, positive, signed, spread};
-use crate::radicands::near_halfway;
+use crate::radicands::{near_halfway, near_short_square};
 use crate::random::Random;
 use reference::fields::{LIMIT, size_in_range};
 use reference::hazard::{Hazard, SMALLEST_SCALE, WEIBULL};
@@ -52,6 +52,7 @@ pub fn w(random: &mut Random, hazard: &Hazard, start: f64, style: Style) -> f64 
             near(random, later - at_start)
         }
         5..8 => (at_start.next_up() - at_start) * eighths(random),
+        8 => near_short_square(random, -7),
         _ => near_halfway(random, f64::MIN_POSITIVE, LIMIT.sqrt()),
     };
     if size_in_range(chosen) { chosen } else { LIMIT }

@@ -20,7 +20,7 @@ fn evaluations_are_the_same_each_time() {
         bytes.len(),
         lists::EVALUATION_COUNT * evaluations::CASE_BYTES
     );
-    assert_eq!(checksum(&bytes), 0x1C85_5C7E_1F79_9F04);
+    assert_eq!(checksum(&bytes), 0x7F6E_4B47_6BD0_EE02);
 }
 
 #[test]

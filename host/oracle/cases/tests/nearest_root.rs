@@ -59,13 +59,16 @@ fn beside_one() {
     assert!(is_nearest(one.next_up().next_up(), one.next_up()));
     assert!(is_nearest(SMALLEST, f64::from_bits((1023 - 537) << 52)));
     assert!(is_nearest(f64::MAX, f64::MAX.sqrt()));
+    let (u25, u26) = (f64::EPSILON * 134_217_728.0, f64::EPSILON * 67_108_864.0);
+    assert!(is_nearest(one + u25, one + u26));
 }
 
-/// Among the random numbers are ones whose root is just above and just below a halfway point, with one float between them or none.
+/// Among the random numbers are ones whose root is just above and just below a halfway point, and ones whose root is rounded up to a number
+/// of 27 binary digits.
 #[test]
 fn hard_ones_are_among_them() {
     let mut random = Random::new(SEED);
-    let mut hard = [0; 2];
+    let mut hard = [0; 3];
     for _ in 0..20_000 {
         let x = radicand(&mut random);
         let s = x.sqrt();
@@ -73,6 +76,11 @@ fn hard_ones_are_among_them() {
         let beside = |square: f64| x.to_bits().abs_diff(square.to_bits()) <= 1;
         hard[0] += u32::from(beside(above));
         hard[1] += u32::from(beside(below));
+        let rounded_up = s.mul_add(s, -x) > 0.0;
+        hard[2] += u32::from(rounded_up && s.to_bits().trailing_zeros() >= 26);
     }
-    assert!(hard[0] > 1000 && hard[1] > 1000, "{hard:?}");
+    assert!(
+        hard[0] > 1000 && hard[1] > 1000 && hard[2] > 200,
+        "{hard:?}"
+    );
 }

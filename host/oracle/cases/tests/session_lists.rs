@@ -13,7 +13,7 @@ use std::collections::BTreeSet;
 fn sessions_are_the_same_each_time() {
     let bytes = lists::session_bytes(&lists::sessions());
     assert_eq!(bytes, lists::session_bytes(&lists::sessions()));
-    assert_eq!(checksum(&bytes), 0x50E8_1D57_8DA8_3649);
+    assert_eq!(checksum(&bytes), 0xE0D3_AC28_CB2C_F5DD);
 }
 
 /// Row 9 comes first: CREATE, SET, RESCHEDULE over the thresholds 2.0 and 1.0.

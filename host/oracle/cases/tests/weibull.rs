@@ -1,9 +1,12 @@
 //! Kind 4 (document 02, change 4) as the Rust's own sampler is given it, and the waits at which a rounding decides.
 
+use cases::evaluations::EvaluationCase;
 use cases::floats::style;
 use cases::hazards::age;
 use cases::random::Random;
+use cases::samples::SampleCase;
 use cases::weibull;
+use cases::weibull_tally::WeibullTally;
 use reference::hazard::Hazard;
 
 const SEED: u64 = 0x6775_6964_6572_6169;
@@ -47,4 +50,19 @@ fn waits_of_every_sort() {
         sorts[3] += u32::from(end > age && end - age != scale * (s - q));
     }
     assert!(sorts.iter().all(|count| *count > 500), "{sorts:?}");
+}
+
+/// Every sort is among the random evaluations and samples, and a tally without them says which is missing.
+#[test]
+fn evaluations_and_samples_of_every_sort() {
+    let mut random = Random::new(SEED);
+    let mut tally = WeibullTally::default();
+    assert_eq!(tally.least().0, 0);
+    for _ in 0..WAITS {
+        let case = EvaluationCase::random(&mut random);
+        tally.add_evaluation(&case, &case.expected());
+        let case = SampleCase::random(&mut random);
+        tally.add_sample(&case, &case.expected().0);
+    }
+    assert!(tally.least().0 >= 50, "{tally}");
 }
