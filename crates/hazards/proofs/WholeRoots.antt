@@ -85,20 +85,21 @@ low-square p = square-le {a = p % 2 ^ 26} {b = 2 ^ 26} (omega arith)
 pub cross-product : (p : ℕ) → p ≤ 2 ^ 53 → p / 2 ^ 26 * (p % 2 ^ 26) ≤ 2 ^ 53
 cross-product p h = mul-le-mul {n₁ = p / 2 ^ 26} {m₁ = p % 2 ^ 26} {n₂ = 2 ^ 27} {m₂ = 2 ^ 26} (omega arith) (omega arith)
 
-square-of : (n a b p left rest : ℕ) → p ≡ a * 2 ^ 26 + b → a * a + left ≡ n → a * b + rest ≡ left * 2 ^ 25 + 2 ^ 27
+square-of : (n a b p left rest : ℕ) → p ≡ a * 2 ^ 26 + b → a * a + left ≡ n + 4 → a * b + rest ≡ left * 2 ^ 25
     → p * p + rest * 2 ^ 27 ≡ n * 2 ^ 52 + (2 ^ 54 + b * b)
-square-of n a b p left rest e f g = rw (e, ← f) (omega arith)
+square-of n a b p left rest e f g =
+    rw e (omega arith)
 
 tested : (n p rest below : ℕ) → p * p + rest * 2 ^ 27 ≡ n * 2 ^ 52 + below → below < rest * 2 ^ 27 + p
     → rest * 2 ^ 27 + p ≤ below + 2 * p → NearestWhole n p
 tested n p rest below e l h = record { above = omega arith; below = omega arith }
 
-pub test-nearest : (n a b p : ℕ) → p ≡ a * 2 ^ 26 + b → a * a ≤ n → a * b ≤ (n - a * a) * 2 ^ 25 + 2 ^ 27
-    → 2 ^ 54 + b * b < ((n - a * a) * 2 ^ 25 + 2 ^ 27 - a * b) * 2 ^ 27 + p
-    → ((n - a * a) * 2 ^ 25 + 2 ^ 27 - a * b) * 2 ^ 27 + p ≤ 2 ^ 54 + b * b + 2 * p → NearestWhole n p
+pub test-nearest : (n a b p : ℕ) → p ≡ a * 2 ^ 26 + b → a * a ≤ n + 4 → a * b ≤ (n + 4 - a * a) * 2 ^ 25
+    → 2 ^ 54 + b * b < ((n + 4 - a * a) * 2 ^ 25 - a * b) * 2 ^ 27 + p
+    → ((n + 4 - a * a) * 2 ^ 25 - a * b) * 2 ^ 27 + p ≤ 2 ^ 54 + b * b + 2 * p → NearestWhole n p
 test-nearest n a b p e k l below above =
-    let rest = (n - a * a) * 2 ^ 25 + 2 ^ 27 - a * b in
-    tested n p rest (2 ^ 54 + b * b) (square-of n a b p (n - a * a) rest e (add-sub-of-le k) (add-sub-of-le l)) below above
+    let rest = (n + 4 - a * a) * 2 ^ 25 - a * b in
+    tested n p rest (2 ^ 54 + b * b) (square-of n a b p (n + 4 - a * a) rest e (add-sub-of-le k) (add-sub-of-le l)) below above
 
 -- ---- what a nearest whole number is
 

@@ -61,14 +61,14 @@ fn is_nearest(n: u64, p: u64) -> bool
     let a = p / 0x400_0000;
     let b = p % 0x400_0000;
     let square = a * a;
-    if square > n {
+    if square > n + 4 {
         return false;
     }
-    let left = n - square;
+    let left = n + 4 - square;
     if left > 0x4000_0000 {
         return false;
     }
-    let room = left * 0x200_0000 + 0x800_0000;
+    let room = left * 0x200_0000;
     let cross = a * b;
     if cross > room {
         return false;

@@ -12,8 +12,8 @@ use std::hint::black_box;
 const HEAD: &str = "
 Nearest root, one driver for both. Rattle: whole numbers decide, after a guess with floats. Processor: its own instruction, in a
 function that is called as Rattle's is. Inlined: the same instruction without the call. Chain: each root is added to the next
-number before that one's root is taken, so that each waits for the one before; apart: none waits for another. Digit by digit:
-numbers whose guess is tested in vain, as few are. ratio = Rattle / Processor.";
+number before that one's root is taken, so that each waits for the one before; apart: none waits for another. Below squares:
+numbers just below the square of one with few digits. ratio = Rattle / Processor.";
 
 const INVERSIONS: &str = "
 Wait of kind 4, unchecked, from an age. Plain: the same steps in Rust with the processor's root. powf: the Rust's own Weibull of
@@ -85,7 +85,7 @@ pub fn print() {
     ];
     print_row("all sizes, apart", APART, &all_sizes);
     print_row("subnormal numbers, apart", APART, &subnormal);
-    print_row("digit by digit, apart", APART, &below_squares);
+    print_row("below squares, apart", APART, &below_squares);
     println!("{INVERSIONS}");
     println!(
         "{:<43}{:>11}{:>9}{:>7}{:>9}",

@@ -13,17 +13,23 @@ use Rattle.hazards.proofs.roots.is_nearest.Tie as tie
 mul-square : tie.Need-mul-square
 mul-square c = omega (arith, high-square (c .args .p) (c .pre .1))
 
+add-if1 : tie.Need-add-if1
+add-if1 c = search needs
+
 returns : tie.Need-returns
 returns c e = absurd (true≢false (sym e))
+
+add-left : tie.Need-add-left
+add-left c = search needs
+
+sub-left : tie.Need-sub-left
+sub-left c = search needs
 
 returns-2 : tie.Need-returns-2
 returns-2 c e = absurd (true≢false (sym e))
 
 mul-room : tie.Need-mul-room
 mul-room c = search needs
-
-add-room : tie.Need-add-room
-add-room c = search needs
 
 mul-cross : tie.Need-mul-cross
 mul-cross c = let s = c .before .before in omega (arith, cross-product (s .args .p) (s .pre .1))
@@ -64,10 +70,12 @@ is-nearest-spec =
     tie.close
     (tie.spec
     mul-square
+    add-if1
     returns
+    add-left
+    sub-left
     returns-2
     mul-room
-    add-room
     mul-cross
     returns-3
     returns-4
