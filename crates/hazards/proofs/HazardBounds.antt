@@ -1,4 +1,4 @@
--- A sound hazard at ages up to a is at most 2^81 times a, and its cumulative hazard at most c, those below 0 among them, where `Room a c`:
+-- At ages up to a, those below 0 among them, a sound hazard is at most 2^81 times a and its cumulative hazard at most c, where `Room a c`:
 -- 2^121 and 2^160 at times up to 2^40. An accumulated hazard stays finite.
 use mathlib.Core.Path.{refl}
 use mathlib.Core.Bool.{false, not}

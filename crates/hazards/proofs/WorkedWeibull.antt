@@ -2,6 +2,7 @@
 -- below 0. Beside each value that another order of operations would miss stands that order's.
 use mathlib.Core.Path.{_≡_, refl}
 use mathlib.Core.Bool.{true, false}
+use mathlib.Core.List.{_∷_}
 use Prim.Native.Nat.{ℕ}
 use lib.IntN.{pos, negsuc}
 use lib.ListN.{replicate}
@@ -73,6 +74,15 @@ pub worked-no-scale : (number 4 z ≡ 0) × (number 4 (negative 0) ≡ 0) × (nu
     × (number 4 (fin true 1 (pos 40)) ≡ 0)
 unfolding computed
 worked-no-scale = (refl, refl, refl, refl)
+
+-- a count, and a pair with a bit set, are refused by 6; 5 comes first
+abbrev numberWith : Float → ℕ → Float → ℕ
+numberWith scale count end =
+    numberOf (hazardFaults (record { kind = 4; first = scale; count = count; ends = end ∷ replicate 7 z; rates = replicate 8 z }))
+
+pub worked-unused : (numberWith (whole 3) 1 z ≡ 6) × (numberWith (whole 3) 0 (negative 0) ≡ 6) × (numberWith (bits 1) 1 z ≡ 5)
+unfolding computed
+worked-unused = (refl, refl, refl)
 
 -- and there is no kind 5
 pub worked-no-kind : number 5 (whole 1) ≡ 4

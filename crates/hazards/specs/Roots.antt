@@ -16,7 +16,7 @@ unfoldable pub fieldsMultiple : ℕ → ℕ → ℕ
 fieldsMultiple zero t = t
 fieldsMultiple (suc k) t = (2 ^ 52 + t) * 2 ^ k
 
--- and a bit pattern with the sign clear
+-- and a bit pattern with the sign clear; that this is the value that lib.Ieee gives it is a law, `multiple-value` of PatternValues
 unfoldable pub multiple : ℕ → ℕ
 multiple b = fieldsMultiple (b / 2 ^ 52) (b % 2 ^ 52)
 
@@ -34,7 +34,7 @@ quarters b = 4 * (multiple b * 2 ^ 1074)
 abbrev pub halfwaySquare : ℕ → ℕ
 halfwaySquare c = twiceHalfway c * twiceHalfway c
 
--- the value of the pattern c is nearest to the root of that of b
+-- the value of the pattern c is nearest to the root of that of b; 0, which has no neighbour below, is nearest to none
 pub record NearestPattern (b c : ℕ) : Type 0 where
   pub below : halfwaySquare (c - 1) < quarters b
   pub above : quarters b < halfwaySquare c
