@@ -59,11 +59,13 @@ fn the_wait_is_the_scale_times_the_root() {
 fn what_is_used_up_is_the_square_of_the_age_over_the_scale() {
     let mut random = Random(20261118);
     let ages = (0..5_000).map(|_| (any_scale(&mut random), any_threshold(&mut random)));
+    let mut tried = 0;
     for (scale, age) in ages.chain([(3.0, 5.0), (400.0, 200.0)]) {
         let quotient = age / scale;
         if quotient * quotient >= 1024.0 {
             continue;
         }
+        tried += 1;
         let mut engine = press(1024.0, scale);
         // a second SET counts what was used up and keeps the threshold
         assert!(engine.execute(&set_wear(RAILS, scale, age)).is_accepted());
@@ -71,6 +73,7 @@ fn what_is_used_up_is_the_square_of_the_age_over_the_scale() {
         assert_eq!(used(&engine).to_bits(), expected.to_bits(), "{scale} {age}");
         assert_eq!(engine.draw_position(), 1);
     }
+    assert!(tried > 1_000, "{tried}");
 }
 
 /// The threshold is what is left of it after a pause; the age begins again.

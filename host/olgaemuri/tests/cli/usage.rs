@@ -55,6 +55,11 @@ fn help_on_a_word_of_the_format() {
     for part in ["of `create`: ticks", "Of a weibull hazard: the"] {
         assert!(help.text().contains(part), "{}", help.text());
     }
+    for kind in ["zero", "constant", "gompertz", "piecewise", "weibull"] {
+        let help = olgaemuri(&["help", kind], b"");
+        assert!(help.text().starts_with("  hazard    how fast"), "{kind}");
+        assert!(help.text().contains(kind), "{}", help.text());
+    }
     let help = olgaemuri(&["help", "policy"], b"");
     assert!(help.text().starts_with("  policy    what `set` does"));
     assert_eq!(olgaemuri(&["help", "A"], b"").status, 2);

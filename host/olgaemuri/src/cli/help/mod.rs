@@ -94,8 +94,16 @@ pub fn typed() -> String {
     format!("{typed}\n{}", FORMAT.trim_end())
 }
 
+/// The kinds of hazards, which the format tells of under `hazard`.
+const KINDS: [&str; 5] = ["zero", "constant", "gompertz", "piecewise", "weibull"];
+
 /// The lines of these texts that tell of one word, with those that go on from them.
 pub fn lines_on(word: &str, texts: &[&str]) -> String {
+    let word = if KINDS.contains(&word) {
+        "hazard"
+    } else {
+        word
+    };
     let mut out = String::new();
     let mut wanted = false;
     for line in texts.iter().flat_map(|text| text.lines()) {
