@@ -9,7 +9,7 @@ use lib.Dec.{ltb, lit<, lit≤}
 use lib.Pow.{pow-pos, pow-add}
 use Rattle.hazards.specs.FirstPlace.{FirstPlace}
 use Rattle.hazards.specs.Roots.{fieldsMultiple, multiple, halfwaySquare, quarters, NearestPattern, squareAbove, rootPattern}
-use Rattle.hazards.specs.RootsInternals.{NearestWhole, infinityPattern}
+use Rattle.hazards.specs.RootsInternals.{infinityPattern, AllDigits, NearestWhole}
 use Rattle.hazards.proofs.Cases.{by-test}
 use Rattle.hazards.proofs.PatternValues.{multiple-mono, multiple-made, next-made, multiple-subnormal, multiple-normal}
 use Rattle.hazards.proofs.Bisection.{GoesOn, first-of, at-step, one-first}
@@ -74,11 +74,7 @@ module _ (n p j : ℕ) (big : 2 ^ 52 ≤ n) (small : n ≤ 2 ^ 54 - 2) (v : Near
 
 -- ---- a value's 53 digits and the power of two that they are multiplied by
 
--- d * 2^m is N
-abbrev AllDigits : (N d m : ℕ) → Type 0
-AllDigits N d m = (d * 2 ^ m ≡ N) × (2 ^ 52 ≤ d) × (d < 2 ^ 53) × (1022 ≤ m) × (m < 3120)
-
--- four times that, with the power taken apart
+-- four times d * 2^m, with the power taken apart
 power-apart : (m j : ℕ) → m + 2 ≡ m % 2 + (54 + (j + j)) → 2 ^ m * 4 ≡ 2 ^ (m % 2) * (2 ^ 54 * (2 ^ j * 2 ^ j))
 power-apart m j e =
     sym (pow-add 2 m 2)

@@ -12,7 +12,7 @@ use lib.Dec.{ltb}
 use lib.ListN.{length, replicate, getElem?}
 use lib.Ieee.{Float, fin, binary64, ofBits, toBits, add, sub, mul, div, lt, le, eq}
 use lib.Ieee.Positive.{num, den}
-use Rattle.hazards.specs.Floats.{z, limit, notBelowZero, zeroBits, inRange, isTime, isThreshold, isFiniteWait}
+use Rattle.hazards.specs.Floats.{z, two, limit, notBelowZero, zeroBits, inRange, isTime, isThreshold, isFiniteWait}
 use Rattle.hazards.specs.Lists.{all, foldl, insertBy, sortBy}
 use Rattle.hazards.specs.Fields.{littleEndian, bytesOf, fieldAt, f64At}
 use Rattle.hazards.specs.Refusals.{noCause}
@@ -52,9 +52,6 @@ one = fin false 1 (pos 0)
 
 abbrev oneAndHalf : Float
 oneAndHalf = fin false 3 (negsuc 0)
-
-abbrev pub two : Float
-two = fin false 1 (pos 1)
 
 abbrev pub four : Float
 four = fin false 1 (pos 2)

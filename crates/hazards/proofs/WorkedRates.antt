@@ -6,7 +6,7 @@ use Prim.Native.Nat.{ℕ, _+_, _<_}
 use lib.IntN.{pos, negsuc}
 use lib.Dec.{T, ltb, lit<, lit≤}
 use lib.Ieee.{Float, nan, inf, fin, binary64, fits, ofBits, div, lt, le, eq}
-use Rattle.hazards.specs.Floats.{z, limit, inverseLimit, mostThreshold}
+use Rattle.hazards.specs.Floats.{z, two, limit, inverseLimit, mostThreshold}
 use Rattle.hazards.specs.Refusals.{outsideLimits, noRate}
 use Rattle.hazards.specs.Rates.{invertCumulativeHazard}
 use Rattle.hazards.specs.FirstPlace.{FirstPlace}
@@ -21,7 +21,7 @@ use Rattle.hazards.proofs.Bisection.{at-step, at-start, at-none}
 use Rattle.hazards.proofs.RateForWait.{goes-on, first-answers, none-answers, past-answers}
 use Rattle.hazards.proofs.RateForWait.{answer-gives, answer-none, one-answer}
 use Rattle.hazards.proofs.ConstantWaits.{constant-hazard}
-use Rattle.hazards.proofs.WorkedLists.{one, two, four}
+use Rattle.hazards.proofs.WorkedLists.{one, four}
 
 unfoldable computed : Unit {0}
 unfolding fits ofBits div lt le eq withinLimits usedUpWithin

@@ -16,13 +16,17 @@ use Rattle.hazards.specs.declared.rates.Intervals.{Intervals}
 
 -- ---- refusals 5 and 6 of a hazard
 
+-- a scale out of range, or above 0 and below 2^-40
+abbrev pub scaleFault : Float → Bool
+scaleFault scale = not (inRange scale) || (lt z scale && lt scale inverseLimit)
+
 -- 5: first or a used rate not finite or of size above 2^40; a scale above 0 and below 2^-40
 unfoldable pub rangeFault : HazardRate → Intervals → Bool
 rangeFault Zero p = false
 rangeFault (Constant rate) p = not (inRange rate)
 rangeFault (Gompertz eta) p = not (inRange eta)
 rangeFault (Piecewise trailing) p = not (inRange trailing && all (λ q. inRange (q .rate)) (usedPairs p))
-rangeFault (Weibull scale) p = not (inRange scale) || (lt z scale && lt scale inverseLimit)
+rangeFault (Weibull scale) p = scaleFault scale
 
 -- the eight pairs from index i on
 abbrev pub pairsFrom : Intervals → ℕ → List Piece

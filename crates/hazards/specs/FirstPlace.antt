@@ -18,7 +18,7 @@ pub record Between (test : ℕ → Bool) (from end low high : ℕ) : Type 0 wher
   pub before : (i : ℕ) → from ≤ i → i < low → test i ≡ false
   pub holds : high < end → test high ≡ true
 
--- that place among the 2^k places from `from` on, found by halves: the test holds at the last of them, and once it holds it goes on to
+-- that place among the 2^k places from `from` on, by halves: of a test that holds at the last of them and goes on holding once it holds
 unfoldable pub firstOf : (ℕ → Bool) → ℕ → ℕ → ℕ
 firstOf test zero from = from
 firstOf test (suc k) from = firstOf test k (cond (test (from + 2 ^ k - 1)) from (from + 2 ^ k))

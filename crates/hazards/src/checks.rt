@@ -5,10 +5,10 @@ ghost use mathlib.Core.List.{List};
 ghost use Prim.Native.Nat.{ℕ};
 ghost use lib.Dec.{eqb, ltb};
 ghost use lib.Ieee.{Float, lt, le};
-ghost use Rattle.hazards.specs.Floats.{z, limit, inverseLimit, zeroBits, inRange};
+ghost use Rattle.hazards.specs.Floats.{z, limit, zeroBits, inRange};
 ghost use Rattle.hazards.specs.Lists.{all};
 ghost use Rattle.hazards.specs.Rates.{kinds, intervalsFrom, usedPairs};
-ghost use Rattle.hazards.specs.Checks.{rangeFault, pairsFrom, zeroPair, ascending, unusedFault, pairsFault, intervalsFault, hazardOf};
+ghost use Rattle.hazards.specs.Checks.{scaleFault, rangeFault, pairsFrom, zeroPair, ascending, unusedFault, pairsFault, intervalsFault, hazardOf};
 ghost use Rattle.hazards.specs.Checks.{intervalsOf, fieldsFrom, hazardFaults};
 use crate::floats::INVERSE_LIMIT;
 use crate::floats::LIMIT;
@@ -104,7 +104,7 @@ fn piecewise_range_fault(trailing: f64, rates: &[f64; 8], count: usize) -> bool
 
 // Refusal 5 of a scale: out of range, or above 0 and below 2^-40.
 fn scale_fault(scale: f64) -> bool
-    ensures { λ r. ⌜ r ≡ (not (inRange scale) || (lt z scale && lt scale inverseLimit)) ⌝ }
+    ensures { λ r. ⌜ r ≡ scaleFault scale ⌝ }
 {
     let out_of_range = !in_range(scale);
     let too_small = (scale > 0.0) & (scale < INVERSE_LIMIT);

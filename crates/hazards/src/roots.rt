@@ -3,7 +3,7 @@ ghost use mathlib.Core.Path.{_≡_};
 ghost use mathlib.Core.Bool.{true};
 ghost use Prim.Native.Nat.{_+_, _-_, _*_, _^_, _≤_, _<_};
 ghost use Rattle.hazards.specs.Roots.{multiple, rootPattern, nearestRoot};
-ghost use Rattle.hazards.specs.RootsInternals.{NearestWhole, infinityPattern};
+ghost use Rattle.hazards.specs.RootsInternals.{infinityPattern, AllDigits, NearestWhole};
 
 // 2^52: a pattern's digits are below it, and the 53 digits of a value that is not subnormal begin with it.
 const HIDDEN_DIGIT: u64 = 0x10_0000_0000_0000;
@@ -126,8 +126,7 @@ struct Digits {
 // The value n * 2^1074 with 53 digits.
 fn with_all_digits(n: u64) -> Digits
     requires { ⌜ (0 < n) × (n < 2 ^ 53) ⌝ }
-    ensures { λ r. ⌜ (r .digits * 2 ^ r .power ≡ n * 2 ^ 1074) × (2 ^ 52 ≤ r .digits) × (r .digits < 2 ^ 53)
-        × (1022 ≤ r .power) × (r .power ≤ 1074) ⌝ }
+    ensures { λ r. ⌜ AllDigits (n * 2 ^ 1074) (r .digits) (r .power) ⌝ }
 {
     let mut digits = n;
     let mut power: u64 = 1074;
@@ -141,8 +140,7 @@ fn with_all_digits(n: u64) -> Digits
 // The digits of a value above 0, times 2^2148.
 fn digits_of(pattern: u64) -> Digits
     requires { ⌜ (0 < pattern) × (pattern < infinityPattern) ⌝ }
-    ensures { λ r. ⌜ (r .digits * 2 ^ r .power ≡ multiple pattern * 2 ^ 1074) × (2 ^ 52 ≤ r .digits) × (r .digits < 2 ^ 53)
-        × (1022 ≤ r .power) × (r .power < 3120) ⌝ }
+    ensures { λ r. ⌜ AllDigits (multiple pattern * 2 ^ 1074) (r .digits) (r .power) ⌝ }
 {
     let exponent = pattern / HIDDEN_DIGIT;
     let digits = pattern % HIDDEN_DIGIT;

@@ -16,7 +16,7 @@ returns c =
       f .1,
       f .2,
       f .3,
-      omega (arith, f .4),
+      f .4,
     )
 
 add-t5 : tie.Need-add-t5
