@@ -53,6 +53,7 @@ fn answer_of(event: RealizedEvent, withdrawn: bool, ticks: Ticks) -> Answer {
         delta: event.delta_time,
         ticks_low: ticks.low,
         ticks_high: ticks.high,
+        piece: event.piece,
     }
 }
 

@@ -89,9 +89,9 @@ removeAt at cs = take at cs ++ (drop (at + 1) cs ++ (emptyChannel ∷ []))
 -- ---- candidates of compute_earliest_event
 
 abbrev pub candidateAt : HazardChannelState → Float → Candidate
-candidateAt c time = record { «cause_id» = c .«cause_id»; priority = c .priority; time = time }
+candidateAt c time = record { «cause_id» = c .«cause_id»; priority = c .priority; time = time; piece = 0 }
 
--- a channel whose threshold is reached is a candidate now; any other after its wait, if that is finite
+-- a channel whose threshold is reached is a candidate now, in piece 0 wherever its age lies; any other after its wait, if that is finite
 unfoldable pub channelCandidate : Float → HazardChannelState → List Candidate
 channelCandidate now c =
     let remaining = sub binary64 (c .«target_threshold») (c .«accumulated_hazard») in

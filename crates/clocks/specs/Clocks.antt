@@ -51,7 +51,7 @@ abbrev pub notScheduled : ScheduledEvent
 notScheduled = record { present = false; index = 0 }
 
 abbrev pub noWinner : Winner
-noWinner = record { present = false; «cause_id» = 0; time = z }
+noWinner = record { present = false; «cause_id» = 0; time = z; piece = 0 }
 
 -- 1.0
 abbrev pub one : Float

@@ -2,7 +2,7 @@
 -- a clock's. Any other word or float is read as something too, so that every definition is total; refusal 1 sees it (codedClock).
 --
 --   words 0: present, process, has entity, entity's index, its generation, policy, tie choice, channels used
---   words 1: scheduled event present, its index, winner present, its cause, active; three spare
+--   words 1: scheduled event present, its index, winner present, its cause, active, winner's piece; two spare
 --   words 2 + j, of channel j: cause, priority, kind, pairs; four spare
 --   floats 0: scale, winner's time, last update; five spare
 --   floats 1 + 3 j, of channel j: accumulated hazard, threshold, interval start, the hazard's own rate; four spare
@@ -73,7 +73,12 @@ abbrev pub eventIn : List ℕ → ScheduledEvent
 eventIn b = record { present = flagFrom (getD b 0 0); index = getD b 1 0 }
 
 abbrev pub winnerIn : List ℕ → Float → Winner
-winnerIn b time = record { present = flagFrom (getD b 2 0); «cause_id» = u32From (getD b 3 0); time = time }
+winnerIn b time = record {
+  present = flagFrom (getD b 2 0);
+  «cause_id» = u32From (getD b 3 0);
+  time = time;
+  piece = byteFrom (getD b 5 0);
+}
 
 -- a clock, from its settings, its schedule, its times and its channels
 unfoldable pub clockOf : List ℕ → List ℕ → List Float → List HazardChannelState → SurvivalClock
@@ -99,13 +104,16 @@ clockFrom w f = clockOf (getD w 0 []) (getD w 1 []) (getD f 0 []) (channelsFrom 
 abbrev pub presentIn : WordRows → Bool
 presentIn w = flagFrom (getD (getD w 0 []) 0 0)
 
--- ---- which words and floats are coded as these say: flags, numbers of kinds and choices, u32s, and zero in every spare place
+-- ---- which words and floats are coded as these say: flags, numbers of kinds and choices, u32s, bytes, and zero in every spare place
 
 abbrev pub isFlag : ℕ → Bool
 isFlag w = ltb w 2
 
 abbrev pub isU32 : ℕ → Bool
 isU32 w = ltb w 4294967296
+
+abbrev pub isByte : ℕ → Bool
+isByte w = ltb w 256
 
 unfoldable pub codedSettings : List ℕ → Bool
 codedSettings a =
@@ -117,7 +125,7 @@ codedSchedule b =
     isFlag (getD b 0 0)
     && (isFlag (getD b 2 0)
     && (isU32 (getD b 3 0)
-    && (isFlag (getD b 4 0) && (eqb (getD b 5 0) 0 && (eqb (getD b 6 0) 0 && eqb (getD b 7 0) 0)))))
+    && (isFlag (getD b 4 0) && (isByte (getD b 5 0) && (eqb (getD b 6 0) 0 && eqb (getD b 7 0) 0)))))
 
 -- +0.0 in the last four places
 abbrev pub spareZero : List Float → Bool

@@ -1,5 +1,5 @@
 -- Document 01, "Clocks": reschedule, pause, resume and on_event_dispatched of hazard_clock.rs. The queue is the engine's: each method says
--- which scheduled event it withdraws and what it asks to have scheduled.
+-- which scheduled event it withdraws and what it asks to have scheduled. Document 02, change 6: "Clock … carry the winner's piece on".
 use mathlib.Core.Bool.{Bool, true, false, cond}
 use Prim.Native.Nat.{ℕ}
 use lib.Dec.{eqb}
@@ -33,29 +33,30 @@ pub record Dispatched : Type 0 where
 
 -- no event
 abbrev pub notRealized : RealizedEvent
-notRealized = record { present = false; «winning_cause» = 0; «delta_time» = z; «is_censored» = false }
+notRealized = record { present = false; «winning_cause» = 0; «delta_time» = z; «is_censored» = false; piece = 0 }
 
--- an event of a cause, or a censored one of noCause
-abbrev pub realized : ℕ → Float → Bool → RealizedEvent
-realized cause delta censored = record {
+-- an event of a cause in a piece of its rate curve, or a censored one of noCause in piece 0
+abbrev pub realized : ℕ → Float → Bool → ℕ → RealizedEvent
+realized cause delta censored piece = record {
   present = true;
   «winning_cause» = cause;
   «delta_time» = delta;
   «is_censored» = censored;
+  piece = piece;
 }
 
 -- the event that a clock is rescheduled to: an event after the censor time is censored at it, one at the censor time is not; without a
 -- candidate a censor time from now on is answered
 unfoldable pub finalEvent : Earliest → Float → Censor → RealizedEvent
 finalEvent (Found c) now censor =
-    let event = realized (c .«cause_id») (notBelowZero (sub binary64 (c .time) now)) false in
+    let event = realized (c .«cause_id») (notBelowZero (sub binary64 (c .time) now)) false (c .piece) in
     cond (censor .present)
     (cond (le (c .time) (censor .time)) event
-    (realized noCause (notBelowZero (sub binary64 (censor .time) now)) true))
+    (realized noCause (notBelowZero (sub binary64 (censor .time) now)) true 0))
     event
 finalEvent Nothing now censor =
     cond (censor .present)
-    (cond (le now (censor .time)) (realized noCause (sub binary64 (censor .time) now) true) notRealized)
+    (cond (le now (censor .time)) (realized noCause (sub binary64 (censor .time) now) true 0) notRealized)
     notRealized
 
 -- the old event is withdrawn in any case; without a new one winner and active flag stay. index is that of the next request
@@ -66,7 +67,7 @@ scheduledFor k now event index =
     (record {
       clock =
           withSchedule k (record { present = true; index = index })
-          (record { present = true; «cause_id» = event .«winning_cause»; time = at }) true now;
+          (record { present = true; «cause_id» = event .«winning_cause»; time = at; piece = event .piece }) true now;
       withdrawn = k .«scheduled_event_id»;
       event = event;
       ticks = ticksAt now (event .«delta_time») (k .«tick_scale»);
@@ -100,14 +101,15 @@ resume k now censor index =
     reschedule (withChannels k (onUsed (restarted now) (k .«channel_count») (k .channels)) (k .«channel_count»)) now censor
     index
 
--- the winner is taken, and the clock is idle
+-- the winner is taken with its piece, and the clock is idle; a censored event has piece 0, whatever the winner holds
 unfoldable pub onEventDispatched : SurvivalClock → Dispatched
 onEventDispatched k =
     let w = k .«current_winner» in
+    let censored = eqb (w .«cause_id») noCause in
     record {
       clock = withSchedule k notScheduled noWinner false (k .«last_update_time»);
       event =
           cond (w .present)
-          (realized (w .«cause_id») (notBelowZero (sub binary64 (w .time) (k .«last_update_time»))) (eqb (w .«cause_id») noCause))
+          (realized (w .«cause_id») (notBelowZero (sub binary64 (w .time) (k .«last_update_time»))) censored (cond censored 0 (w .piece)))
           notRealized;
     }

@@ -27,7 +27,7 @@ pub const TIE: usize = 6;
 
 pub const COUNT: usize = 7;
 
-// The row of the schedule; three places are spare.
+// The row of the schedule; two places are spare.
 pub const SCHEDULE: usize = 1;
 
 pub const EVENT: usize = 0;
@@ -39,6 +39,8 @@ pub const WINNER: usize = 2;
 pub const WINNER_CAUSE: usize = 3;
 
 pub const ACTIVE: usize = 4;
+
+pub const WINNER_PIECE: usize = 5;
 
 // A row for each channel; four places are spare.
 pub const CHANNELS: usize = 2;
@@ -91,7 +93,7 @@ pub fn u32_from(word: u64) -> u32
     (word % 0x1_0000_0000) as u32
 }
 
-// A word cut to a byte: a kind's number, or a choice's.
+// A word cut to a byte: a kind's number, a choice's, or a piece.
 pub fn byte_from(word: u64) -> u8
     ensures { λ r. ⌜ r ≡ byteFrom word ⌝ }
 {

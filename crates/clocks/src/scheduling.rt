@@ -1,4 +1,5 @@
-// reschedule, pause, resume and on_event_dispatched of hazard_clock.rs on a clock in lent memory, with what each asks of the queue.
+// reschedule, pause, resume and on_event_dispatched of hazard_clock.rs on a clock in lent memory, with what each asks of the queue. The
+// piece is document 02's.
 ghost use mathlib.Core.Path.{_≡_};
 ghost use Rattle.clocks.specs.Clocks.{notScheduled, noWinner, withSchedule};
 ghost use Rattle.clocks.specs.Scheduling.{notRealized, realized, finalEvent, scheduledFor};
@@ -16,7 +17,9 @@ use crate::layout::SCHEDULE;
 use crate::layout::TIMES;
 use crate::layout::WINNER;
 use crate::layout::WINNER_CAUSE;
+use crate::layout::WINNER_PIECE;
 use crate::layout::WINNER_TIME;
+use crate::layout::byte_from;
 use crate::layout::flag_word;
 use crate::layout::u32_from;
 use crate::ticks::Ticks;
@@ -34,6 +37,7 @@ pub struct RealizedEvent {
     pub winning_cause: u32,
     pub delta_time: f64,
     pub is_censored: bool,
+    pub piece: u8,
 }
 
 // The event that is withdrawn, and the event that is asked for, with its ticks.
@@ -59,6 +63,7 @@ fn no_winner() -> Winner
         present: false,
         cause_id: 0,
         time: 0.0,
+        piece: 0,
     }
 }
 
@@ -70,17 +75,24 @@ pub(crate) fn not_realized() -> RealizedEvent
         winning_cause: 0,
         delta_time: 0.0,
         is_censored: false,
+        piece: 0,
     }
 }
 
-pub(crate) fn realized(winning_cause: u32, delta_time: f64, is_censored: bool) -> RealizedEvent
-    ensures { λ r. ⌜ r ≡ realized «winning_cause» «delta_time» «is_censored» ⌝ }
+pub(crate) fn realized(
+    winning_cause: u32,
+    delta_time: f64,
+    is_censored: bool,
+    piece: u8,
+) -> RealizedEvent
+    ensures { λ r. ⌜ r ≡ realized «winning_cause» «delta_time» «is_censored» piece ⌝ }
 {
     RealizedEvent {
         present: true,
         winning_cause,
         delta_time,
         is_censored,
+        piece,
     }
 }
 
@@ -92,7 +104,7 @@ fn censored_only(now: f64, censor: Censor) -> RealizedEvent
         return not_realized();
     }
     if censor.time >= now {
-        realized(NO_CAUSE, censor.time - now, true)
+        realized(NO_CAUSE, censor.time - now, true, 0)
     } else {
         not_realized()
     }
@@ -106,9 +118,9 @@ pub(crate) fn final_event(earliest: Earliest, now: f64, censor: Censor) -> Reali
         Earliest::Nothing => censored_only(now, censor),
         Earliest::Found(c) => {
             if censor.present && !(c.time <= censor.time) {
-                realized(NO_CAUSE, not_below_zero(censor.time - now), true)
+                realized(NO_CAUSE, not_below_zero(censor.time - now), true, 0)
             } else {
-                realized(c.cause_id, not_below_zero(c.time - now), false)
+                realized(c.cause_id, not_below_zero(c.time - now), false, c.piece)
             }
         }
     }
@@ -132,6 +144,7 @@ fn winner_in(row: &[u64; 8], time: f64) -> Winner
         present: row[WINNER] == 1,
         cause_id: u32_from(row[WINNER_CAUSE]),
         time,
+        piece: byte_from(row[WINNER_PIECE]),
     }
 }
 
@@ -156,7 +169,7 @@ fn put_schedule<'a>(
         flag_word(winner.present),
         winner.cause_id as u64,
         flag_word(active),
-        b[5],
+        winner.piece as u64,
         b[6],
         b[7],
     ];
@@ -201,6 +214,7 @@ fn schedule_event<'a>(
         present: true,
         cause_id: event.winning_cause,
         time: time + event.delta_time,
+        piece: event.piece,
     };
     let scheduled = ScheduledEvent {
         present: true,
@@ -267,7 +281,7 @@ pub fn resume<'a>(
     reschedule(words, floats, time, censor, index)
 }
 
-// The winner is taken, and the clock is idle.
+// The winner is taken with its piece, and the clock is idle; a censored event has piece 0.
 pub fn on_event_dispatched<'a>(
     words: &'a mut [[u64; 8]],
     floats: &'a mut [[f64; 8]],
@@ -286,5 +300,8 @@ pub fn on_event_dispatched<'a>(
         return not_realized();
     }
     let delta = not_below_zero(winner.time - last);
-    realized(winner.cause_id, delta, winner.cause_id == NO_CAUSE)
+    if winner.cause_id == NO_CAUSE {
+        return realized(winner.cause_id, delta, true, 0);
+    }
+    realized(winner.cause_id, delta, false, winner.piece)
 }

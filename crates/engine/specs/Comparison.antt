@@ -64,7 +64,8 @@ sameEvent a b = sameFlag (a .present) (b .present) && eqb (a .index) (b .index)
 
 abbrev pub sameWinner : Winner → Winner → Bool
 sameWinner a b =
-    sameFlag (a .present) (b .present) && (eqb (a .«cause_id») (b .«cause_id») && sameFloat (a .time) (b .time))
+    sameFlag (a .present) (b .present)
+    && (eqb (a .«cause_id») (b .«cause_id») && (sameFloat (a .time) (b .time) && eqb (a .piece) (b .piece)))
 
 -- what CREATE sets
 unfoldable pub sameSettings : SurvivalClock → SurvivalClock → Bool

@@ -98,7 +98,7 @@ requestOf p c ticks = record {
 abbrev pub enqueue : SharedState → List ℕ → Rescheduled → SharedState
 enqueue p c r = cond (r .event .present) (withRequest p (requestOf p c (r .ticks))) p
 
--- event, censored, cause, delta and ticks of an event; whether something was withdrawn
+-- event, censored, cause, delta, ticks and piece of an event; whether something was withdrawn
 abbrev pub eventAnswer : RealizedEvent → Bool → Ticks → Answer
 eventAnswer e withdrawn ticks = record {
   number = 0;
@@ -109,6 +109,7 @@ eventAnswer e withdrawn ticks = record {
   delta = e .«delta_time»;
   «ticks_low» = ticks .low;
   «ticks_high» = ticks .high;
+  piece = e .piece;
 }
 
 abbrev pub afterReschedule : ℕ → SharedState → List ℕ → Rescheduled → OnSlot

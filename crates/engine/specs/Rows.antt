@@ -101,7 +101,7 @@ sampledBy tie = sampleNext causes 2 (settings tie) (f64 two ++ f64 two) 0
 
 -- the cause's event after 4.0; two thresholds are drawn
 abbrev pub eventAfterFour : ℕ → Sampled
-eventAfterFour cause = record { answer = eventOf cause four false; position = record { next = 2 } }
+eventAfterFour cause = record { answer = eventOf cause four false 0; position = record { next = 2 } }
 
 -- ---- row 8: ticks as low and high word
 
@@ -186,12 +186,12 @@ undone = paused ++ (resumeBytes three ∷ undoBytes ∷ undoBytes ∷ [])
 abbrev pub setLater : List Bytes
 setLater = rescheduled ++ (setBytes four ∷ [])
 
--- 00 01 00 00, 01 00 00 00, 00 00 00 00 00 00 10 40, 28 and seven 00, eight 00
+-- 00 01 00 00, 01 00 00 00, 00 00 00 00 00 00 10 40, 28 and seven 00, eight 00; by change 6 of document 02 eight 00 more
 abbrev pub rowNineBytes : Bytes
 rowNineBytes =
     (0x00 ∷ 0x01 ∷ 0x00 ∷ 0x00 ∷ [])
     ++ ((0x01 ∷ 0x00 ∷ 0x00 ∷ 0x00 ∷ [])
-    ++ ((0x00 ∷ 0x00 ∷ 0x00 ∷ 0x00 ∷ 0x00 ∷ 0x00 ∷ 0x10 ∷ 0x40 ∷ []) ++ ((0x28 ∷ replicate 7 0x00) ++ replicate 8 0x00)))
+    ++ ((0x00 ∷ 0x00 ∷ 0x00 ∷ 0x00 ∷ 0x00 ∷ 0x00 ∷ 0x10 ∷ 0x40 ∷ []) ++ ((0x28 ∷ replicate 7 0x00) ++ (replicate 8 0x00 ++ replicate 8 0x00))))
 
 -- ---- the table
 
@@ -203,11 +203,11 @@ pub record TwelveRows : Type 0 where
   -- P, cumulative at 2.0: 2.0; at 6.0: 2.5
   pub row-3 : (cumulativeHazard trailing P two ≡ two) × (cumulativeHazard trailing P six ≡ twoAndHalf)
   -- P from 0, w 2.0: 2.0; w 2.5: 6.0
-  pub row-4 : (invertCumulativeHazard trailing P z two ≡ After two) × (invertCumulativeHazard trailing P z twoAndHalf ≡ After six)
+  pub row-4 : (invertCumulativeHazard trailing P z two ≡ After two 0) × (invertCumulativeHazard trailing P z twoAndHalf ≡ After six 2)
   -- P from 2.0, w 0.5: 4.0
-  pub row-5 : invertCumulativeHazard trailing P two half ≡ After four
+  pub row-5 : invertCumulativeHazard trailing P two half ≡ After four 2
   -- Zero, w 0: 0.0; w 1.0: no wait
-  pub row-6 : (invertCumulativeHazard Zero emptyIntervals z z ≡ After z) × (invertCumulativeHazard Zero emptyIntervals z one ≡ Never)
+  pub row-6 : (invertCumulativeHazard Zero emptyIntervals z z ≡ After z 0) × (invertCumulativeHazard Zero emptyIntervals z one ≡ Never)
   -- Both waits 4.0, cause 3 priority 1, cause 7 priority 9: ties 0, 1, 2 give 3, 7, 7
   pub row-7 : (sampledBy 0 ≡ eventAfterFour 3) × (sampledBy 1 ≡ eventAfterFour 7) × (sampledBy 2 ≡ eventAfterFour 7)
   -- Ticks of 0.5, 2.5: 1, 3; of the f64 just below 0.5: 0; of 2^64: low 0, high 1

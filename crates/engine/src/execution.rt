@@ -72,6 +72,7 @@ pub(crate) fn event_answer(event: RealizedEvent, withdrawn: bool, ticks: Ticks) 
         delta: event.delta_time,
         ticks_low: ticks.low,
         ticks_high: ticks.high,
+        piece: event.piece,
     }
 }
 

@@ -10,7 +10,7 @@ use lib.Dec.{leb, lit<}
 use lib.ListN.{length, length-append}
 use lib.Ieee.{binary64, toBits}
 use Rattle.hazards.specs.Fields.{bytesOf, withField, withF64}
-use Rattle.hazards.specs.Answers.{answerWidth, headBytes, answerBytes, withAnswer}
+use Rattle.hazards.specs.Answers.{answerWidth, headBytes, pieceBytes, answerBytes, withAnswer}
 use Rattle.hazards.specs.declared.answers.Answer.{Answer}
 use Rattle.hazards.proofs.Bytes.{bytesOf-length, withField-length}
 use Rattle.hazards.proofs.Overwrite.{over, over-length, over-next, field-over}
@@ -20,6 +20,11 @@ pub bytes-cons : (n b x : ℕ) → b < 256 → bytesOf (suc n) (b + 256 * x) ≡
 unfolding bytesOf
 bytes-cons n b x h =
     rw (add-mul-mod-self-left b 256 x, mod-eq-of-lt h, add-mul-div-left b x (lit< tt), div-eq-of-lt h, zero-add)
+
+-- a piece and seven zero bytes are the bytes of a piece in eight
+piece-bytes : (a : Answer) → a .piece < 256 → bytesOf 8 (a .piece) ≡ pieceBytes a
+unfolding bytesOf
+piece-bytes a small = rw (mod-eq-of-lt small, div-eq-of-lt small)
 
 -- the width of an answer
 pub answerBytes-length : (a : Answer) → length (answerBytes a) ≡ answerWidth
@@ -34,7 +39,7 @@ next n s at xs k x e h =
     let room : at + length xs + n ≤ length (over at xs s) = rw (over-length s at xs fits) (omega arith) in
     rw (← e) (field-over n (over at xs s) (at + length xs) x room ∙ over-next s at xs fits (bytesOf n x))
 
-module _ (s : List ℕ) (at : ℕ) (a : Answer) (head : ℕ) (is-head : bytesOf 4 head ≡ headBytes a)
+module _ (s : List ℕ) (at : ℕ) (a : Answer) (head : ℕ) (is-head : bytesOf 4 head ≡ headBytes a) (small : a .piece < 256)
     (fits : at + answerWidth ≤ length s) where
   -- the runs of bytes so far
   one : List ℕ
@@ -64,9 +69,16 @@ module _ (s : List ℕ) (at : ℕ) (a : Answer) (head : ℕ) (is-head : bytesOf 
   unfolding four
   four-length = simp (length-append, bytesOf-length, three-length)
 
-  five-bytes : five ≡ answerBytes a
-  unfolding five four three two one answerBytes
-  five-bytes = simp (append-assoc, is-head)
+  six : List ℕ
+  six = five ++ bytesOf 8 (a .piece)
+
+  five-length : length five ≡ 32
+  unfolding five
+  five-length = simp (length-append, bytesOf-length, four-length)
+
+  six-bytes : six ≡ answerBytes a
+  unfolding six five four three two one answerBytes
+  six-bytes = simp (append-assoc, is-head, piece-bytes a small)
 
   one-written : withField 4 s at head ≡ over at one s
   unfolding one
@@ -88,15 +100,20 @@ module _ (s : List ℕ) (at : ℕ) (a : Answer) (head : ℕ) (is-head : bytesOf 
   unfolding five
   five-written = next 8 s at four 24 (a .«ticks_high») four-length (omega arith)
 
+  six-written : withField 8 (over at five s) (at + 32) (a .piece) ≡ over at six s
+  unfolding six
+  six-written = next 8 s at five 32 (a .piece) five-length (omega arith)
+
   pub answer-written :
       withField 8
       (withField 8
+      (withField 8
       (withF64 (withField 4 (withField 4 s at head) (at + 4) (a .cause)) (at + 8) (a .delta)) (at + 16) (a .«ticks_low»))
-      (at + 24) (a .«ticks_high»)
+      (at + 24) (a .«ticks_high»)) (at + 32) (a .piece)
       ≡ withAnswer s at a
   unfolding withF64 withAnswer
   answer-written =
-      rw (one-written, two-written, three-written, four-written, five-written, five-bytes, answerBytes-length, le-leb _ _ fits)
+      rw (one-written, two-written, three-written, four-written, five-written, six-written, six-bytes, answerBytes-length, le-leb _ _ fits)
 
 -- an answer that does not lie whole in the buffer
 pub written-cut : (s : List ℕ) (at : ℕ) (a : Answer) → leb (at + answerWidth) (length s) ≡ false → withAnswer s at a ≡ s

@@ -26,7 +26,7 @@ use Rattle.hazards.proofs.RateForWait.{gives-positive, threshold-positi
 -- ---- the wait of a constant rate
 
 module _ (w rate : Float) (p : T (positive w)) (pairs : Intervals) (start : Float) where
-  waits-through : T (positive rate) → invertCumulativeHazard (Constant rate) pairs start w ≡ After (div binary64 w rate)
+  waits-through : T (positive rate) → invertCumulativeHazard (Constant rate) pairs start w ≡ After (div binary64 w rate) 0
   unfolding invertCumulativeHazard waitOfRate notBelowZero constantWait
   waits-through q =
       rw (positive-not-le-zero w p, is-true (lt z rate) (positive-above rate q), positive-not-le-zero rate q)
@@ -36,11 +36,11 @@ module _ (w rate : Float) (p : T (positive w)) (pairs : Intervals) (start : Floa
   waits-never n = rw (positive-not-le-zero w p, n)
 
 abbrev isAfter : Wait → Bool
-isAfter (After t) = true
+isAfter (After t piece) = true
 isAfter Never = false
 
 abbrev timeOf : Wait → Float
-timeOf (After t) = t
+timeOf (After t piece) = t
 timeOf Never = z
 
 -- ---- a rate above 0 and at most 2^40 is in range
@@ -70,7 +70,7 @@ module _ (w wait rate : Float) (l : withinLimits w wait ≡ true) where
       record {
         isF64 = g .isF64;
         inLimits = and-i (le minusLimit rate) (le rate limit) (above-minus rate q) (g .atMost);
-        waits = λ pairs start. waits-through w rate p pairs start q ∙ ap After (g .exactly);
+        waits = λ pairs start. waits-through w rate p pairs start q ∙ ap (λ (t : Float). After t 0) (g .exactly);
       }
 
   nothing : Intervals

@@ -78,7 +78,7 @@ after-drawn : (cause priority : ℕ) (wait : Wait) → Held wait → (c : Candid
     → Drawn c
 unfolding candidateAfter
 after-drawn cause priority Never h c p = absurd p
-after-drawn cause priority (After t) h c p =
+after-drawn cause priority (After t piece) h c p =
     by-test (isFiniteWait t)
     (λ (e : isFiniteWait t ≡ true). elim (rw e at p) [ inl q ↦ rw q (record { finite = rw e tt; held = h }) | inr q ↦ absurd q ])
     (λ (e : isFiniteWait t ≡ false). absurd (rw e at p))
@@ -136,10 +136,10 @@ module _ (s : SampleSettings) where
   after w = given && lt span (w .time)
 
   abbrev atCensor : Float → Answer
-  atCensor delta = eventOf noCause delta true
+  atCensor delta = eventOf noCause delta true 0
 
   abbrev won : Candidate → Answer
-  won w = eventOf (w .«cause_id») (w .time) false
+  won w = eventOf (w .«cause_id») (w .time) false (w .piece)
 
   -- longer than the span to the censor age
   abbrev Longer : Earliest → Type 0
@@ -337,7 +337,7 @@ module _ (causes : List CompetingCause) (n : ℕ) (s : SampleSettings) (stream :
     found-finite : T (isFiniteWait (w .time))
     found-finite = all-drawn w (found-best .seen) .finite
 
-    found-wins : answer ≡ eventOf (w .«cause_id») (w .time) false → (s .«has_censor» ≡ 1 → lt (span s) (w .time) ≡ false)
+    found-wins : answer ≡ eventOf (w .«cause_id») (w .time) false (w .piece) → (s .«has_censor» ≡ 1 → lt (span s) (w .time) ≡ false)
         → Winner causes n s stream position w
     found-wins answers within = record {
       is-candidate = at-place w (drawnCandidates causes n s stream position) (found-best .seen);

@@ -15,16 +15,17 @@ use Rattle.hazards.specs.Lists.{foldl}
 use Rattle.hazards.specs.Refusals.{rangeFaultUnless, joined}
 use Rattle.hazards.specs.Checks.{hazardFaults, hazardOf, intervalsOf}
 use Rattle.hazards.specs.Rates.{invertCumulativeHazard}
-use Rattle.hazards.specs.Evaluations.{waitValued, evaluationRefusal, unlessRefused}
+use Rattle.hazards.specs.Evaluations.{withoutValue, withoutWait, inverted, evaluationRefusal, unlessRefused}
 use Rattle.hazards.specs.Evaluations.{evaluatedHazardAt, evaluatedCumulativeHazard, evaluatedInversion}
 use Rattle.hazards.specs.Draws.{thresholdAt}
-use Rattle.hazards.specs.Ties.{candidateAfter, tieBreakerOf, precedes, earlier, earliest}
+use Rattle.hazards.specs.Ties.{cappedPiece, candidateAfter, tieBreakerOf, precedes, earlier, earliest}
 use Rattle.hazards.specs.Sampler.{faultsOfAll, settingsFaults, sampleRefusal, inCauseOrder, candidates, censoredAt, sampledEvent}
 use Rattle.hazards.specs.Sampler.{sampleNext}
 use Rattle.hazards.proofs.Bounds.{Upto}
 use Rattle.hazards.proofs.Signs.{NotBelow, Signed}
 use Rattle.hazards.specs.declared.checks.HazardFields.{HazardFields}
 use Rattle.hazards.specs.declared.evaluations.Evaluation.{Evaluation}
+use Rattle.hazards.specs.declared.evaluations.Inversion.{Inversion}
 use Rattle.hazards.specs.declared.rates.Wait.{Wait}
 use Rattle.hazards.specs.declared.rates.Wait.the-variants.{After, Never}
 use Rattle.hazards.specs.declared.ties.Candidate.{Candidate}
@@ -49,9 +50,14 @@ use Rattle.hazards.proofs.SoundPairs.{sound}
 
 -- ---- the three evaluations
 
+-- what holds of a refusal and of what is accepted
+unless-refused : {A : Type 0} (P : A → Type 0) (without : ℕ → A) (n : ℕ) (e : A) → ((m : ℕ) → P (without m)) → (n ≡ 0 → P e)
+    → P (unlessRefused without n e)
+unless-refused P without n e o h = by-test (eqb n 0) (λ q. rw q (h (eqb-true n 0 q))) (λ q. rw q (o n))
+
 -- what holds of +0.0 and of an accepted evaluation's value
-value-of : (P : Float → Type 0) (n : ℕ) (e : Evaluation) → P z → (n ≡ 0 → P (e .value)) → P (unlessRefused n e .value)
-value-of P n e o h = by-test (eqb n 0) (λ q. rw q (h (eqb-true n 0 q))) (λ q. rw q o)
+value-of : (P : Float → Type 0) (n : ℕ) (e : Evaluation) → P z → (n ≡ 0 → P (e .value)) → P (unlessRefused withoutValue n e .value)
+value-of P n e o h = unless-refused (λ (r : Evaluation). P (r .value)) withoutValue n e (λ m. o) h
 
 -- an evaluation that is not refused: the hazard is sound, and the test on the floats held
 module _ (f : HazardFields) (ok : Bool) (h : evaluationRefusal f ok ≡ 0) where
@@ -77,17 +83,17 @@ evaluated-cumulative-upto f t =
     cumulative-upto times (hazardOf f) (intervalsOf f) t (hazard-accepted f (inRange t) h)
     (λ n. positive-rate-upto t n (limits-accepted f (inRange t) h)))
 
-wait-value : (wait : Wait) → NotBelow wait → Signed false (waitValued wait .value)
-wait-value (After d) s = s
+wait-value : (wait : Wait) → NotBelow wait → Signed false (inverted wait .wait)
+wait-value (After d piece) s = s
 wait-value Never s = refl
 
 -- every f64 is a start that binary64 holds
 pub evaluated-inversion-signed : (f : HazardFields) (start w : Float) → T (fits binary64 start)
-    → Signed false (evaluatedInversion f start w .value)
+    → Signed false (evaluatedInversion f start w .wait)
 unfolding evaluatedInversion inRange
 evaluated-inversion-signed f start w held =
     let ok = inRange start && inRange w in
-    value-of (Signed false) (evaluationRefusal f ok) _ refl
+    unless-refused (λ (i : Inversion). Signed false (i .wait)) withoutWait (evaluationRefusal f ok) _ (λ n. refl)
     (λ h.
     let both = limits-accepted f ok h in
     let wait = invertCumulativeHazard (hazardOf f) (intervalsOf f) start w in
@@ -121,10 +127,10 @@ module _ (tie : TieBreaker) where
       → FiniteEarliest (foldl (earlier tie) best (candidateAfter cause priority (λ t. t) wait))
   unfolding foldl candidateAfter
   after-finite best cause priority Never b = b
-  after-finite best cause priority (After d) b =
+  after-finite best cause priority (After d piece) b =
       by-test (isFiniteWait d)
       (λ (e : isFiniteWait d ≡ true).
-      rw e (earlier-finite best (record { «cause_id» = cause; priority = priority; time = d }) b (rw e tt)))
+      rw e (earlier-finite best (record { «cause_id» = cause; priority = priority; time = d; piece = cappedPiece piece }) b (rw e tt)))
       (λ e. rw e b)
 
   candidates-finite : (best : Earliest) (cs : List CompetingCause) (age : Float) (threshold : ℕ → Float) (k : ℕ) → FiniteEarliest best

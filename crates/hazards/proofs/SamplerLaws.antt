@@ -16,7 +16,7 @@ use Rattle.hazards.specs.Answers.{noEvent}
 use Rattle.hazards.specs.Checks.{hazardFaults, hazardOf, intervalsOf}
 use Rattle.hazards.specs.Rates.{invertCumulativeHazard}
 use Rattle.hazards.specs.Draws.{streamLength, thresholdAt, drawAt}
-use Rattle.hazards.specs.Ties.{candidateAfter, tieBreakerOf, earlier, earliest}
+use Rattle.hazards.specs.Ties.{cappedPiece, candidateAfter, tieBreakerOf, earlier, earliest}
 use Rattle.hazards.specs.Sampler.{faultsOfAll, settingsFaults, drawsRefusal, sampleRefusal, inCauseOrder}
 use Rattle.hazards.specs.Sampler.{candidates, censoredAt, sampledEvent, sampleNext}
 use Rattle.hazards.specs.SamplerInternals.{examinedRecord, drawnThreshold}
@@ -92,16 +92,17 @@ module _ (tie : TieBreaker) (best : Earliest) (cause priority : ℕ) (timeOf : F
   unfolding candidateAfter foldl
   candidate-never e = rw e
 
-  pub candidate-infinite : {t : Float} → wait ≡ After t → isFiniteWait t ≡ false
+  pub candidate-infinite : {t : Float} {piece : ℕ} → wait ≡ After t piece → isFiniteWait t ≡ false
       → best ≡ foldl (earlier tie) best (candidateAfter cause priority timeOf wait)
   unfolding candidateAfter foldl
   candidate-infinite e h = rw (e, h)
 
-  pub candidate-finite : {t : Float} {r : Earliest} → wait ≡ After t → isFiniteWait t ≡ true
-      → r ≡ earlier tie best (record { «cause_id» = cause; priority = priority; time = timeOf t })
+  pub candidate-finite : {t : Float} {piece capped : ℕ} {r : Earliest} → wait ≡ After t piece → isFiniteWait t ≡ true
+      → capped ≡ cappedPiece piece
+      → r ≡ earlier tie best (record { «cause_id» = cause; priority = priority; time = timeOf t; piece = capped })
       → r ≡ foldl (earlier tie) best (candidateAfter cause priority timeOf wait)
   unfolding candidateAfter foldl
-  candidate-finite e h er = er ∙ rw (e, h)
+  candidate-finite e h ec er = er ∙ rw (e, h, ec)
 
 -- ---- the candidates in order: the first record's and the others', and the same with thresholds that were drawn beforehand
 

@@ -14,10 +14,10 @@ Signed s (fin t m e) = t ≡ s
 
 -- a wait that is no NaN and has a clear sign
 abbrev pub NotBelow : Wait → Type 0
-NotBelow (After d) = Signed false d
+NotBelow (After d piece) = Signed false d
 NotBelow Never = Unit {0}
 
 -- a wait that binary64 holds
 abbrev pub Held : Wait → Type 0
-Held (After d) = T (fits binary64 d)
+Held (After d piece) = T (fits binary64 d)
 Held Never = Unit {0}

@@ -2,7 +2,8 @@
 use mathlib.Core.Path.{_≡_, refl}
 use mathlib.Core.Bool.{true, false, _&&_}
 use mathlib.Core.List.{List, [], _∷_}
-use Prim.Native.Nat.{suc}
+use Prim.Native.Nat.{ℕ, suc, _+_}
+use native.Mathlib.Numerals.{add-one}
 use lib.Ieee.{Float, binary64, add, sub, mul, lt, le}
 use Rattle.hazards.specs.Floats.{z, notBelowZero}
 use Rattle.hazards.specs.Rates.{Piece, piecewiseHazard, piecewiseCumulative, firstAfter, waitFrom, waitThrough}
@@ -55,15 +56,15 @@ unfolding firstAfter
 after-none t none = rw none
 
 -- the wait: w is reached within the first piece, or not
-module _ {ps qs : List Piece} {p : Piece} (trailing start cur w : Float) {rate : Float} (first : ps ≡ p ∷ qs)
+module _ (i : ℕ) {ps qs : List Piece} {p : Piece} (trailing start cur w : Float) {rate : Float} (first : ps ≡ p ∷ qs)
     (r : rate ≡ notBelowZero (p .rate)) where
   pub wait-here : (lt z rate && le w (mul binary64 rate (sub binary64 (p .end) cur))) ≡ true
-      → waitFrom ps trailing start cur w ≡ waitThrough start cur rate w
+      → waitFrom i ps trailing start cur w ≡ waitThrough i start cur rate w
   unfolding waitFrom
   wait-here h = rw (first, ← r, h)
 
   pub wait-later : (lt z rate && le w (mul binary64 rate (sub binary64 (p .end) cur))) ≡ false
-      → waitFrom ps trailing start cur w
-      ≡ waitFrom qs trailing start (p .end) (sub binary64 w (mul binary64 rate (sub binary64 (p .end) cur)))
+      → waitFrom i ps trailing start cur w
+      ≡ waitFrom (i + 1) qs trailing start (p .end) (sub binary64 w (mul binary64 rate (sub binary64 (p .end) cur)))
   unfolding waitFrom
-  wait-later h = rw (first, ← r, h)
+  wait-later h = rw (first, ← r, h, add-one)

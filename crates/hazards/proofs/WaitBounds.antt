@@ -3,7 +3,7 @@
 use mathlib.Core.Path.{_≡_, refl, sym}
 use mathlib.Core.Bool.{Bool, true, false, not, cond, _&&_}
 use mathlib.Core.List.{List, [], _∷_}
-use Prim.Native.Nat.{ℕ, _*_, _^_}
+use Prim.Native.Nat.{ℕ, suc, _*_, _^_}
 use native.Mathlib.Nat.{le-trans, le-of-eq, mul-one}
 use lib.IntN.{ℤ}
 use lib.ListN.{drop}
@@ -11,7 +11,7 @@ use lib.Dec.{T, le→leb, nltb→le}
 use lib.Ieee.{Float, nan, inf, fin, binary64, up, down, add, sub, mul, div, lt, le, fits}
 use lib.Ieee.Fits.{and-l, cond-fits, sub-fits, div-fits}
 use Rattle.hazards.specs.Floats.{z, notBelowZero, inRange}
-use Rattle.hazards.specs.Rates.{Piece, usedPairs, firstAfter, waitThrough, waitFrom, constantWait, waitOfRate, invertCumulativeHazard}
+use Rattle.hazards.specs.Rates.{Piece, usedPairs, firstAfter, endsIn, waitThrough, waitFrom, constantWait, waitOfRate, invertCumulativeHazard}
 use Rattle.hazards.specs.Rates.{weibullWait, ownRate}
 use Rattle.hazards.specs.declared.rates.HazardRate.{HazardRate}
 use Rattle.hazards.specs.declared.rates.HazardRate.the-variants.{Zero, Constant, Gompertz, Piecewise, Weibull}
@@ -34,22 +34,22 @@ either-held : (b : Bool) (x y : Wait) → Held x → Held y → Held (cond b x y
 either-held true x y h k = h
 either-held false x y h k = k
 
-piecewise-held : (ps : List Piece) (trailing start cur w : Float) → Held (waitFrom ps trailing start cur w)
-unfolding waitFrom
-piecewise-held [] trailing start cur w =
+piecewise-held : (i : ℕ) (ps : List Piece) (trailing start cur w : Float) → Held (waitFrom i ps trailing start cur w)
+unfolding waitFrom endsIn
+piecewise-held i [] trailing start cur w =
     let rate = notBelowZero trailing in
-    either-held (le rate z) Never (waitThrough start cur rate w) tt (sub-fits binary64 (add binary64 cur (div binary64 w rate)) start)
-piecewise-held (p ∷ ps) trailing start cur w =
+    either-held (le rate z) Never (waitThrough i start cur rate w) tt (sub-fits binary64 (add binary64 cur (div binary64 w rate)) start)
+piecewise-held i (p ∷ ps) trailing start cur w =
     let rate = notBelowZero (p .rate) in
     let capacity = mul binary64 rate (sub binary64 (p .end) cur) in
-    either-held (lt z rate && le w capacity) (waitThrough start cur rate w)
-    (waitFrom ps trailing start (p .end) (sub binary64 w capacity))
+    either-held (lt z rate && le w capacity) (waitThrough i start cur rate w)
+    (waitFrom (suc i) ps trailing start (p .end) (sub binary64 w capacity))
     (sub-fits binary64 (add binary64 cur (div binary64 w rate)) start)
-    (piecewise-held ps trailing start (p .end) (sub binary64 w capacity))
+    (piecewise-held (suc i) ps trailing start (p .end) (sub binary64 w capacity))
 
 constant-held : (rate w : Float) → Held (constantWait rate w)
 unfolding constantWait
-constant-held rate w = either-held (le rate z) Never (After (div binary64 w rate)) tt (div-fits binary64 w rate)
+constant-held rate w = either-held (le rate z) Never (After (div binary64 w rate) 0) tt (div-fits binary64 w rate)
 
 zero-held : T (fits binary64 z)
 unfolding fits
@@ -70,13 +70,14 @@ wait-of-rate-held Zero p start w = tt
 wait-of-rate-held (Constant rate) p start w = constant-held (notBelowZero rate) w
 wait-of-rate-held (Gompertz eta) p start w = constant-held eta w
 wait-of-rate-held (Piecewise trailing) p start w =
-    piecewise-held (drop (firstAfter start (usedPairs p)) (usedPairs p)) trailing start start w
+    let i = firstAfter start (usedPairs p) in
+    piecewise-held i (drop i (usedPairs p)) trailing start start w
 wait-of-rate-held (Weibull scale) p start w = weibull-held scale start w
 
 pub invert-held : (h : HazardRate) (p : Intervals) (start w : Float) → Held (invertCumulativeHazard h p start w)
 unfolding invertCumulativeHazard
 invert-held h p start w =
-    either-held (le w z) (After z) (waitOfRate h p (notBelowZero start) w) zero-held
+    either-held (le w z) (After z 0) (waitOfRate h p (notBelowZero start) w) zero-held
     (wait-of-rate-held h p (notBelowZero start) w)
 
 -- ---- not below 0
@@ -97,9 +98,10 @@ not-above-zero u h = for-fin (λ (w : Float). T (not (lt z w)) → Upto 0 w) go 
 
 -- b bounds w, and rounding keeps that bound
 module _ (b : ℕ) (stays : T (lands b b)) {a : ℕ} (start : Float) (sf : T (fits binary64 start)) (su : Upto a start) where
-  through-not-below : {r k : ℕ} {rate w cur : Float} → Upto r rate → T (lt z rate) → Upto b w → Upto k cur → T (le start cur)
-      → NotBelow (waitThrough start cur rate w)
-  through-not-below {rate} {w} {cur} u a v c o =
+  through-not-below : (i : ℕ) {r k : ℕ} {rate w cur : Float} → Upto r rate → T (lt z rate) → Upto b w → Upto k cur → T (le start cur)
+      → NotBelow (waitThrough i start cur rate w)
+  unfolding endsIn
+  through-not-below i {rate} {w} {cur} u a v c o =
       let d = div-signed v u a in
       sub-signed (add binary64 cur (div binary64 w rate)) (add-signed (div binary64 w rate) c d) su
       (sum-at-least (div binary64 w rate) sf su c o d)
@@ -113,24 +115,24 @@ module _ (b : ℕ) (stays : T (lands b b)) {a : ℕ} (start : Float) (sf : T (fi
       go true f n = not-le v c n
       go false f n = nothing-le (nothing (f tt)) v
 
-  module _ (trailing : Float) (i : T (inRange trailing)) where
-    piecewise-not-below : {k : ℕ} {ps : List Piece} (cur w : Float) → Following cur ps → Upto b w → Upto k cur → T (le start cur)
-        → NotBelow (waitFrom ps trailing start cur w)
+  module _ (trailing : Float) (within : T (inRange trailing)) where
+    piecewise-not-below : (i : ℕ) {k : ℕ} {ps : List Piece} (cur w : Float) → Following cur ps → Upto b w → Upto k cur → T (le start cur)
+        → NotBelow (waitFrom i ps trailing start cur w)
     unfolding waitFrom
-    piecewise-not-below cur w none v c o =
+    piecewise-not-below i cur w none v c o =
         let rate = notBelowZero trailing in
-        let u = rate-upto trailing i in
-        either-not-below (le rate z) Never (waitThrough start cur rate w) (λ t. tt)
-        (λ n. through-not-below u (not-le-lt (zero-upto 0) u n) v c o)
-    piecewise-not-below cur w (next {p} {ps} l m r f) v c o =
+        let u = rate-upto trailing within in
+        either-not-below (le rate z) Never (waitThrough i start cur rate w) (λ t. tt)
+        (λ n. through-not-below i u (not-le-lt (zero-upto 0) u n) v c o)
+    piecewise-not-below i cur w (next {p} {ps} l m r f) v c o =
         let rate = notBelowZero (p .rate) in
         let capacity = mul binary64 rate (sub binary64 (p .end) cur) in
         let span = sub-upto (2 ^ 43) m c (lt-le cur (p .end) l) span-lands in
-        either-not-below (lt z rate && le w capacity) (waitThrough start cur rate w)
-        (waitFrom ps trailing start (p .end) (sub binary64 w capacity))
-        (λ t. through-not-below r (and-l (lt z rate) (le w capacity) t) v c o)
+        either-not-below (lt z rate && le w capacity) (waitThrough i start cur rate w)
+        (waitFrom (suc i) ps trailing start (p .end) (sub binary64 w capacity))
+        (λ t. through-not-below i r (and-l (lt z rate) (le w capacity) t) v c o)
         (λ n.
-        piecewise-not-below (p .end) (sub binary64 w capacity) f
+        piecewise-not-below (suc i) (p .end) (sub binary64 w capacity) f
         (left-upto r v (mul-upto (2 ^ 91) r span capacity-lands) (λ q. mul-upto 0 q span nothing-lands) n)
         m (le-trans-upto su c m o (lt-le cur (p .end) l)))
 
@@ -138,7 +140,7 @@ constant-not-below : {b : ℕ} {w : Float} (rate : Float) → Upto b w → (T (n
     → NotBelow (constantWait rate w)
 unfolding constantWait
 constant-not-below {w} rate v u =
-    either-not-below (le rate z) Never (After (div binary64 w rate)) (λ t. tt)
+    either-not-below (le rate z) Never (After (div binary64 w rate) 0) (λ t. tt)
     (λ n. div-signed v (u n) (not-le-lt (zero-upto 0) (u n) n))
 
 -- not below 0, whatever it is before
@@ -162,7 +164,7 @@ wait-of-rate-not-below (Constant rate) p start b s i sf su v l = constant-not-be
 wait-of-rate-not-below (Gompertz eta) p start b s i sf su v l = constant-not-below eta v (λ n. positive-rate-upto eta n i)
 wait-of-rate-not-below (Piecewise trailing) p start {w} b s i sf su v l =
     let after = after-following su (pairs-sound trailing p s) in
-    piecewise-not-below b l start sf su trailing i start w after v su (le-refl-upto su)
+    piecewise-not-below b l start sf su trailing i (firstAfter start (usedPairs p)) start w after v su (le-refl-upto su)
 wait-of-rate-not-below (Weibull scale) p start {w} b s i sf su v l = weibull-not-below scale start w
 
 -- b bounds a w above 0
@@ -170,7 +172,7 @@ pub invert-not-below : {a : ℕ} (h : HazardRate) (p : Intervals) (start : Float
     → T (fits binary64 start) → Upto a (notBelowZero start) → (T (not (le w z)) → Upto b w) → T (lands b b) → NotBelow (invertCumulativeHazard h p start w)
 unfolding invertCumulativeHazard
 invert-not-below h p start {w} b s sf su v l =
-    either-not-below (le w z) (After z) (waitOfRate h p (notBelowZero start) w) (λ t. refl)
+    either-not-below (le w z) (After z 0) (waitOfRate h p (notBelowZero start) w) (λ t. refl)
     (λ n.
     wait-of-rate-not-below h p (notBelowZero start) b s (own-rate-sound h p s) (clamped-held start sf)
     su (v n) l)

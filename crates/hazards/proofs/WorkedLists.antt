@@ -101,11 +101,11 @@ abbrev high : CompetingCause
 high = constant 2 0 one
 
 pub worked-orders : (sample (low ∷ high ∷ []) (uncensored 0 z) (two ∷ one ∷ [])
-    ≡ record { answer = eventOf 2 one false; position = record { next = 2 } })
+    ≡ record { answer = eventOf 2 one false 0; position = record { next = 2 } })
     × (sample (high ∷ low ∷ []) (uncensored 0 z) (two ∷ one ∷ [])
-    ≡ record { answer = eventOf 2 one false; position = record { next = 2 } })
-    × (answers (low ∷ high ∷ []) (uncensored 0 z) (one ∷ two ∷ []) ≡ eventOf 1 one false)
-    × (answers (high ∷ low ∷ []) (uncensored 0 z) (one ∷ two ∷ []) ≡ eventOf 1 one false)
+    ≡ record { answer = eventOf 2 one false 0; position = record { next = 2 } })
+    × (answers (low ∷ high ∷ []) (uncensored 0 z) (one ∷ two ∷ []) ≡ eventOf 1 one false 0)
+    × (answers (high ∷ low ∷ []) (uncensored 0 z) (one ∷ two ∷ []) ≡ eventOf 1 one false 0)
 unfolding computed
 worked-orders = (refl, refl, refl, refl)
 
@@ -115,25 +115,25 @@ abbrev both : List Float
 both = one ∷ one ∷ []
 
 -- the lowest cause, the highest, the higher priority number, and the lowest cause of equal priorities
-pub worked-ties : (answers (low ∷ high ∷ []) (uncensored 0 z) both ≡ eventOf 1 one false)
-    × (answers (high ∷ low ∷ []) (uncensored 0 z) both ≡ eventOf 1 one false)
-    × (answers (low ∷ high ∷ []) (uncensored 1 z) both ≡ eventOf 2 one false)
-    × (answers (high ∷ low ∷ []) (uncensored 1 z) both ≡ eventOf 2 one false)
-    × (answers (low ∷ constant 2 7 one ∷ []) (uncensored 2 z) both ≡ eventOf 2 one false)
-    × (answers (constant 2 7 one ∷ low ∷ []) (uncensored 2 z) both ≡ eventOf 2 one false)
-    × (answers (low ∷ high ∷ []) (uncensored 2 z) both ≡ eventOf 1 one false)
-    × (answers (high ∷ low ∷ []) (uncensored 2 z) both ≡ eventOf 1 one false)
+pub worked-ties : (answers (low ∷ high ∷ []) (uncensored 0 z) both ≡ eventOf 1 one false 0)
+    × (answers (high ∷ low ∷ []) (uncensored 0 z) both ≡ eventOf 1 one false 0)
+    × (answers (low ∷ high ∷ []) (uncensored 1 z) both ≡ eventOf 2 one false 0)
+    × (answers (high ∷ low ∷ []) (uncensored 1 z) both ≡ eventOf 2 one false 0)
+    × (answers (low ∷ constant 2 7 one ∷ []) (uncensored 2 z) both ≡ eventOf 2 one false 0)
+    × (answers (constant 2 7 one ∷ low ∷ []) (uncensored 2 z) both ≡ eventOf 2 one false 0)
+    × (answers (low ∷ high ∷ []) (uncensored 2 z) both ≡ eventOf 1 one false 0)
+    × (answers (high ∷ low ∷ []) (uncensored 2 z) both ≡ eventOf 1 one false 0)
 unfolding computed
 worked-ties = (refl, refl, refl, refl, refl, refl, refl, refl)
 
 -- a candidate after 1.0
 abbrev afterOne : ℕ → ℕ → Candidate
-afterOne cause priority = record { «cause_id» = cause; priority = priority; time = one }
+afterOne cause priority = record { «cause_id» = cause; priority = priority; time = one; piece = 0 }
 
 -- three at one time, by their priorities, in two of their six orders; neither of the others is preferred to the winner
 pub worked-three : (answers (constant 1 1 one ∷ constant 2 3 one ∷ constant 3 2 one ∷ []) (uncensored 2 z) (one ∷ both)
-    ≡ eventOf 2 one false)
-    × (answers (constant 3 2 one ∷ constant 1 1 one ∷ constant 2 3 one ∷ []) (uncensored 2 z) (one ∷ both) ≡ eventOf 2 one false)
+    ≡ eventOf 2 one false 0)
+    × (answers (constant 3 2 one ∷ constant 1 1 one ∷ constant 2 3 one ∷ []) (uncensored 2 z) (one ∷ both) ≡ eventOf 2 one false 0)
     × (preferred ExplicitPriority (afterOne 1 1) (afterOne 2 3) ≡ false)
     × (preferred ExplicitPriority (afterOne 3 2) (afterOne 2 3) ≡ false)
 unfolding computed
@@ -142,31 +142,31 @@ worked-three = (refl, refl, refl, refl)
 -- ---- one cause, whose event is at 1.0 + 1.0, and a censor age
 
 -- between the two, at the event and after it
-pub worked-censor : (answers (low ∷ []) (censored one oneAndHalf) (one ∷ []) ≡ eventOf noCause half true)
-    × (answers (low ∷ []) (censored one two) (one ∷ []) ≡ eventOf 1 one false)
-    × (answers (low ∷ []) (censored one four) (one ∷ []) ≡ eventOf 1 one false)
+pub worked-censor : (answers (low ∷ []) (censored one oneAndHalf) (one ∷ []) ≡ eventOf noCause half true 0)
+    × (answers (low ∷ []) (censored one two) (one ∷ []) ≡ eventOf 1 one false 0)
+    × (answers (low ∷ []) (censored one four) (one ∷ []) ≡ eventOf 1 one false 0)
 unfolding computed
 worked-censor = (refl, refl, refl)
 
 -- two causes, in both orders: the earlier is after the censor age, and before it
-pub worked-censored-orders : (answers (low ∷ high ∷ []) (censored one oneAndHalf) (two ∷ one ∷ []) ≡ eventOf noCause half true)
-    × (answers (high ∷ low ∷ []) (censored one oneAndHalf) (two ∷ one ∷ []) ≡ eventOf noCause half true)
-    × (answers (low ∷ high ∷ []) (censored one four) (two ∷ one ∷ []) ≡ eventOf 2 one false)
-    × (answers (high ∷ low ∷ []) (censored one four) (two ∷ one ∷ []) ≡ eventOf 2 one false)
+pub worked-censored-orders : (answers (low ∷ high ∷ []) (censored one oneAndHalf) (two ∷ one ∷ []) ≡ eventOf noCause half true 0)
+    × (answers (high ∷ low ∷ []) (censored one oneAndHalf) (two ∷ one ∷ []) ≡ eventOf noCause half true 0)
+    × (answers (low ∷ high ∷ []) (censored one four) (two ∷ one ∷ []) ≡ eventOf 2 one false 0)
+    × (answers (high ∷ low ∷ []) (censored one four) (two ∷ one ∷ []) ≡ eventOf 2 one false 0)
 unfolding computed
 worked-censored-orders = (refl, refl, refl, refl)
 
 -- before the current age and at it: an event with no wait at all comes, any other is censored there and then
-pub worked-censor-past : (answers (low ∷ []) (censored one half) (one ∷ []) ≡ eventOf noCause z true)
-    × (answers (low ∷ []) (censored one half) (z ∷ []) ≡ eventOf 1 z false)
-    × (answers (low ∷ []) (censored one one) (one ∷ []) ≡ eventOf noCause z true)
-    × (answers (low ∷ []) (censored one one) (z ∷ []) ≡ eventOf 1 z false)
+pub worked-censor-past : (answers (low ∷ []) (censored one half) (one ∷ []) ≡ eventOf noCause z true 0)
+    × (answers (low ∷ []) (censored one half) (z ∷ []) ≡ eventOf 1 z false 0)
+    × (answers (low ∷ []) (censored one one) (one ∷ []) ≡ eventOf noCause z true 0)
+    × (answers (low ∷ []) (censored one one) (z ∷ []) ≡ eventOf 1 z false 0)
 unfolding computed
 worked-censor-past = (refl, refl, refl, refl)
 
 -- ---- no candidate: a censor age after, at and before the current one, or none
 
-pub worked-no-candidate : (answers (never 1 ∷ []) (censored one two) (one ∷ []) ≡ eventOf noCause one true)
+pub worked-no-candidate : (answers (never 1 ∷ []) (censored one two) (one ∷ []) ≡ eventOf noCause one true 0)
     × (answers (never 1 ∷ []) (censored one one) (one ∷ []) ≡ noEvent 0)
     × (answers (never 1 ∷ []) (censored one half) (one ∷ []) ≡ noEvent 0)
     × (answers (never 1 ∷ []) (uncensored 0 one) (one ∷ []) ≡ noEvent 0)
@@ -191,7 +191,7 @@ smallAge = fin false 3 (negsuc 52)
 -- Age 1.5 u, censor age 1 + 3 u: their difference, 1 + 1.5 u, rounds up to 1 + 2 u. A wait of 1 + 2 u is not censored, although age + wait
 -- is 1 + 3.5 u, and 1 + 4 u when rounded: "isn't after a censor age" holds of neither sum.
 pub worked-rounded-up : (sub binary64 (onePlus 3) smallAge ≡ onePlus 2)
-    × (answers (low ∷ []) (censored smallAge (onePlus 3)) (onePlus 2 ∷ []) ≡ eventOf 1 (onePlus 2) false)
+    × (answers (low ∷ []) (censored smallAge (onePlus 3)) (onePlus 2 ∷ []) ≡ eventOf 1 (onePlus 2) false 0)
     × (exactlyAbove smallAge (onePlus 2) (onePlus 3) ≡ true) × (add binary64 smallAge (onePlus 2) ≡ onePlus 4)
 unfolding computed
 worked-rounded-up = (refl, refl, refl, refl)
@@ -203,16 +203,16 @@ smallerAge = fin false 1 (negsuc 52)
 -- Age 0.5 u, censor age 1 + u: their difference, 1 + 0.5 u, rounds down to 1. A wait of 1 is as long as that and not censored; it is
 -- before the censor age, so a rule that censored it would leave a candidate below.
 pub worked-rounded-down : (sub binary64 (onePlus 1) smallerAge ≡ one)
-    × (answers (low ∷ []) (censored smallerAge (onePlus 1)) (one ∷ []) ≡ eventOf 1 one false)
+    × (answers (low ∷ []) (censored smallerAge (onePlus 1)) (one ∷ []) ≡ eventOf 1 one false 0)
     × (exactlyBelow smallerAge one (onePlus 1) ≡ true) × (lt (add binary64 smallerAge one) (onePlus 1) ≡ true)
 unfolding computed
 worked-rounded-down = (refl, refl, refl, refl)
 
 -- At age 2^40 waits of 1 and 1 + u: the sums round alike, yet the shorter wait wins, whatever the tie choice.
 pub worked-long-age : (add binary64 limit (onePlus 1) ≡ add binary64 limit one)
-    × (answers (low ∷ high ∷ []) (uncensored 0 limit) (onePlus 1 ∷ one ∷ []) ≡ eventOf 2 one false)
-    × (answers (low ∷ high ∷ []) (uncensored 1 limit) (one ∷ onePlus 1 ∷ []) ≡ eventOf 1 one false)
-    × (answers (low ∷ constant 2 7 one ∷ []) (uncensored 2 limit) (one ∷ onePlus 1 ∷ []) ≡ eventOf 1 one false)
+    × (answers (low ∷ high ∷ []) (uncensored 0 limit) (onePlus 1 ∷ one ∷ []) ≡ eventOf 2 one false 0)
+    × (answers (low ∷ high ∷ []) (uncensored 1 limit) (one ∷ onePlus 1 ∷ []) ≡ eventOf 1 one false 0)
+    × (answers (low ∷ constant 2 7 one ∷ []) (uncensored 2 limit) (one ∷ onePlus 1 ∷ []) ≡ eventOf 1 one false 0)
 unfolding computed
 worked-long-age = (refl, refl, refl, refl)
 
@@ -225,8 +225,8 @@ abbrev fast : CompetingCause
 fast = constant 1 0 two
 
 pub worked-repeated : (differentCauses (slow ∷ fast ∷ []) ≡ false)
-    × (answers (slow ∷ fast ∷ []) (uncensored 0 z) (one ∷ four ∷ []) ≡ eventOf 1 one false)
-    × (answers (fast ∷ slow ∷ []) (uncensored 0 z) (one ∷ four ∷ []) ≡ eventOf 1 half false)
+    × (answers (slow ∷ fast ∷ []) (uncensored 0 z) (one ∷ four ∷ []) ≡ eventOf 1 one false 0)
+    × (answers (fast ∷ slow ∷ []) (uncensored 0 z) (one ∷ four ∷ []) ≡ eventOf 1 half false 0)
 unfolding computed
 worked-repeated = (refl, refl, refl)
 

@@ -145,7 +145,7 @@ one-fifth a h = one-answer one five a (answered 0 (ofBits binary64 0x3fc9_9999_9
 
 -- with that rate a cause waits 5 for a threshold of 1, from any start
 waits-five : (pairs : Intervals) (start : Float)
-    → invertCumulativeHazard (Constant (ofBits binary64 0x3fc9_9999_9999_9999)) pairs start one ≡ After five
+    → invertCumulativeHazard (Constant (ofBits binary64 0x3fc9_9999_9999_9999)) pairs start one ≡ After five 0
 unfolding computed
 waits-five =
     let a = answered 0 (ofBits binary64 0x3fc9_9999_9999_9999) in

@@ -110,7 +110,7 @@ unfolding computed
 worked-cumulative = (refl, refl)
 
 -- scale * s - start, not scale * (s - q)
-pub worked-wait : (wait (whole 3) (whole 3) (whole 1) ≡ After (bits 0x3ff3_e1db_337d_b368))
+pub worked-wait : (wait (whole 3) (whole 3) (whole 1) ≡ After (bits 0x3ff3_e1db_337d_b368) 0)
     × (mul binary64 (whole 3) (sub binary64 (nearestRoot two) (whole 1)) ≡ bits 0x3ff3_e1db_337d_b367)
 unfolding computed
 worked-wait = (refl, refl)
@@ -122,7 +122,7 @@ pub worked-before : (hazard (whole 3) (negative 0) ≡ z) × (hazard (whole 3) (
 unfolding computed
 worked-before = (refl, refl, refl, refl)
 
-pub worked-negative-start : wait (whole 1) (negative 1) (whole 1) ≡ After (whole 1)
+pub worked-negative-start : wait (whole 1) (negative 1) (whole 1) ≡ After (whole 1) 0
 unfolding computed
 worked-negative-start = refl
 
@@ -132,26 +132,26 @@ pub worked-zero : (hazard (negative 2) (whole 3) ≡ z) × (cumulative z (whole 
 unfolding computed
 worked-zero = (refl, refl, refl)
 
-pub worked-nothing : (wait (negative 2) z z ≡ After z) × (wait (whole 2) (whole 3) (negative 1) ≡ After z)
+pub worked-nothing : (wait (negative 2) z z ≡ After z 0) × (wait (whole 2) (whole 3) (negative 1) ≡ After z 0)
 unfolding computed
 worked-nothing = (refl, refl)
 
 -- ---- not below 0
 
 -- scale 11, start 15, w 2^-60: 11 times the root is 2^-49 below the start
-pub worked-not-below : (wait (whole 11) (whole 15) (fin false 1 (negsuc 59)) ≡ After z)
+pub worked-not-below : (wait (whole 11) (whole 15) (fin false 1 (negsuc 59)) ≡ After z 0)
     × (sub binary64 (mul binary64 (whole 11) (nearestRoot (add binary64 (cumulative (whole 11) (whole 15)) (fin false 1 (negsuc 59))))) (whole 15)
     ≡ fin true 1 (negsuc 48))
 unfolding computed
 worked-not-below = (refl, refl)
 
 -- 2^80 + 1 rounds to 2^80, whose root is the start
-pub worked-far : wait (whole 1) limit (whole 1) ≡ After z
+pub worked-far : wait (whole 1) limit (whole 1) ≡ After z 0
 unfolding computed
 worked-far = refl
 
 -- ---- an infinite sum waits for ever, and that is no candidate
 
-pub worked-infinite : wait (whole 1) (whole 1) (inf false) ≡ After (inf false)
+pub worked-infinite : wait (whole 1) (whole 1) (inf false) ≡ After (inf false) 0
 unfolding computed
 worked-infinite = refl

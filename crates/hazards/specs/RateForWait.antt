@@ -51,7 +51,7 @@ OneAnswer = (w wait : Float) (a b : RateForWait) → Answers w wait a → Answer
 pub record WaitsExactly (w wait rate : Float) : Type 0 where
   pub isF64 : T (fits binary64 rate)
   pub inLimits : T (inRange rate)
-  pub waits : (pairs : Intervals) (start : Float) → invertCumulativeHazard (Constant rate) pairs start w ≡ After wait
+  pub waits : (pairs : Intervals) (start : Float) → invertCumulativeHazard (Constant rate) pairs start w ≡ After wait 0
 
 abbrev pub ConstantHazard : Type 0
 ConstantHazard = (w wait rate : Float) → withinLimits w wait ≡ true → Gives w wait rate ↔ WaitsExactly w wait rate

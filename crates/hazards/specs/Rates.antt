@@ -1,13 +1,13 @@
 -- Document 01, "Hazard arithmetic": hazard_at, cumulative_hazard and invert_cumulative_hazard of competing_risks.rs, operation by
 -- operation at binary64, each rounded once. Gompertz is the one with b = 0: its hazard is eta at every time. Document 02, change 4: kind
--- 4, Weibull with shape 2.
+-- 4, Weibull with shape 2; change 6: the piece that a wait ends in.
 use mathlib.Core.Bool.{Bool, true, false, cond, _&&_}
 use mathlib.Core.List.{List, [], _∷_}
 use Prim.Native.Nat.{ℕ, zero, suc, min}
 use lib.Dec.{eqb}
 use lib.ListN.{getD, drop}
 use lib.Ieee.{Float, nan, binary64, add, sub, mul, div, lt, le}
-use Rattle.hazards.specs.Floats.{z, two, notBelowZero}
+use Rattle.hazards.specs.Floats.{z, two, notBelowZero, isFiniteWait}
 use Rattle.hazards.specs.Roots.{nearestRoot}
 use Rattle.hazards.specs.declared.rates.HazardRate.{HazardRate}
 use Rattle.hazards.specs.declared.rates.HazardRate.the-variants.{Zero, Constant, Gompertz, Piecewise, Weibull}
@@ -98,7 +98,7 @@ weibullCumulative scale t =
 unfoldable pub weibullWait : Float → Float → Float → Wait
 weibullWait scale start w =
     let s = nearestRoot (add binary64 (weibullCumulative scale start) w) in
-    cond (le scale z) Never (After (notBelowZero (sub binary64 (mul binary64 scale s) start)))
+    cond (le scale z) Never (After (notBelowZero (sub binary64 (mul binary64 scale s) start)) 0)
 
 -- ---- hazard_at
 
@@ -137,29 +137,37 @@ cumulativeOfRate (Weibull scale) p t = weibullCumulative scale t
 unfoldable pub cumulativeHazard : HazardRate → Intervals → Float → Float
 cumulativeHazard h p t = cond (le t z) z (cumulativeOfRate h p t)
 
--- ---- invert_cumulative_hazard
+-- ---- invert_cumulative_hazard, which "now gives, with the wait, the piece number: the index of the pair used, count for the trailing
+-- rate, 0 for all other kinds, for w at most 0 and where there is no finite wait"
 
--- w is reached at cur + w / rate; the wait is that less the start
-abbrev pub waitThrough : Float → Float → Float → Float → Wait
-waitThrough start cur rate w = After (sub binary64 (add binary64 cur (div binary64 w rate)) start)
+-- a wait that ends in a piece; one that is not finite ends in none
+unfoldable pub endsIn : ℕ → Float → Wait
+endsIn piece wait = After wait (cond (isFiniteWait wait) piece 0)
 
--- w is the hazard still to accumulate from cur on, which lies in the first piece or at its beginning
-unfoldable pub waitFrom : List Piece → Float → Float → Float → Float → Wait
-waitFrom [] trailing start cur w =
+-- w is reached at cur + w / rate, in a piece; the wait is that less the start
+abbrev pub waitThrough : ℕ → Float → Float → Float → Float → Wait
+waitThrough piece start cur rate w = endsIn piece (sub binary64 (add binary64 cur (div binary64 w rate)) start)
+
+-- w is the hazard still to accumulate from cur on, which lies in the first of these pieces or at its beginning. The first has index i,
+-- and so the trailing rate, which follows the last, has the number of all pieces
+unfoldable pub waitFrom : ℕ → List Piece → Float → Float → Float → Float → Wait
+waitFrom i [] trailing start cur w =
     let rate = notBelowZero trailing in
-    cond (le rate z) Never (waitThrough start cur rate w)
-waitFrom (p ∷ ps) trailing start cur w =
+    cond (le rate z) Never (waitThrough i start cur rate w)
+waitFrom i (p ∷ ps) trailing start cur w =
     let rate = notBelowZero (p .rate) in
     let capacity = mul binary64 rate (sub binary64 (p .end) cur) in
-    cond (lt z rate && le w capacity) (waitThrough start cur rate w)
-    (waitFrom ps trailing start (p .end) (sub binary64 w capacity))
+    cond (lt z rate && le w capacity) (waitThrough i start cur rate w)
+    (waitFrom (suc i) ps trailing start (p .end) (sub binary64 w capacity))
 
 -- the pieces that end at or before the start are passed over
 abbrev pub piecewiseWait : List Piece → Float → Float → Float → Wait
-piecewiseWait ps trailing start w = waitFrom (drop (firstAfter start ps) ps) trailing start start w
+piecewiseWait ps trailing start w =
+    let i = firstAfter start ps in
+    waitFrom i (drop i ps) trailing start start w
 
 unfoldable pub constantWait : Float → Float → Wait
-constantWait rate w = cond (le rate z) Never (After (div binary64 w rate))
+constantWait rate w = cond (le rate z) Never (After (div binary64 w rate) 0)
 
 unfoldable pub waitOfRate : HazardRate → Intervals → Float → Float → Wait
 waitOfRate Zero p start w = Never
@@ -170,4 +178,4 @@ waitOfRate (Weibull scale) p start w = weibullWait scale start w
 
 -- w at most 0 waits 0.0, even for Zero
 unfoldable pub invertCumulativeHazard : HazardRate → Intervals → Float → Float → Wait
-invertCumulativeHazard h p start w = cond (le w z) (After z) (waitOfRate h p (notBelowZero start) w)
+invertCumulativeHazard h p start w = cond (le w z) (After z 0) (waitOfRate h p (notBelowZero start) w)

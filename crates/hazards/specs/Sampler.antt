@@ -79,10 +79,11 @@ candidates (c ∷ cs) age threshold place =
 unfoldable pub censoredAt : Earliest → SampleSettings → Answer
 censoredAt Nothing s =
     let span = sub binary64 (s .«censor_age») (s .«current_age») in
-    cond (eqb (s .«has_censor») 1 && lt (s .«current_age») (s .«censor_age»)) (eventOf noCause span true) (noEvent 0)
+    cond (eqb (s .«has_censor») 1 && lt (s .«current_age») (s .«censor_age»)) (eventOf noCause span true 0) (noEvent 0)
 censoredAt (Found c) s =
     let span = notBelowZero (sub binary64 (s .«censor_age») (s .«current_age»)) in
-    cond (eqb (s .«has_censor») 1 && lt span (c .time)) (eventOf noCause span true) (eventOf (c .«cause_id») (c .time) false)
+    cond (eqb (s .«has_censor») 1 && lt span (c .time)) (eventOf noCause span true 0)
+    (eventOf (c .«cause_id») (c .time) false (c .piece))
 
 -- an empty list has no event, even with a censor age
 unfoldable pub sampledEvent : List CompetingCause → SampleSettings → List ℕ → ℕ → Answer

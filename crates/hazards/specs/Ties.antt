@@ -1,9 +1,10 @@
 -- The candidates of competing_risks.rs and hazard_clock.rs: which waits are candidates, and which of two comes first. Sampler and
 -- clock share this; the time compared is the wait in the one and now + wait in the other. Document 01, "From HashMap and Vec":
--- sort_by is a scan for the best candidate, the earlier kept on a full tie.
+-- sort_by is a scan for the best candidate, the earlier kept on a full tie. Document 02, change 6: a candidate has the piece that its wait
+-- ends in.
 use mathlib.Core.Bool.{Bool, true, false, cond}
 use mathlib.Core.List.{List, [], _∷_}
-use Prim.Native.Nat.{ℕ}
+use Prim.Native.Nat.{ℕ, min}
 use lib.Dec.{eqb, ltb}
 use lib.Ieee.{Float, lt}
 use Rattle.hazards.specs.Floats.{isFiniteWait}
@@ -16,10 +17,16 @@ use Rattle.hazards.specs.declared.ties.Candidate.{Candidate}
 use Rattle.hazards.specs.declared.ties.Earliest.{Earliest}
 use Rattle.hazards.specs.declared.ties.Earliest.the-variants.{Nothing, Found}
 
+-- a piece as an answer has it, in one byte
+abbrev pub cappedPiece : ℕ → ℕ
+cappedPiece piece = min piece 255
+
 -- a wait of at least 0 that is not infinite is a candidate, at a time worked out from it
 unfoldable pub candidateAfter : ℕ → ℕ → (Float → Float) → Wait → List Candidate
-candidateAfter cause priority timeOf (After wait) =
-    cond (isFiniteWait wait) (record { «cause_id» = cause; priority = priority; time = timeOf wait } ∷ []) []
+candidateAfter cause priority timeOf (After wait piece) =
+    cond (isFiniteWait wait)
+    (record { «cause_id» = cause; priority = priority; time = timeOf wait; piece = cappedPiece piece } ∷ [])
+    []
 candidateAfter cause priority timeOf Never = []
 
 -- tie: 0 lowest cause, 1 highest, 2 explicit priority; a tie above 2 is refused by 4 before this is asked

@@ -1,11 +1,11 @@
-// Document 01, "Answer": the fields of an answer, which the sampler and every command give, and its bytes.
+// Document 01, "Answer": the fields of an answer, which the sampler and every command give, and its bytes. The piece is document 02's.
 ghost use mathlib.Core.Path.{_≡_};
 ghost use Prim.Native.Nat.{_<_};
 ghost use Rattle.hazards.specs.Answers.{noEvent, eventOf, flagByte, headBytes, withAnswer};
 ghost use Rattle.hazards.specs.Fields.{bytesOf};
 
 // How many bytes an answer has.
-pub const ANSWER_WIDTH: usize = 32;
+pub const ANSWER_WIDTH: usize = 40;
 
 // The answer of a command or a sample.
 pub struct Answer {
@@ -17,6 +17,7 @@ pub struct Answer {
     pub delta: f64,
     pub ticks_low: u64,
     pub ticks_high: u64,
+    pub piece: u8,
 }
 
 // No event, or a refusal with its number; zero elsewhere.
@@ -32,12 +33,13 @@ pub fn no_event(number: u8) -> Answer
         delta: 0.0,
         ticks_low: 0,
         ticks_high: 0,
+        piece: 0,
     }
 }
 
-// An event of a cause, or a censored one of NO_CAUSE; withdrawn and ticks zero.
-pub fn event_of(cause: u32, delta: f64, censored: bool) -> Answer
-    ensures { λ r. ⌜ r ≡ eventOf cause delta censored ⌝ }
+// An event of a cause in a piece of its rate curve, or a censored one of NO_CAUSE in piece 0; withdrawn and ticks zero.
+pub fn event_of(cause: u32, delta: f64, censored: bool, piece: u8) -> Answer
+    ensures { λ r. ⌜ r ≡ eventOf cause delta censored piece ⌝ }
 {
     Answer {
         number: 0,
@@ -48,6 +50,7 @@ pub fn event_of(cause: u32, delta: f64, censored: bool) -> Answer
         delta,
         ticks_low: 0,
         ticks_high: 0,
+        piece,
     }
 }
 
@@ -80,5 +83,6 @@ pub fn put_answer(bytes: &mut [u8], at: usize, answer: Answer)
         crate::fields::put_f64(bytes, at + 8, answer.delta);
         crate::fields::put_u64(bytes, at + 16, answer.ticks_low);
         crate::fields::put_u64(bytes, at + 24, answer.ticks_high);
+        crate::fields::put_u64(bytes, at + 32, answer.piece as u64);
     }
 }

@@ -1,15 +1,23 @@
 // The three evaluations as public calls on the fields of a hazard: refused by 4, 5 or 6, or the value.
 ghost use mathlib.Core.Path.{_≡_};
 ghost use Rattle.hazards.specs.Checks.{fieldsFrom};
-ghost use Rattle.hazards.specs.Evaluations.{valued, withoutValue, waitValued, evaluationRefusal, evaluatedHazardAt};
+ghost use Rattle.hazards.specs.Evaluations.{valued, withoutValue, withoutWait, inverted, evaluationRefusal, evaluatedHazardAt};
 ghost use Rattle.hazards.specs.Evaluations.{evaluatedCumulativeHazard, evaluatedInversion};
 use crate::rates::Wait;
 
-// `found` is false on a refusal and where there is no wait.
+// `found` is false on a refusal.
 pub struct Evaluation {
     pub number: u8,
     pub found: bool,
     pub value: f64,
+}
+
+// `found` is false on a refusal and where there is no wait.
+pub struct Inversion {
+    pub number: u8,
+    pub found: bool,
+    pub wait: f64,
+    pub piece: usize,
 }
 
 fn valued(value: f64) -> Evaluation
@@ -32,12 +40,28 @@ fn without_value(number: u8) -> Evaluation
     }
 }
 
-fn wait_valued(wait: Wait) -> Evaluation
-    ensures { λ r. ⌜ r ≡ waitValued wait ⌝ }
+fn without_wait(number: u8) -> Inversion
+    ensures { λ r. ⌜ r ≡ withoutWait number ⌝ }
+{
+    Inversion {
+        number,
+        found: false,
+        wait: 0.0,
+        piece: 0,
+    }
+}
+
+fn inverted(wait: Wait) -> Inversion
+    ensures { λ r. ⌜ r ≡ inverted wait ⌝ }
 {
     match wait {
-        Wait::After(value) => valued(value),
-        Wait::Never => without_value(0),
+        Wait::After(wait, piece) => Inversion {
+            number: 0,
+            found: true,
+            wait,
+            piece,
+        },
+        Wait::Never => without_wait(0),
     }
 }
 
@@ -97,7 +121,8 @@ pub fn evaluate_cumulative_hazard<'a>(
     valued(crate::rates::cumulative_hazard(hazard, ends, rates, pairs, t))
 }
 
-// invert_cumulative_hazard: the wait from t_start on until target_w more has accumulated; an infinite one is a value.
+// invert_cumulative_hazard: the wait from t_start on until target_w more has accumulated, and the piece that it ends in; an infinite wait
+// is one too.
 pub fn evaluate_inversion<'a>(
     kind: u8,
     first: f64,
@@ -106,23 +131,16 @@ pub fn evaluate_inversion<'a>(
     rates: &'a [f64; 8],
     t_start: f64,
     target_w: f64,
-) -> Evaluation
+) -> Inversion
     ensures { λ r. ⌜ r ≡ evaluatedInversion (fieldsFrom kind first count (now (ends .entry)) (now (rates .entry))) «t_start» «target_w» ⌝ }
 {
     let start = crate::floats::in_range(t_start);
     let w = crate::floats::in_range(target_w);
     let number = evaluation_refusal(kind, first, count, ends, rates, start & w);
     if number != 0 {
-        return without_value(number);
+        return without_wait(number);
     }
     let hazard = crate::rates::rate_of_kind(kind, first);
     let pairs = count as usize;
-    wait_valued(crate::rates::invert_cumulative_hazard(
-        hazard,
-        ends,
-        rates,
-        pairs,
-        t_start,
-        target_w,
-    ))
+    inverted(crate::rates::invert_cumulative_hazard(hazard, ends, rates, pairs, t_start, target_w))
 }

@@ -1,5 +1,5 @@
 // Hazard rates of competing_risks.rs: the hazard, the cumulative hazard and its inverse, each float operation rounded once. Kind 4,
-// Weibull with shape 2, is document 02's.
+// Weibull with shape 2, and the piece that a wait ends in are document 02's.
 ghost use mathlib.Core.Path.{_≡_};
 ghost use mathlib.Core.Bool.{_&&_};
 ghost use Prim.Native.Nat.{min};
@@ -9,7 +9,8 @@ ghost use Rattle.hazards.specs.Floats.{z};
 ghost use Rattle.hazards.specs.Rates.{rateOfKind, kindNumber, ownRate};
 ghost use Rattle.hazards.specs.Rates.{intervalsFrom, usedPairs, usesPairs, piecewiseHazard, piecewiseCumulative, firstAfter};
 ghost use Rattle.hazards.specs.Rates.{weibullHazard, weibullCumulative, weibullWait};
-ghost use Rattle.hazards.specs.Rates.{waitFrom, piecewiseWait, constantWait, hazardAt, cumulativeHazard, invertCumulativeHazard};
+ghost use Rattle.hazards.specs.Rates.{endsIn, waitFrom, piecewiseWait, constantWait, hazardAt, cumulativeHazard, invertCumulativeHazard};
+use crate::floats::is_finite_wait;
 use crate::floats::not_below_zero;
 use crate::roots::nearest_root;
 
@@ -30,9 +31,9 @@ pub struct Intervals {
     pub count: usize,
 }
 
-// What an inversion finds.
+// What an inversion finds: a wait, and the piece of the rate curve that it ends in.
 pub enum Wait {
-    After(f64),
+    After(f64, usize),
     Never,
 }
 
@@ -239,15 +240,26 @@ fn within_capacity(rate: f64, w: f64, capacity: f64) -> bool
     rate > 0.0 && w <= capacity
 }
 
-// The wait at the trailing rate, from cur_t on.
-fn trailing_wait(trailing: f64, start: f64, cur_t: f64, w: f64) -> Wait
-    ensures { λ r. ⌜ r ≡ waitFrom [] trailing start «cur_t» w ⌝ }
+// A wait that ends in a piece; one that is not finite ends in none, and is told with piece 0.
+fn ends_in(piece: usize, wait: f64) -> Wait
+    ensures { λ r. ⌜ r ≡ endsIn piece wait ⌝ }
+{
+    if is_finite_wait(wait) {
+        Wait::After(wait, piece)
+    } else {
+        Wait::After(wait, 0)
+    }
+}
+
+// The wait at the trailing rate, from cur_t on; `piece` is the number of all pieces.
+fn trailing_wait(piece: usize, trailing: f64, start: f64, cur_t: f64, w: f64) -> Wait
+    ensures { λ r. ⌜ r ≡ waitFrom piece [] trailing start «cur_t» w ⌝ }
 {
     let rate = not_below_zero(trailing);
     if rate <= 0.0 {
         Wait::Never
     } else {
-        Wait::After(cur_t + w / rate - start)
+        ends_in(piece, cur_t + w / rate - start)
     }
 }
 
@@ -271,13 +283,13 @@ fn piecewise_wait<'a>(
         let rate = not_below_zero(rates[i]);
         let capacity_w = rate * (end_t - cur_t);
         if within_capacity(rate, remaining_w, capacity_w) {
-            return Wait::After(cur_t + remaining_w / rate - start);
+            return ends_in(i, cur_t + remaining_w / rate - start);
         }
         remaining_w = remaining_w - capacity_w;
         cur_t = end_t;
         i += 1;
     }
-    trailing_wait(trailing, start, cur_t, remaining_w)
+    trailing_wait(i, trailing, start, cur_t, remaining_w)
 }
 
 // The wait until w has accumulated at one rate.
@@ -287,7 +299,7 @@ pub(crate) fn constant_wait(rate: f64, w: f64) -> Wait
     if rate <= 0.0 {
         Wait::Never
     } else {
-        Wait::After(w / rate)
+        Wait::After(w / rate, 0)
     }
 }
 
@@ -299,7 +311,7 @@ fn weibull_wait(scale: f64, start: f64, w: f64) -> Wait
         return Wait::Never;
     }
     let s = nearest_root(weibull_cumulative(scale, start) + w);
-    Wait::After(not_below_zero(scale * s - start))
+    Wait::After(not_below_zero(scale * s - start), 0)
 }
 
 // The wait from an age on until the hazard accumulated reaches w.
@@ -315,7 +327,7 @@ pub fn invert_cumulative_hazard<'a>(
         ≡ invertCumulativeHazard hazard (intervalsFrom (now (ends .entry)) (now (rates .entry)) count) «t_start» «target_w» ⌝ }
 {
     if target_w <= 0.0 {
-        return Wait::After(0.0);
+        return Wait::After(0.0, 0);
     }
     match hazard {
         HazardRate::Zero => Wait::Never,

@@ -1,6 +1,6 @@
 // Candidates and which of them comes first.
 ghost use mathlib.Core.Path.{_≡_};
-ghost use Rattle.hazards.specs.Ties.{tieBreakerOf, tieNumber, preferred, precedes, earlier};
+ghost use Rattle.hazards.specs.Ties.{cappedPiece, tieBreakerOf, tieNumber, preferred, precedes, earlier};
 
 // Which of two causes at the same time comes first.
 pub enum TieBreaker {
@@ -9,17 +9,25 @@ pub enum TieBreaker {
     ExplicitPriority,
 }
 
-// A cause's event at a time: its wait in the sampler, now + wait in the clock.
+// A cause's event at a time (its wait in the sampler, now + wait in the clock), and the piece of its rate curve that strikes.
 pub struct Candidate {
     pub cause_id: u32,
     pub priority: u32,
     pub time: f64,
+    pub piece: u8,
 }
 
 // The best of the candidates so far.
 pub enum Earliest {
     Nothing,
     Found(Candidate),
+}
+
+// A piece as an answer has it: 255 stands for a higher one.
+pub fn capped_piece(piece: usize) -> u8
+    ensures { λ r. ⌜ r ≡ cappedPiece piece ⌝ }
+{
+    if piece < 255 { piece as u8 } else { 255 }
 }
 
 // The tie choice of a number; one above 2 is refused by 4 before this is asked.

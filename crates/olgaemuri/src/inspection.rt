@@ -27,6 +27,7 @@ use clocks::layout::TIE;
 use clocks::layout::TIMES;
 use clocks::layout::WINNER;
 use clocks::layout::WINNER_CAUSE;
+use clocks::layout::WINNER_PIECE;
 use clocks::layout::WINNER_TIME;
 use clocks::layout::byte_from;
 use clocks::layout::u32_from;
@@ -68,6 +69,7 @@ pub struct ClockFields {
     pub has_winner: bool,
     pub policy: u8,
     pub tie: u8,
+    pub winner_piece: u8,
     pub generation: u32,
     pub winner_cause: u32,
     pub process: u64,
@@ -179,6 +181,7 @@ fn no_clock() -> ClockFields
         has_winner: false,
         policy: 0,
         tie: 0,
+        winner_piece: 0,
         generation: 0,
         winner_cause: 0,
         process: 0,
@@ -212,6 +215,7 @@ fn own_fields<'a>(words: &'a [[u64; 8]], floats: &'a [[f64; 8]]) -> ClockFields
         has_winner: schedule[WINNER] == 1,
         policy: clocks::clocks::policy_number(policy),
         tie: hazards::ties::tie_number(tie),
+        winner_piece: byte_from(schedule[WINNER_PIECE]),
         generation: u32_from(settings[GENERATION]),
         winner_cause: u32_from(schedule[WINNER_CAUSE]),
         process: settings[PROCESS],

@@ -7,7 +7,7 @@
  * - An engine that stays open, for programs that edit as they go: `olgaemuri_open` opens it in memory of the caller, `olgaemuri_execute`
  *   answers one command at a time, UNDO among them, and what the engine holds can be asked at any time.
  * - The batch run, for a list that is there as a whole: `olgaemuri_run` opens an engine of its own, gives it the commands one after another
- *   and writes an answer of 32 bytes to each. Several UNDOs in a row cost little more than one there.
+ *   and writes an answer of 40 bytes to each. Several UNDOs in a row cost little more than one there.
  *
  *     static struct olgaemuri_state state;
  *     uint8_t stream[16], journal[512], command[OLGAEMURI_SET_BYTES];
@@ -57,7 +57,7 @@ enum {
     OLGAEMURI_CAUSES = 8,            /* at most so many causes in a clock */
     OLGAEMURI_PAIRS = 8,             /* at most so many pairs in a hazard */
     OLGAEMURI_THRESHOLD_BYTES = 8,   /* one recorded threshold, an f64 */
-    OLGAEMURI_ANSWER_BYTES = 32,     /* one answer */
+    OLGAEMURI_ANSWER_BYTES = 40,     /* one answer */
     OLGAEMURI_RESULT_BYTES = 16,     /* the result of a batch run */
     OLGAEMURI_ROW = 8,               /* numbers in a row of a state */
     OLGAEMURI_STATE_WORD_ROWS = 177, /* rows of uint64_t in a state */
@@ -124,7 +124,7 @@ enum olgaemuri_refusal {
     OLGAEMURI_JOURNAL_FULL = 14,     /* the command is longer than the free part of the journal */
     OLGAEMURI_STREAM_EXHAUSTED = 15, /* a draw is due and the recorded thresholds are used up */
     OLGAEMURI_INVALID_THRESHOLD = 16,/* the threshold due is not finite, below 0 or above 1024 */
-    OLGAEMURI_ANSWERS_FULL = 17,     /* only returned: under 32 answer bytes for a command, which is not done */
+    OLGAEMURI_ANSWERS_FULL = 17,     /* only returned: under 40 answer bytes for a command, which is not done */
     OLGAEMURI_INVALID_BUFFERS = 18,  /* only returned: the stream is no multiple of 8 bytes or the result not 16 */
     OLGAEMURI_OUTSIDE_LIMITS = 23,   /* the threshold is not above 0 and at most 1024, or the wait is not from 2^-40 to 2^40 */
     OLGAEMURI_NO_RATE = 24           /* no rate above 0 and at most 2^40 gives exactly the wait */
@@ -137,12 +137,12 @@ enum olgaemuri_refusal {
  * stream    the recorded thresholds, read only: whole f64s, drawn from the front, each from 0 to 1024
  * journal   room for the applied commands. Filled with zero first; at the end it holds the bytes of the commands that are
  *           in force, one after another, and zero behind them. As long as the list it is never full
- * answers   32 bytes for each command in order; bytes past the last answer are left as they are. 32 bytes for each
+ * answers   40 bytes for each command in order; bytes past the last answer are left as they are. 40 bytes for each
  *           command in the list are enough
  * result    16 bytes: commands answered u64, bytes read u64
  *
  * Returns 0 at the list's end, or 2 or 3, where no whole command begins: that is answered, counted and ends the run, and
- * adds no bytes read. 17 where under 32 answer bytes are left for a command. 18, before anything else and with nothing
+ * adds no bytes read. 17 where under 40 answer bytes are left for a command. 18, before anything else and with nothing
  * written, where the stream is no multiple of 8 bytes or the result is not 16.
  *
  * Lengths are in bytes. No pointer may be NULL, also where its length is 0. A written buffer (journal, answers, result)
@@ -176,9 +176,9 @@ uint8_t olgaemuri_open(uint64_t (*words)[OLGAEMURI_ROW], size_t word_rows, doubl
  * stream   the recorded thresholds, read only: f64s, drawn from the front, each from 0 to 1024
  * journal  the applied commands, one after another, and zero behind them: an accepted command is added, UNDO takes the last one off
  * input    read only; bytes past the command's width are ignored
- * answer   its first 32 bytes are written
+ * answer   its first 40 bytes are written
  *
- * Returns the answer's number; 0 where the input was accepted. 17, with nothing done and nothing written, where the answer has under 32
+ * Returns the answer's number; 0 where the input was accepted. 17, with nothing done and nothing written, where the answer has under 40
  * bytes. UNDO runs the applied commands again, so it takes the longer the more there are.
  */
 uint8_t olgaemuri_execute(uint64_t (*words)[OLGAEMURI_ROW], size_t word_rows, double (*floats)[OLGAEMURI_ROW], size_t float_rows,
@@ -221,6 +221,7 @@ struct olgaemuri_clock {
     bool has_winner;
     uint8_t policy;         /* enum olgaemuri_policy */
     uint8_t tie;            /* enum olgaemuri_tie */
+    uint8_t winner_piece;   /* the piece of the winner's rate curve, as in struct olgaemuri_answer */
     uint32_t generation;    /* of its entity */
     uint32_t winner_cause;  /* OLGAEMURI_NO_CAUSE where the winner is censored */
     uint64_t process;
@@ -287,6 +288,9 @@ struct olgaemuri_answer {
     double delta;        /* how long after the command's time it comes; for DELIVER, after the time at which it was scheduled */
     uint64_t ticks_low;  /* its time in ticks, a number of 128 bits */
     uint64_t ticks_high;
+    uint8_t piece;       /* the piece of the cause's rate curve in which it falls: the pair used, counted from 0, or the number of
+                            pairs for the rate after the last. 0 for hazards without pairs, for a threshold that is used up already,
+                            and where the event is censored */
 };
 
 /* The owner of a clock in the simulator; the engine only keeps it. */
@@ -501,7 +505,8 @@ static inline size_t olgaemuri_applied_length(const uint8_t *journal, size_t jou
     return length;
 }
 
-/* The answer at `bytes`: number, event, censored, withdrawn, cause u32, delta f64, ticks low u64, ticks high u64. */
+/* The answer at `bytes`: number, event, censored, withdrawn, cause u32, delta f64, ticks low u64, ticks high u64, piece; seven zero bytes
+   follow. */
 static inline struct olgaemuri_answer olgaemuri_get_answer(const uint8_t *bytes)
 {
     struct olgaemuri_answer answer;
@@ -513,6 +518,7 @@ static inline struct olgaemuri_answer olgaemuri_get_answer(const uint8_t *bytes)
     answer.delta = olgaemuri_get_f64(bytes + 8);
     answer.ticks_low = olgaemuri_get_number(bytes + 16, 8);
     answer.ticks_high = olgaemuri_get_number(bytes + 24, 8);
+    answer.piece = bytes[32];
     return answer;
 }
 

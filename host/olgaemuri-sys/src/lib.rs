@@ -13,7 +13,7 @@ mod state;
 pub use state::{Cause, Clock, Counts, ROW, Request, STATE_FLOAT_ROWS, STATE_WORD_ROWS};
 
 /// Bytes of one answer.
-pub const ANSWER_BYTES: usize = 32;
+pub const ANSWER_BYTES: usize = 40;
 
 /// Bytes of the result: commands answered and bytes read, a little-endian u64 each.
 pub const RESULT_BYTES: usize = 16;

@@ -59,6 +59,8 @@ pub struct Clock {
     pub policy: u8,
     /// 0 lowest cause, 1 highest cause, 2 explicit priority.
     pub tie: u8,
+    /// The piece of the winner's rate curve; 0 where it is censored and where there is no winner.
+    pub winner_piece: u8,
     /// The generation of its entity.
     pub generation: u32,
     /// The winner's cause; all bits set where it is censored.

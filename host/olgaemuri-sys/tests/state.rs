@@ -112,7 +112,7 @@ fn an_opened_state_and_its_journal() {
 }
 
 #[test]
-fn an_answer_of_under_32_bytes_is_refused_by_17() {
+fn an_answer_that_is_too_short_is_refused_by_17() {
     let mut lent = Lent::opened();
     let opened = lent.clone();
     for length in 0..ANSWER_BYTES {
@@ -162,8 +162,8 @@ fn layout() -> String {
     }
     layout!(Counts, "counts": queued requests_made draw_position applied_length);
     layout!(Request, "request": found clock priority index ticks_low ticks_high);
-    layout!(Clock, "clock": found has_entity is_active has_event has_winner policy tie generation winner_cause process entity_index
-        causes event_index scale winner_time last_update);
+    layout!(Clock, "clock": found has_entity is_active has_event has_winner policy tie winner_piece generation winner_cause process
+        entity_index causes event_index scale winner_time last_update);
     layout!(Cause, "cause": found kind cause priority pairs rate accumulated threshold interval_start ends rates);
     let words = STATE_WORD_ROWS * size_of::<[u64; ROW]>();
     line("state", words + STATE_FLOAT_ROWS * size_of::<[f64; ROW]>());

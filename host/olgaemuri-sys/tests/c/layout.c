@@ -32,6 +32,7 @@ static void clocks(void)
     FIELD(clock, has_winner);
     FIELD(clock, policy);
     FIELD(clock, tie);
+    FIELD(clock, winner_piece);
     FIELD(clock, generation);
     FIELD(clock, winner_cause);
     FIELD(clock, process);

@@ -3,10 +3,9 @@
 
 use crate::random::Random;
 use kairo_ecs_core::Scheduler;
-use kairo_ecs_des::SurvivalClock;
 use kairo_ecs_rng::DeterministicStream;
 use reference::answer::Answer;
-use reference::clock;
+use reference::clock::{self, Clock};
 use reference::command::{Command, Create, SET_BYTES};
 use reference::dump::dump_clock;
 use reference::refusal::Refusal;
@@ -21,7 +20,7 @@ pub struct ClockStep {
     pub position_before: u64,
     pub answer: Answer,
     pub position_after: u64,
-    pub after: SurvivalClock,
+    pub after: Clock,
 }
 
 impl ClockStep {
@@ -40,7 +39,7 @@ impl ClockStep {
 
 /// A clock from its CREATE on, with the queue that it alone uses.
 pub struct History<'a> {
-    pub clock: SurvivalClock,
+    pub clock: Clock,
     pub scheduler: Scheduler,
     pub stream: DeterministicStream<'a>,
     pub steps: Vec<ClockStep>,

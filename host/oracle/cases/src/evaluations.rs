@@ -1,4 +1,4 @@
-//! One evaluation and its expected answer: a case of 165 bytes.
+//! One evaluation and its expected answer: a case of 173 bytes.
 
 use crate::floats::{out_of_size, style};
 use crate::hazard_damage::damage;
@@ -7,7 +7,7 @@ use crate::random::Random;
 use reference::evaluation::{Evaluation, INVERT_CUMULATIVE_HAZARD, evaluate};
 use reference::hazard::Hazard;
 
-pub const CASE_BYTES: usize = 165;
+pub const CASE_BYTES: usize = 173;
 
 #[derive(Clone, Copy, Debug)]
 pub struct EvaluationCase {
@@ -76,5 +76,6 @@ impl EvaluationCase {
         out.push(expected.number);
         out.push(u8::from(expected.found));
         out.extend(expected.value.to_le_bytes());
+        out.extend(expected.piece.to_le_bytes());
     }
 }

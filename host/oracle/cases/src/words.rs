@@ -88,16 +88,16 @@ fn planned(operands: &Reschedule) -> String {
     )
 }
 
-/// An answer of 32 bytes.
+/// An answer of 40 bytes; those after the piece are left out.
 pub fn answer(bytes: &[u8]) -> String {
     let mut reader = Reader(bytes);
     let [number, event, censored, withdrawn] = [(); 4].map(|()| reader.u8());
     let (cause, delta) = (reader.u32(), float(reader.f64()));
-    let (low, high) = (reader.u64(), reader.u64());
+    let (low, high, piece) = (reader.u64(), reader.u64(), reader.u8());
     let meaning = Refusal::ALL.iter().find(|r| r.number() == number);
     let meaning = meaning.map_or(String::new(), |r| format!(" ({})", r.meaning()));
     format!(
         "number {number}{meaning}, event {event}, censored {censored}, withdrawn {withdrawn}, cause {cause}, delta {delta}, \
-         ticks low {low} high {high}"
+         ticks low {low} high {high}, piece {piece}"
     )
 }

@@ -1,10 +1,10 @@
-//! The answer of 32 bytes (document 01, "Answer").
+//! The answer of 40 bytes (document 01, "Answer"; document 02, change 6).
 
 use crate::refusal::Refusal;
 use crate::request::CENSORED_CAUSE;
 use kairo_ecs_rng::RealizedEvent;
 
-pub const ANSWER_BYTES: usize = 32;
+pub const ANSWER_BYTES: usize = 40;
 
 /// What does not apply is zero.
 #[derive(Clone, Copy, Debug, Default, PartialEq)]
@@ -17,6 +17,8 @@ pub struct Answer {
     pub delta: f64,
     pub ticks_low: u64,
     pub ticks_high: u64,
+    /// Of an uncensored event.
+    pub piece: u8,
 }
 
 impl Answer {
@@ -27,18 +29,19 @@ impl Answer {
         }
     }
 
-    /// Nothing withdrawn, no ticks: the sampler's whole answer.
-    pub fn sampled(event: Option<RealizedEvent>) -> Self {
+    /// Nothing withdrawn, no ticks: the sampler's whole answer. A censored event has no piece.
+    pub fn sampled(event: Option<RealizedEvent>, piece: u8) -> Self {
         event.map_or_else(Self::default, |event| Self {
             event: true,
             censored: event.is_censored,
             cause: event.winning_cause.0,
             delta: event.delta_time,
+            piece: if event.is_censored { 0 } else { piece },
             ..Self::default()
         })
     }
 
-    /// An event of a cause after a wait; of the censored cause, a censored one.
+    /// An event of a cause after a wait, with piece 0; of the censored cause, a censored one.
     pub fn event(cause: u32, delta: f64) -> Self {
         Self {
             event: true,
@@ -47,6 +50,11 @@ impl Answer {
             delta,
             ..Self::default()
         }
+    }
+
+    /// The same answer with a piece.
+    pub fn with_piece(self, piece: u8) -> Self {
+        Self { piece, ..self }
     }
 
     /// The same answer with ticks as low and high u64.
@@ -72,6 +80,7 @@ impl Answer {
         out[8..16].copy_from_slice(&self.delta.to_le_bytes());
         out[16..24].copy_from_slice(&self.ticks_low.to_le_bytes());
         out[24..32].copy_from_slice(&self.ticks_high.to_le_bytes());
+        out[32] = self.piece;
         out
     }
 }

@@ -1,28 +1,62 @@
 //! What each command does to one clock (document 01, "Clocks"): the methods of hazard_clock.rs and
-//! the answers made of what they return.
+//! the answers made of what they return; and the winner's piece, which the Rust does not know
+//! (document 02, change 6).
 
 use crate::answer::Answer;
 use crate::choices::{POLICIES, TIES};
 use crate::command::{Command, Create, Reschedule, Set};
+use crate::hazard::Hazard;
+use crate::piece::{piece, to_byte};
 use crate::refusal::{Refusal, require};
 use crate::sampler::draw_refusal;
 use kairo_ecs_core::{Queued, Scheduler};
 use kairo_ecs_des::SurvivalClock;
 use kairo_ecs_rng::{CauseId, DeterministicStream, RealizedEvent};
 use kairo_ecs_types::EntityId;
+use std::mem;
+use std::ops::{Deref, DerefMut};
 
 /// Channels of a clock.
 pub const CHANNELS: usize = 8;
 
-pub fn create(create: &Create) -> SurvivalClock {
+/// The Rust's clock, and beside it the piece of its winner.
+#[derive(Clone, Debug)]
+pub struct Clock {
+    unchanged: SurvivalClock,
+    /// 0 where there is no winner, and for a censored one.
+    pub piece: u8,
+}
+
+impl Clock {
+    pub fn new(unchanged: SurvivalClock, piece: u8) -> Self {
+        Self { unchanged, piece }
+    }
+}
+
+impl Deref for Clock {
+    type Target = SurvivalClock;
+
+    fn deref(&self) -> &SurvivalClock {
+        &self.unchanged
+    }
+}
+
+impl DerefMut for Clock {
+    fn deref_mut(&mut self) -> &mut SurvivalClock {
+        &mut self.unchanged
+    }
+}
+
+pub fn create(create: &Create) -> Clock {
     let entity = EntityId::new(create.entity_index, create.generation);
-    SurvivalClock::new(
+    let unchanged = SurvivalClock::new(
         create.process,
         (create.has_entity == 1).then_some(entity),
         POLICIES[usize::from(create.policy)],
         TIES[usize::from(create.tie)],
         create.scale,
-    )
+    );
+    Clock::new(unchanged, 0)
 }
 
 /// By 10: a ninth cause.
@@ -53,7 +87,7 @@ pub fn draw_is_due(clock: &SurvivalClock, set: &Set) -> bool {
 
 /// What an accepted command from SET to RESUME does to the clock that it names.
 pub fn apply(
-    clock: &mut SurvivalClock,
+    clock: &mut Clock,
     scheduler: &mut Scheduler,
     stream: &mut DeterministicStream,
     command: &Command,
@@ -76,11 +110,7 @@ fn set(clock: &mut SurvivalClock, set: &Set, stream: &mut DeterministicStream) {
     clock.set_channel(cause, set.priority, set.hazard.build(), set.now, stream);
 }
 
-fn reschedule(
-    clock: &mut SurvivalClock,
-    scheduler: &mut Scheduler,
-    operands: &Reschedule,
-) -> Answer {
+fn reschedule(clock: &mut Clock, scheduler: &mut Scheduler, operands: &Reschedule) -> Answer {
     let (now, censor, priority) = (operands.now, operands.censor_time(), operands.priority);
     let withdrawn = is_queued(clock, scheduler);
     let lent = scheduler.lent_to(operands.clock);
@@ -88,7 +118,7 @@ fn reschedule(
     queued_answer(clock, scheduler, event, withdrawn)
 }
 
-fn resume(clock: &mut SurvivalClock, scheduler: &mut Scheduler, operands: &Reschedule) -> Answer {
+fn resume(clock: &mut Clock, scheduler: &mut Scheduler, operands: &Reschedule) -> Answer {
     let (now, censor, priority) = (operands.now, operands.censor_time(), operands.priority);
     let withdrawn = is_queued(clock, scheduler);
     let lent = scheduler.lent_to(operands.clock);
@@ -105,10 +135,12 @@ fn pause(clock: &mut SurvivalClock, scheduler: &mut Scheduler, now: f64) -> Answ
     }
 }
 
-/// The answer to DELIVER: ticks from the request, all else from `on_event_dispatched`.
-pub fn deliver(clock: &mut SurvivalClock, request: &Queued) -> Answer {
+/// The answer to DELIVER: ticks from the request, the piece that was queued, all else from
+/// `on_event_dispatched`.
+pub fn deliver(clock: &mut Clock, request: &Queued) -> Answer {
     let event = clock.on_event_dispatched();
-    Answer::sampled(event).with_ticks(request.request.at.ticks())
+    let piece = mem::take(&mut clock.piece);
+    Answer::sampled(event, piece).with_ticks(request.request.at.ticks())
 }
 
 /// Whether the request that the clock names is in the queue. If so, `reschedule` cancels it.
@@ -117,16 +149,33 @@ fn is_queued(clock: &SurvivalClock, scheduler: &Scheduler) -> bool {
     named.is_some_and(|id| scheduler.find(id).is_some())
 }
 
+/// The answer to RESCHEDULE and RESUME, whose winner is now held with its piece. Without an event
+/// winner and piece stay.
 fn queued_answer(
-    clock: &SurvivalClock,
+    clock: &mut Clock,
     scheduler: &Scheduler,
     event: Option<RealizedEvent>,
     withdrawn: bool,
 ) -> Answer {
+    if let Some(event) = event {
+        clock.piece = event_piece(clock, event);
+    }
     let queued = clock.scheduled_event_id.and_then(|id| scheduler.find(id));
     let ticks = queued.map_or(0, |queued| queued.request.at.ticks());
     Answer {
         withdrawn,
-        ..Answer::sampled(event).with_ticks(ticks)
+        ..Answer::sampled(event, clock.piece).with_ticks(ticks)
     }
+}
+
+/// The piece of the winning cause's channel, inverted from age 0 for what is left of its threshold;
+/// 0 where nothing is left. A censored event has 0.
+fn event_piece(clock: &SurvivalClock, event: RealizedEvent) -> u8 {
+    if event.is_censored {
+        return 0;
+    }
+    let channel = &clock.channels[&event.winning_cause];
+    let hazard = Hazard::of(&channel.hazard).expect("a hazard that is carried");
+    let left = channel.target_threshold - channel.accumulated_hazard;
+    to_byte(piece(&hazard, 0.0, left))
 }

@@ -2,7 +2,7 @@
 //! their bits.
 
 use crate::choices::{POLICIES, TIES, number_of};
-use crate::clock::CHANNELS;
+use crate::clock::{CHANNELS, Clock};
 use crate::hazard::{HAZARD_BYTES, Hazard};
 use crate::state::State;
 use kairo_ecs_core::Queued;
@@ -10,7 +10,7 @@ use kairo_ecs_des::{HazardChannelState, SurvivalClock};
 
 /// Cause, priority, hazard, accumulated hazard, threshold, interval start.
 pub const CHANNEL_BYTES: usize = 8 + HAZARD_BYTES + 24;
-pub const CLOCK_BYTES: usize = 63 + CHANNELS * CHANNEL_BYTES;
+pub const CLOCK_BYTES: usize = 64 + CHANNELS * CHANNEL_BYTES;
 /// Clock, index, ticks low and high, priority.
 pub const QUEUED_BYTES: usize = 29;
 
@@ -49,7 +49,7 @@ pub fn dump_queued(queued: &Queued, out: &mut Vec<u8>) {
 }
 
 /// `CLOCK_BYTES` bytes. The channels stand by ascending cause; places without one are zero.
-pub fn dump_clock(clock: &SurvivalClock, out: &mut Vec<u8>) {
+pub fn dump_clock(clock: &Clock, out: &mut Vec<u8>) {
     dump_head(clock, out);
     let mut channels: Vec<&HazardChannelState> = clock.channels.values().collect();
     channels.sort_by_key(|channel| channel.cause_id);
@@ -84,8 +84,8 @@ fn dump_channel(channel: &HazardChannelState, out: &mut Vec<u8>) {
     out.extend(channel.interval_start_time.to_le_bytes());
 }
 
-/// Scheduled event, winner, active flag, last update time.
-fn dump_tail(clock: &SurvivalClock, out: &mut Vec<u8>) {
+/// Scheduled event, winner, active flag, last update time, the winner's piece.
+fn dump_tail(clock: &Clock, out: &mut Vec<u8>) {
     out.push(u8::from(clock.scheduled_event_id.is_some()));
     let index = clock.scheduled_event_id.map_or(0, |id| id.index);
     out.extend(index.to_le_bytes());
@@ -97,4 +97,5 @@ fn dump_tail(clock: &SurvivalClock, out: &mut Vec<u8>) {
     out.extend(time.to_le_bytes());
     out.push(u8::from(clock.is_active));
     out.extend(clock.last_update_time.to_le_bytes());
+    out.push(clock.current_winner.map_or(0, |_| clock.piece));
 }

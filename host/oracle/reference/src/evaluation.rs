@@ -1,7 +1,9 @@
-//! The three public evaluations (document 01, "Hazard arithmetic"; kind 4 from document 02).
+//! The three public evaluations (document 01, "Hazard arithmetic"; kind 4 and the piece from
+//! document 02).
 
 use crate::fields::size_in_range;
 use crate::hazard::Hazard;
+use crate::piece::piece;
 use crate::refusal::{Refusal, first_failure};
 
 pub const HAZARD_AT: u8 = 0;
@@ -51,21 +53,23 @@ fn positive_zero(value: f64) -> f64 {
     if value == 0.0 { 0.0 } else { value }
 }
 
-/// An answer in fields: a number (0 or the refusal), whether there is a value, and the value.
+/// An answer in fields: a number (0 or the refusal), whether there is a value, the value, and the
+/// piece of an inversion.
 #[derive(Clone, Copy, Debug, Default, PartialEq)]
 pub struct Evaluation {
     pub number: u8,
     pub found: bool,
     pub value: f64,
+    pub piece: u64,
 }
 
 impl Evaluation {
     pub fn of(answer: Result<Option<f64>, Refusal>) -> Self {
         match answer {
             Ok(Some(value)) => Self {
-                number: 0,
                 found: true,
                 value,
+                ..Self::default()
             },
             Ok(None) => Self::default(),
             Err(refusal) => Self {
@@ -74,14 +78,26 @@ impl Evaluation {
             },
         }
     }
+
+    /// The same answer with the piece of an inversion that is not refused.
+    fn inverted(self, hazard: &Hazard, start: f64, w: f64) -> Self {
+        let accepted = self.number == 0;
+        let piece = if accepted { piece(hazard, start, w) } else { 0 };
+        Self {
+            piece: piece as u64,
+            ..self
+        }
+    }
 }
 
 /// One evaluation by its operation number. `w` is used by the inversion alone.
 pub fn evaluate(operation: u8, hazard: &Hazard, t: f64, w: f64) -> Evaluation {
-    Evaluation::of(match operation {
-        HAZARD_AT => hazard_at(hazard, t).map(Some),
-        CUMULATIVE_HAZARD => cumulative_hazard(hazard, t).map(Some),
-        INVERT_CUMULATIVE_HAZARD => invert_cumulative_hazard(hazard, t, w),
+    match operation {
+        HAZARD_AT => Evaluation::of(hazard_at(hazard, t).map(Some)),
+        CUMULATIVE_HAZARD => Evaluation::of(cumulative_hazard(hazard, t).map(Some)),
+        INVERT_CUMULATIVE_HAZARD => {
+            Evaluation::of(invert_cumulative_hazard(hazard, t, w)).inverted(hazard, t, w)
+        }
         _ => panic!("no such operation: {operation}"),
-    })
+    }
 }

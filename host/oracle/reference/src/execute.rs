@@ -2,14 +2,13 @@
 //! order.
 
 use crate::answer::Answer;
-use crate::clock;
+use crate::clock::{self, Clock};
 use crate::command::Command;
 use crate::command_fields::field_refusal;
 use crate::refusal::{Refusal, require};
 use crate::state::State;
 use crate::undo::undo;
 use crate::validation::validate;
-use kairo_ecs_des::SurvivalClock;
 use kairo_ecs_rng::DeterministicStream;
 
 /// Answers or refuses any bytes. A refusal changes nothing.
@@ -128,7 +127,7 @@ fn deliver(state: &mut State) -> Answer {
     clock::deliver(owner.as_mut().expect("a clock that is present"), &request)
 }
 
-fn present(state: &State, name: u8) -> &SurvivalClock {
+fn present(state: &State, name: u8) -> &Clock {
     let clock = state.clocks[usize::from(name)].as_ref();
     clock.expect("a clock that is present")
 }

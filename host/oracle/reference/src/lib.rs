@@ -1,6 +1,6 @@
 //! The calls of document 01 over the unchanged Rust: refusals, journal, undo and batch run are
-//! written from the paper, values come from the Rust. The rate for a wait and the values of hazard
-//! kind 4 are written from document 02 alone.
+//! written from the paper, values come from the Rust. The rate for a wait, the values of hazard
+//! kind 4 and the pieces of a curve are written from document 02 alone.
 
 #![forbid(unsafe_code)]
 
@@ -16,6 +16,7 @@ pub mod execute;
 pub mod fields;
 pub mod hazard;
 pub mod ledger;
+pub mod piece;
 pub mod rate_for_wait;
 pub mod record;
 pub mod refusal;

@@ -1,7 +1,7 @@
 //! A whole state as a record of fixed length, with a place for every field, from which `host/states` fills the rows of the engine.
 
 use crate::choices::{POLICIES, TIES};
-use crate::clock::{self, CHANNELS};
+use crate::clock::{self, CHANNELS, Clock};
 use crate::command::Create;
 use crate::command_fields::CLOCKS;
 use crate::dump::{CHANNEL_BYTES, CLOCK_BYTES, QUEUED_BYTES, dump_clock, dump_queued};
@@ -82,7 +82,7 @@ fn queued_from(reader: &mut Reader) -> Queued {
     }
 }
 
-fn clock_from(bytes: &[u8]) -> Option<SurvivalClock> {
+fn clock_from(bytes: &[u8]) -> Option<Clock> {
     let mut reader = Reader(bytes);
     let process_id = reader.u64();
     let entity = flagged(&mut reader, |r| EntityId::new(r.u64(), r.u32()));
@@ -98,7 +98,8 @@ fn clock_from(bytes: &[u8]) -> Option<SurvivalClock> {
     clock.current_winner = flagged(&mut tail, |r| (CauseId(r.u32()), r.f64()));
     clock.is_active = tail.u8() == 1;
     clock.last_update_time = tail.f64();
-    Some(clock)
+    let piece = clock.current_winner.map_or(0, |_| tail.u8());
+    Some(Clock::new(clock, piece))
 }
 
 /// A flag, then the fields that it speaks of, which are read in either case.

@@ -69,7 +69,7 @@ impl Refusal {
             Self::JournalFull => "the command is longer than the free part of the journal",
             Self::StreamExhausted => "a draw is due and the recorded thresholds are used up",
             Self::InvalidThreshold => "the threshold due is not finite, below 0 or above 1,024",
-            Self::AnswersFull => "fewer than 32 answer bytes are left for a command",
+            Self::AnswersFull => "fewer than 40 answer bytes are left for a command",
             Self::InvalidBuffers => "the stream is no multiple of 8 bytes or the result not 16",
         }
     }

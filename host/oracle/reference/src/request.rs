@@ -3,8 +3,12 @@
 use crate::choices::{TIES, has_field_valid};
 use crate::fields::{Reader, is_zero_bits, time_in_range};
 use crate::hazard::{HAZARD_BYTES, Hazard};
+use crate::piece::piece;
 use crate::refusal::{Refusal, first_failure};
-use kairo_ecs_rng::{CauseId, CompetingCause, CompetingHazards, DeterministicStream};
+use kairo_ecs_rng::{
+    CauseId, CompetingCause, CompetingHazards, DeterministicStream, RealizedEvent, TieBreaker,
+};
+use std::cmp::Reverse;
 
 pub const RECORDS: usize = 8;
 pub const RECORD_BYTES: usize = 8 + HAZARD_BYTES;
@@ -123,6 +127,34 @@ impl Request {
         let before = (0..self.used_count()).filter(|other| order(*other) < order(place));
         let threshold = stream.threshold(stream.position() + before.count() as u64);
         threshold.expect("a draw that can be made")
+    }
+
+    /// The piece of an uncensored event of these records (document 02, change 6), inverted from the age for the threshold that its
+    /// record drew.
+    pub fn piece(&self, event: &RealizedEvent, stream: &DeterministicStream) -> usize {
+        let place = self.winner(event, stream);
+        piece(
+            &self.records[place].hazard,
+            self.age,
+            self.drawn(place, stream),
+        )
+    }
+
+    /// Of the used records with the event's cause and wait the first, by priority the first with the highest one.
+    fn winner(&self, event: &RealizedEvent, stream: &DeterministicStream) -> usize {
+        let wins = |place: &usize| {
+            let record = &self.records[*place];
+            let w = self.drawn(*place, stream);
+            let wait = record.hazard.build().invert_cumulative_hazard(self.age, w);
+            record.cause == event.winning_cause.0 && wait == Some(event.delta_time)
+        };
+        let priority = |place: &usize| match TIES[usize::from(self.tie)] {
+            TieBreaker::ExplicitPriority => self.records[*place].priority,
+            _ => 0,
+        };
+        let places = (0..self.used_count()).filter(wins);
+        let winner = places.min_by_key(|place| Reverse(priority(place)));
+        winner.expect("a record that waits so long")
     }
 
     /// By 4 to 7, each number over all fields before the next, then 10.

@@ -1,6 +1,7 @@
 //! The sampler (document 01, "Run call and sampler").
 
 use crate::answer::Answer;
+use crate::piece::to_byte;
 use crate::refusal::Refusal;
 use crate::request::Request;
 use kairo_ecs_rng::DeterministicStream;
@@ -39,7 +40,10 @@ pub fn sample(request: &Request, thresholds: &[u8], position: &mut u64) -> Answe
         return Answer::refused(refusal);
     }
     let causes = request.build(&stream);
+    let undrawn = stream.clone();
     let event = causes.sample_next(request.age, request.censor_age(), &mut stream);
     *position = stream.position();
-    Answer::sampled(event)
+    let winner = event.filter(|event| !event.is_censored);
+    let piece = winner.map_or(0, |event| request.piece(&event, &undrawn));
+    Answer::sampled(event, to_byte(piece))
 }

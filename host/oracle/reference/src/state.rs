@@ -1,13 +1,13 @@
 //! The state of an engine and its opening (document 01, "Clocks", "Journal and undo").
 
+use crate::clock::Clock;
 use crate::command_fields::CLOCKS;
 use crate::refusal::{Refusal, require};
 use kairo_ecs_core::Scheduler;
-use kairo_ecs_des::SurvivalClock;
 
 #[derive(Clone, Debug)]
 pub struct State {
-    pub clocks: [Option<SurvivalClock>; CLOCKS],
+    pub clocks: [Option<Clock>; CLOCKS],
     /// Request counter and queue.
     pub scheduler: Scheduler,
     /// The draw position.

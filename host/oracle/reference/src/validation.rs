@@ -1,13 +1,13 @@
-//! State validation: refusal 1, as its row lists it and no more.
+//! State validation: refusal 1, as its row lists it and no more; any piece passes.
 //!
 //! Causes that do not ascend cannot be expressed: the Rust keeps channels in a map by cause.
 
-use crate::clock::CHANNELS;
+use crate::clock::{CHANNELS, Clock};
 use crate::hazard::Hazard;
 use crate::refusal::{Refusal, require};
 use crate::state::State;
 use kairo_ecs_core::{Queued, Scheduler};
-use kairo_ecs_des::{HazardChannelState, SurvivalClock};
+use kairo_ecs_des::HazardChannelState;
 
 /// Requests in the queue.
 pub const QUEUE: usize = 16;
@@ -22,7 +22,7 @@ pub fn validate(state: &State, thresholds: u64, journal: usize) -> Result<(), Re
     require(valid, Refusal::InvalidState)
 }
 
-fn clock_valid(clock: &SurvivalClock) -> bool {
+fn clock_valid(clock: &Clock) -> bool {
     let winner_time = clock.current_winner.map_or(0.0, |(_, time)| time);
     let floats = [clock.tick_scale, clock.last_update_time, winner_time];
     clock.channels.len() <= CHANNELS

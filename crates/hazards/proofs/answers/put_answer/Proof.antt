@@ -56,23 +56,40 @@ add-put-u64-2 c =
 put-u64-requires-2 : tie.Need-put-u64-requires-2
 put-u64-requires-2 c κs = search needs
 
+add-put-u64-3 : tie.Need-add-put-u64-3
+add-put-u64-3 c =
+    let w = c .before .before .before .before .before .before .before .before .before .before .before in
+    let u = w .before .before .before .before .before .before .before .before .before .before .before in
+    let a = u .before .before .before .before .args in
+    omega (arith, leb-true (a .at + answerWidth) (length (a .bytes .now)) (sym (u .before .lies-whole .ensures) ∙ u .if1 .taken))
+
+cast-put-u64 : tie.Need-cast-put-u64
+cast-put-u64 c = search needs
+
+put-u64-requires-3 : tie.Need-put-u64-requires-3
+put-u64-requires-3 c κs = search needs
+
 same-length : tie.Need-same-length
 same-length c = search needs
 
 returns : tie.Need-returns
 returns c =
-    let f = c .before .before .before .before .before .before .before .before .before .before in
+    let g = c .before .before .before .before .before in
+    let f = g .before .before .before .before .before .before .before .before .before .before in
     let h = f .before .before .before .before .before .before .before .before .before .before in
     let whole = sym (h .before .before .lies-whole .ensures) ∙ h .before .if1 .taken in
-    let a = h .before .before .before .before .before .args in
+    let start = h .before .before .before .before .before in
+    let a = start .args in
     rw (
-      c .before .before .put-u642 .ensures,
-      c .before .before .before .before .before .before .put-u64 .ensures,
+      c .before .before .put-u643 .ensures,
+      g .before .before .put-u642 .ensures,
+      g .before .before .before .before .before .before .put-u64 .ensures,
       f .put-f64 .ensures,
       f .before .before .before .before .put-u322 .ensures,
       f .before .before .before .before .before .before .before .before .put-u32 .ensures,
     )
-    (answer-written (a .bytes .now) (a .at) (a .answer) (h .head-word .result) (h .head-word .ensures) (leb-true _ _ whole))
+    (answer-written (a .bytes .now) (a .at) (a .answer) (h .head-word .result) (h .head-word .ensures)
+    (omega (arith, start .good)) (leb-true _ _ whole))
 
 same-length-2 : tie.Need-same-length-2
 same-length-2 c = search needs
@@ -95,6 +112,9 @@ put-answer-spec =
     put-u64-requires
     add-put-u64-2
     put-u64-requires-2
+    add-put-u64-3
+    cast-put-u64
+    put-u64-requires-3
     same-length
     returns
     same-length-2

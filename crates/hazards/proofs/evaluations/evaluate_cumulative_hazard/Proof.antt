@@ -1,7 +1,7 @@
 -- `evaluations::evaluate_cumulative_hazard` meets its contract.
 use borrow.Author.Needs.{needs}
 use Rattle.hazards.specs.Checks.{fieldsFrom}
-use Rattle.hazards.specs.Evaluations.{evaluatedCumulativeHazard}
+use Rattle.hazards.specs.Evaluations.{withoutValue, evaluatedCumulativeHazard}
 use Rattle.hazards.specs.Rates.{cumulativeHazard}
 use Rattle.hazards.proofs.EvaluationLaws.{refused, evaluated-at}
 use Rattle.hazards.proofs.evaluations.evaluate_cumulative_hazard.Statement.{statement}
@@ -22,7 +22,7 @@ returns c =
     let s = c .before .before in
     let a = s .before .before .args in
     let f = fieldsFrom (a .kind) (a .first) (a .count) (a .ends .now) (a .rates .now) in
-    refused f (s .evaluation-refusal .ensures) (s .before .in-range .ensures) _ (c .before .if1 .taken) (c .without-value .ensures)
+    refused f (s .evaluation-refusal .ensures) (s .before .in-range .ensures) withoutValue _ (c .before .if1 .taken) (c .without-value .ensures)
 
 rate-of-kind-requires : tie.Need-rate-of-kind-requires
 rate-of-kind-requires c κs = search needs

@@ -12,7 +12,7 @@ use Rattle.hazards.proofs.rates.piecewise_wait.Tie as tie
 
 abbrev Inv-loop : tie.InvT-loop
 Inv-loop ends rates count trailing start w used i₀ cur-t₀ remaining-w₀ i cur-t remaining-w =
-    waitFrom (piecesBy (pairAt (intervalsFrom ends rates count)) i (used - i)) trailing start cur-t remaining-w
+    waitFrom i (piecesBy (pairAt (intervalsFrom ends rates count)) i (used - i)) trailing start cur-t remaining-w
     ≡ piecewiseWait (usedPairs (intervalsFrom ends rates count)) trailing start w
 
 abbrev μ-loop : tie.MeasureT-loop
@@ -28,7 +28,7 @@ loop-holds : tie.Need-loop-holds Inv-loop μ-loop
 loop-holds c =
     let a = c .before .before .args in
     let p = intervalsFrom (a .ends .now) (a .rates .now) (a .count) in
-    rw (used-after p (c .before .at-most-eight .ensures) (a .start) (c .interval-after .ensures))
+    rw (used-after p (c .before .at-most-eight .ensures) (a .start) (c .interval-after .ensures), c .interval-after .ensures)
 
 mul-end-t : tie.Need-mul-end-t Inv-loop μ-loop
 mul-end-t c = omega arith
@@ -48,14 +48,18 @@ not-below-zero-requires c κs = search needs
 within-capacity-requires : tie.Need-within-capacity-requires Inv-loop μ-loop
 within-capacity-requires c κs = search needs
 
+ends-in-requires : tie.Need-ends-in-requires Inv-loop μ-loop
+ends-in-requires c κs = search needs
+
 returns : tie.Need-returns Inv-loop μ-loop
 returns c =
-    let l = c .before .before .before .before .before .before in
+    let l = c .before .before .before .before .before .before .before in
     let a = l .before .before .before .args in
     let p = intervalsFrom (a .ends .now) (a .rates .now) (a .count) in
     let next = pieces-next (pairAt p) (l .before .before .at-most-eight .result) (l .loop .i) (omega arith) in
-    sym (wait-here (a .trailing) (a .start) (l .loop .cur-t) (l .loop .remaining-w) next (c .before .before .not-below-zero .ensures)
-    (sym (c .before .within-capacity .ensures) ∙ c .if1 .taken))
+    c .ends-in .ensures
+    ∙ sym (wait-here (l .loop .i) (a .trailing) (a .start) (l .loop .cur-t) (l .loop .remaining-w) next (c .before .before .before .not-below-zero .ensures)
+    (sym (c .before .before .within-capacity .ensures) ∙ c .before .if1 .taken))
     ∙ l .loop .inv
 
 add-i : tie.Need-add-i Inv-loop μ-loop
@@ -70,7 +74,7 @@ loop-again c =
     let a = l .before .before .before .args in
     let p = intervalsFrom (a .ends .now) (a .rates .now) (a .count) in
     let next = pieces-next (pairAt p) (l .before .before .at-most-eight .result) (l .loop .i) (omega arith) in
-    sym (wait-later (a .trailing) (a .start) (l .loop .cur-t) (l .loop .remaining-w) next (c .before .before .not-below-zero .ensures)
+    sym (wait-later (l .loop .i) (a .trailing) (a .start) (l .loop .cur-t) (l .loop .remaining-w) next (c .before .before .not-below-zero .ensures)
     (sym (c .before .within-capacity .ensures) ∙ c .if1 .left))
     ∙ l .loop .inv
 
@@ -100,6 +104,7 @@ piecewise-wait-spec =
     element-copy-out-not-below-zero
     not-below-zero-requires
     within-capacity-requires
+    ends-in-requires
     returns
     add-i
     loop-less
