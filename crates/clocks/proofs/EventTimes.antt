@@ -59,7 +59,7 @@ module _ (now : Float) (u : Upto (2 ^ 40) now) where
   after-timed : (cause priority : ℕ) (wait : Wait) → Held wait → Each Timed (candidateAfter cause priority (λ dt. add binary64 now dt) wait)
   unfolding candidateAfter
   after-timed cause priority Never h = none
-  after-timed cause priority (After dt) h =
+  after-timed cause priority (After dt piece) h =
       by-test (isFiniteWait dt)
       (λ (e : isFiniteWait dt ≡ true). rw e (next (later-upto largest dt u h (rw e tt) later-lands time-lands) none)) (λ e. rw e none)
 

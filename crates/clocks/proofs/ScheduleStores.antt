@@ -13,7 +13,7 @@ use lib.Seq.{getD-set-same, getD-set-other}
 use Rattle.hazards.proofs.Cases.{both-true}
 use Rattle.clocks.specs.Clocks.{withSchedule}
 use Rattle.clocks.specs.Layout.{WordRows, FloatRows, channelAt, channelsFrom, clockOf, clockFrom, Sized, Leaves, Coded}
-use Rattle.clocks.specs.Layout.{isFlag, isU32, codedSchedule, codedTimes}
+use Rattle.clocks.specs.Layout.{isFlag, isU32, isByte, codedSchedule, codedTimes}
 use Rattle.clocks.specs.declared.clocks.ScheduledEvent.{ScheduledEvent}
 use Rattle.clocks.specs.declared.clocks.Winner.{Winner}
 use Rattle.clocks.proofs.RowLaws.{flag-back, flag-coded, leaves-as}
@@ -65,7 +65,7 @@ module _ (w : WordRows) (f : FloatRows) (sized : Sized w f) (b : List ℕ) (ts :
     coded = λ h. schedule-coded h (coded h .0) (coded h .1);
   }
 
--- ---- event, winner, active flag and last update, and what is spare as it was
+-- ---- event, winner with its piece, active flag and last update, and what is spare as it was
 
 abbrev at : List ℕ → ℕ → ℕ
 at b i = getD b i 0
@@ -74,18 +74,19 @@ abbrev time : List Float → ℕ → Float
 time ts i = getD ts i nan
 
 abbrev spares : List ℕ → Bool
-spares b = eqb (at b 5) 0 && (eqb (at b 6) 0 && eqb (at b 7) 0)
+spares b = eqb (at b 6) 0 && eqb (at b 7) 0
 
 spares-coded : (b : List ℕ) → codedSchedule b ≡ true → spares b ≡ true
 unfolding codedSchedule
 spares-coded b h =
-    let rest = isFlag (at b 4) && spares b in
+    let last = isByte (at b 5) && spares b in
+    let rest = isFlag (at b 4) && last in
     let winner = both-true (isFlag (at b 0)) (isFlag (at b 2) && (isU32 (at b 3) && rest)) h .1 in
     let cause = both-true (isFlag (at b 2)) (isU32 (at b 3) && rest) winner .1 in
-    both-true (isFlag (at b 4)) (spares b) (both-true (isU32 (at b 3)) rest cause .1) .1
+    both-true (isByte (at b 5)) (spares b) (both-true (isFlag (at b 4)) last (both-true (isU32 (at b 3)) rest cause .1) .1) .1
 
 module _ (w : WordRows) (f : FloatRows) (sized : Sized w f) (event : ScheduledEvent) (winner : Winner) (active : Bool) (last : Float)
-    (u32 : winner .«cause_id» < 4294967296) where
+    (u32 : winner .«cause_id» < 4294967296) (byte : winner .piece < 256) where
   abbrev b : List ℕ
   b = getD w 1 []
 
@@ -94,7 +95,7 @@ module _ (w : WordRows) (f : FloatRows) (sized : Sized w f) (event : ScheduledEv
 
   abbrev pub scheduleRow : List ℕ
   scheduleRow =
-      cond (event .present) 1 0 ∷ event .index ∷ cond (winner .present) 1 0 ∷ winner .«cause_id» ∷ cond active 1 0 ∷ at b 5 ∷ at b 6
+      cond (event .present) 1 0 ∷ event .index ∷ cond (winner .present) 1 0 ∷ winner .«cause_id» ∷ cond active 1 0 ∷ winner .piece ∷ at b 6
       ∷ at b 7
       ∷ []
 
@@ -103,7 +104,7 @@ module _ (w : WordRows) (f : FloatRows) (sized : Sized w f) (event : ScheduledEv
 
   row-coded : codedSchedule b ≡ true → codedSchedule scheduleRow ≡ true
   unfolding codedSchedule
-  row-coded h = rw (flag-coded (event .present), flag-coded (winner .present), lt-ltb _ _ u32, flag-coded active) (spares-coded b h)
+  row-coded h = rw (flag-coded (event .present), flag-coded (winner .present), lt-ltb _ _ u32, flag-coded active, lt-ltb _ _ byte) (spares-coded b h)
 
   times-coded : codedTimes ts ≡ true → codedTimes timesRow ≡ true
   unfolding codedTimes
@@ -111,7 +112,7 @@ module _ (w : WordRows) (f : FloatRows) (sized : Sized w f) (event : ScheduledEv
 
   row-clock : clockOf (getD w 0 []) scheduleRow timesRow (clockFrom w f .channels) ≡ withSchedule (clockFrom w f) event winner active last
   unfolding clockFrom clockOf
-  row-clock = rw (flag-back (event .present), flag-back (winner .present), flag-back active, mod-eq-of-lt u32)
+  row-clock = rw (flag-back (event .present), flag-back (winner .present), flag-back active, mod-eq-of-lt u32, mod-eq-of-lt byte)
 
   pub schedule-put : Leaves w f (set w 1 scheduleRow) (set f 0 timesRow) (withSchedule (clockFrom w f) event winner active last)
   schedule-put =

@@ -1,8 +1,8 @@
 -- What finalEvent, scheduledFor, pause and onEventDispatched are in each of their cases.
 use mathlib.Core.Path.{_≡_}
-use mathlib.Core.Bool.{true, false}
+use mathlib.Core.Bool.{Bool, true, false}
 use Prim.Native.Nat.{ℕ}
-use lib.Dec.{eqb}
+use borrow.Author.Tests.{eq-eqb, ne-eqb}
 use lib.Ieee.{Float, binary64, add, sub, le}
 use Rattle.hazards.specs.Floats.{notBelowZero}
 use Rattle.hazards.specs.Refusals.{noCause}
@@ -28,24 +28,24 @@ module _ (now : Float) (censor : Censor) where
   no-candidate-late p l = rw (p, l)
 
   pub no-candidate-censored : censor .present ≡ true → le now (censor .time) ≡ true
-      → finalEvent Nothing now censor ≡ realized noCause (sub binary64 (censor .time) now) true
+      → finalEvent Nothing now censor ≡ realized noCause (sub binary64 (censor .time) now) true 0
   unfolding finalEvent
   no-candidate-censored p l = rw (p, l)
 
 -- ---- with a candidate
 module _ (c : Candidate) (now : Float) (censor : Censor) where
   pub found-no-censor : censor .present ≡ false
-      → finalEvent (Found c) now censor ≡ realized (c .«cause_id») (notBelowZero (sub binary64 (c .time) now)) false
+      → finalEvent (Found c) now censor ≡ realized (c .«cause_id») (notBelowZero (sub binary64 (c .time) now)) false (c .piece)
   unfolding finalEvent
   found-no-censor p = rw p
 
   pub found-in-time : censor .present ≡ true → le (c .time) (censor .time) ≡ true
-      → finalEvent (Found c) now censor ≡ realized (c .«cause_id») (notBelowZero (sub binary64 (c .time) now)) false
+      → finalEvent (Found c) now censor ≡ realized (c .«cause_id») (notBelowZero (sub binary64 (c .time) now)) false (c .piece)
   unfolding finalEvent
   found-in-time p l = rw (p, l)
 
   pub found-censored : censor .present ≡ true → le (c .time) (censor .time) ≡ false
-      → finalEvent (Found c) now censor ≡ realized noCause (notBelowZero (sub binary64 (censor .time) now)) true
+      → finalEvent (Found c) now censor ≡ realized noCause (notBelowZero (sub binary64 (censor .time) now)) true 0
   unfolding finalEvent
   found-censored p l = rw (p, l)
 
@@ -63,7 +63,13 @@ module _ (k : SurvivalClock) (now : Float) (event : RealizedEvent) (index : ℕ)
   scheduled = record {
     clock =
         withSchedule k (record { present = true; index = index })
-        (record { present = true; «cause_id» = event .«winning_cause»; time = add binary64 now (event .«delta_time») }) true now;
+        (record {
+          present = true;
+          «cause_id» = event .«winning_cause»;
+          time = add binary64 now (event .«delta_time»);
+          piece = event .piece;
+        })
+        true now;
     withdrawn = k .«scheduled_event_id»;
     event = event;
     ticks = ticksAt now (event .«delta_time») (k .«tick_scale»);
@@ -101,9 +107,17 @@ module _ (k : SurvivalClock) where
   unfolding onEventDispatched
   dispatched-none p = rw p
 
-  pub dispatched-one : k .«current_winner» .present ≡ true
-      → onEventDispatched k
-      ≡ idle (realized (k .«current_winner» .«cause_id»)
-      (notBelowZero (sub binary64 (k .«current_winner» .time) (k .«last_update_time»))) (eqb (k .«current_winner» .«cause_id») noCause))
+  abbrev pub delivered : Bool → ℕ → RealizedEvent
+  delivered censored piece =
+      realized (k .«current_winner» .«cause_id»)
+      (notBelowZero (sub binary64 (k .«current_winner» .time) (k .«last_update_time»))) censored piece
+
+  pub dispatched-censored : k .«current_winner» .present ≡ true → k .«current_winner» .«cause_id» ≡ noCause
+      → onEventDispatched k ≡ idle (delivered true 0)
   unfolding onEventDispatched
-  dispatched-one p = rw p
+  dispatched-censored p e = rw (p, eq-eqb _ _ e)
+
+  pub dispatched-one : k .«current_winner» .present ≡ true → (k .«current_winner» .«cause_id» ≡ noCause → ⊥)
+      → onEventDispatched k ≡ idle (delivered false (k .«current_winner» .piece))
+  unfolding onEventDispatched
+  dispatched-one p n = rw (p, ne-eqb _ _ n)

@@ -38,6 +38,7 @@ use crate::layout::TIE;
 use crate::layout::TIMES;
 use crate::layout::WINNER;
 use crate::layout::WINNER_CAUSE;
+use crate::layout::WINNER_PIECE;
 use crate::layout::WINNER_TIME;
 use crate::layout::byte_from;
 use crate::layout::u32_from;
@@ -57,8 +58,8 @@ fn settings_coded(a: &[u64; 8]) -> bool
 fn schedule_coded(b: &[u64; 8]) -> bool
     ensures { λ r. ⌜ r ≡ codedSchedule (now (b .entry)) ⌝ }
 {
-    let spare = (b[5] == 0) & ((b[6] == 0) & (b[7] == 0));
-    (b[EVENT] < 2) & ((b[WINNER] < 2) & ((b[WINNER_CAUSE] < U32_END) & ((b[ACTIVE] < 2) & spare)))
+    let rest = (b[WINNER_PIECE] < 256) & ((b[6] == 0) & (b[7] == 0));
+    (b[EVENT] < 2) & ((b[WINNER] < 2) & ((b[WINNER_CAUSE] < U32_END) & ((b[ACTIVE] < 2) & rest)))
 }
 
 // The last four floats of a row. Each is read where the one before it passed, which takes less time.

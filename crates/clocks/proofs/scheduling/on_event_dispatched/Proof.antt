@@ -1,11 +1,11 @@
--- `scheduling::on_event_dispatched` meets its contract: without a winner and with one.
+-- `scheduling::on_event_dispatched` meets its contract: without a winner, with a censored one and with another.
 use mathlib.Core.Path.{sym, _∙_, ap}
 use borrow.Author.Tests.{not-true, not-false}
 use Rattle.clocks.specs.Layout.{clockOf, clockFrom}
 use Rattle.clocks.specs.Scheduling.{Dispatched}
 use Rattle.clocks.specs.declared.clocks.Winner.{Winner}
 use Rattle.clocks.proofs.RowLaws.{leaves-as}
-use Rattle.clocks.proofs.SchedulingCases.{dispatched-none, dispatched-one}
+use Rattle.clocks.proofs.SchedulingCases.{dispatched-none, dispatched-censored, dispatched-one}
 use borrow.Author.Needs.{needs}
 use Rattle.clocks.proofs.scheduling.on_event_dispatched.Statement.{statement}
 use Rattle.clocks.proofs.scheduling.on_event_dispatched.Tie as tie
@@ -71,14 +71,44 @@ same-length-4 c = search needs
 returns-2 : tie.Need-returns-2
 unfolding clockFrom clockOf
 returns-2 c =
-    let stored = c .before .before .before .before .before .before .before .before in
+    let d = c .before .before .before in
+    let stored = d .before .before .before .before .before .before in
     let read = stored .before .before .before .before .before in
     let a = read .before .before .before .before .args in
     let won = ap (λ (w : Winner). w .present) (sym (read .winner-in .ensures)) in
-    let e = sym (dispatched-one (clockFrom (a .words .now) (a .floats .now)) (won ∙ not-false _ (c .before .before .before .before .if1 .left))) in (
+    let none = ap (λ (w : Winner). w .«cause_id») (sym (read .winner-in .ensures)) in
+    let e =
+    sym (dispatched-censored (clockFrom (a .words .now) (a .floats .now)) (won ∙ not-false _ (d .before .before .if1 .left))
+    (none ∙ c .before .if2 .taken)) in (
       leaves-as (stored .put-schedule .ensures)
           (rw (stored .before .before .not-scheduled .ensures, stored .before .no-winner .ensures) (ap (λ (r : Dispatched). r .clock) e)),
-      rw (c .realized .ensures, c .before .before .not-below-zero .ensures, read .winner-in .ensures) (ap (λ (r : Dispatched). r .event) e),
+      rw (c .realized .ensures, d .not-below-zero .ensures, read .winner-in .ensures) (ap (λ (r : Dispatched). r .event) e),
+    )
+
+realized-requires-2 : tie.Need-realized-requires-2
+realized-requires-2 c κs = search needs
+
+same-length-5 : tie.Need-same-length-5
+same-length-5 c = search needs
+
+same-length-6 : tie.Need-same-length-6
+same-length-6 c = search needs
+
+returns-3 : tie.Need-returns-3
+unfolding clockFrom clockOf
+returns-3 c =
+    let d = c .before .before .before in
+    let stored = d .before .before .before .before .before .before in
+    let read = stored .before .before .before .before .before in
+    let a = read .before .before .before .before .args in
+    let won = ap (λ (w : Winner). w .present) (sym (read .winner-in .ensures)) in
+    let cause = ap (λ (w : Winner). w .«cause_id») (read .winner-in .ensures) in
+    let e =
+    sym (dispatched-one (clockFrom (a .words .now) (a .floats .now)) (won ∙ not-false _ (d .before .before .if1 .left))
+    (λ n. c .before .if2 .left (cause ∙ n))) in (
+      leaves-as (stored .put-schedule .ensures)
+          (rw (stored .before .before .not-scheduled .ensures, stored .before .no-winner .ensures) (ap (λ (r : Dispatched). r .clock) e)),
+      rw (c .realized2 .ensures, d .not-below-zero .ensures, read .winner-in .ensures) (ap (λ (r : Dispatched). r .event) e),
     )
 
 pub on-event-dispatched-spec : {M : Type 1} → statement M
@@ -101,4 +131,8 @@ on-event-dispatched-spec =
     realized-requires
     same-length-3
     same-length-4
-    returns-2)
+    returns-2
+    realized-requires-2
+    same-length-5
+    same-length-6
+    returns-3)

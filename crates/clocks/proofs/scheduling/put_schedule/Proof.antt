@@ -23,35 +23,35 @@ cast-t15 c = search needs
 flag-word-requires-3 : tie.Need-flag-word-requires-3
 flag-word-requires-3 c κs = search needs
 
-array-read-t19 : tie.Need-array-read-t19
-array-read-t19 c = search needs
+cast-t17 : tie.Need-cast-t17
+cast-t17 c = search needs
 
-array-read-t22 : tie.Need-array-read-t22
-array-read-t22 c = search needs
+array-read-t20 : tie.Need-array-read-t20
+array-read-t20 c = search needs
 
-array-read-t25 : tie.Need-array-read-t25
-array-read-t25 c = search needs
+array-read-t23 : tie.Need-array-read-t23
+array-read-t23 c = search needs
 
 slice-set-from-words : tie.Need-slice-set-from-words
 slice-set-from-words c = search needs
 
-array-read-t29 : tie.Need-array-read-t29
-array-read-t29 c = search needs
+array-read-t27 : tie.Need-array-read-t27
+array-read-t27 c = search needs
 
-array-read-t32 : tie.Need-array-read-t32
-array-read-t32 c = search needs
+array-read-t30 : tie.Need-array-read-t30
+array-read-t30 c = search needs
 
-array-read-t35 : tie.Need-array-read-t35
-array-read-t35 c = search needs
+array-read-t33 : tie.Need-array-read-t33
+array-read-t33 c = search needs
 
-array-read-t38 : tie.Need-array-read-t38
-array-read-t38 c = search needs
+array-read-t36 : tie.Need-array-read-t36
+array-read-t36 c = search needs
 
-array-read-t41 : tie.Need-array-read-t41
-array-read-t41 c = search needs
+array-read-t39 : tie.Need-array-read-t39
+array-read-t39 c = search needs
 
-array-read-t44 : tie.Need-array-read-t44
-array-read-t44 c = search needs
+array-read-t42 : tie.Need-array-read-t42
+array-read-t42 c = search needs
 
 slice-set-from-floats : tie.Need-slice-set-from-floats
 slice-set-from-floats c = search needs
@@ -64,10 +64,10 @@ same-length-2 c = search needs
 
 returns : tie.Need-returns
 returns c =
-    let m = c .before .before .before .before .before .before in
+    let m = c .before .before .before .before .before .before .before in
     let a = m .args in
-    rw (c .flag-word3 .ensures, c .before .before .flag-word2 .ensures, c .before .before .before .flag-word .ensures)
-    (schedule-put (a .words .now) (a .floats .now) (m .pre) (a .event) (a .winner) (a .active) (a .last-update) (omega arith))
+    rw (c .before .flag-word3 .ensures, c .before .before .before .flag-word2 .ensures, c .before .before .before .before .flag-word .ensures)
+    (schedule-put (a .words .now) (a .floats .now) (m .pre) (a .event) (a .winner) (a .active) (a .last-update) (omega arith) (omega (arith, m .good)))
 
 pub put-schedule-spec : {M : Type 1} → statement M
 put-schedule-spec =
@@ -79,16 +79,16 @@ put-schedule-spec =
     flag-word-requires-2
     cast-t15
     flag-word-requires-3
-    array-read-t19
-    array-read-t22
-    array-read-t25
+    cast-t17
+    array-read-t20
+    array-read-t23
     slice-set-from-words
-    array-read-t29
-    array-read-t32
-    array-read-t35
-    array-read-t38
-    array-read-t41
-    array-read-t44
+    array-read-t27
+    array-read-t30
+    array-read-t33
+    array-read-t36
+    array-read-t39
+    array-read-t42
     slice-set-from-floats
     same-length
     same-length-2

@@ -5,14 +5,14 @@ use borrow.Author.Needs.{needs}
 use Rattle.clocks.proofs.validation.schedule_coded.Statement.{statement}
 use Rattle.clocks.proofs.validation.schedule_coded.Tie as tie
 
-element-copy-out-spare : tie.Need-element-copy-out-spare
-element-copy-out-spare c = search needs
+element-copy-out-rest : tie.Need-element-copy-out-rest
+element-copy-out-rest c = search needs
 
-element-copy-out-spare-2 : tie.Need-element-copy-out-spare-2
-element-copy-out-spare-2 c = search needs
+element-copy-out-rest-2 : tie.Need-element-copy-out-rest-2
+element-copy-out-rest-2 c = search needs
 
-element-copy-out-spare-3 : tie.Need-element-copy-out-spare-3
-element-copy-out-spare-3 c = search needs
+element-copy-out-rest-3 : tie.Need-element-copy-out-rest-3
+element-copy-out-rest-3 c = search needs
 
 element-copy-out-result : tie.Need-element-copy-out-result
 element-copy-out-result c = search needs
@@ -34,9 +34,9 @@ pub schedule-coded-spec : {M : Type 1} → statement M
 schedule-coded-spec =
     tie.close
     (tie.spec
-    element-copy-out-spare
-    element-copy-out-spare-2
-    element-copy-out-spare-3
+    element-copy-out-rest
+    element-copy-out-rest-2
+    element-copy-out-rest-3
     element-copy-out-result
     element-copy-out-result-2
     element-copy-out-result-3
