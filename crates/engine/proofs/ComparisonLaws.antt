@@ -94,6 +94,7 @@ schedule-same k =
       flag-same (k .«current_winner» .present),
       number-same (k .«current_winner» .«cause_id»),
       float-same (k .«current_winner» .time),
+      number-same (k .«current_winner» .piece),
       flag-same (k .«is_active»),
       float-same (k .«last_update_time»),
     )

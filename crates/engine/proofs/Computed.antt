@@ -7,7 +7,7 @@ use Rattle.hazards.specs.FirstPlace.{firstOf}
 use Rattle.hazards.specs.Roots.{fieldsMultiple, multiple, squareAbove, rootPattern, nearestRoot}
 use Rattle.hazards.specs.Rates.{weibullHazard, weibullCumulative, weibullWait}
 use Rattle.hazards.specs.Rates.{piecesBy, firstAfter, usedPairs, piecewiseHazard, hazardOfRate, hazardAt, piecewiseCumulative}
-use Rattle.hazards.specs.Rates.{cumulativeOfRate, cumulativeHazard, waitFrom, constantWait, waitOfRate, invertCumulativeHazard, ownRate}
+use Rattle.hazards.specs.Rates.{cumulativeOfRate, cumulativeHazard, endsIn, waitFrom, constantWait, waitOfRate, invertCumulativeHazard, ownRate}
 use Rattle.hazards.specs.Checks.{rangeFault, ascending, intervalsFault, choiceFault, hazardFaults}
 use Rattle.hazards.specs.Draws.{drawAt}
 use Rattle.hazards.specs.Answers.{headBytes, answerBytes}
@@ -38,7 +38,7 @@ unfoldable pub computed : Unit {0}
 unfolding ofBits toBits isNan add sub mul div lt le notBelowZero zeroBits inRange isTime isThreshold isFiniteWait all foldl insertBy sortBy
     littleEndian bytesOf fieldAt f64At i32At firstOf fieldsMultiple multiple squareAbove rootPattern nearestRoot weibullHazard
     weibullCumulative weibullWait piecesBy firstAfter usedPairs piecewiseHazard hazardOfRate hazardAt piecewiseCumulative
-    cumulativeOfRate cumulativeHazard waitFrom constantWait waitOfRate invertCumulativeHazard ownRate
+    cumulativeOfRate cumulativeHazard endsIn waitFrom constantWait waitOfRate invertCumulativeHazard ownRate
     rangeFault ascending intervalsFault choiceFault hazardFaults drawAt headBytes answerBytes candidateAfter preferred precedes
     earlier earliest faultsOfAll settingsFaults drawsRefusal sampleRefusal candidates censoredAt sampledEvent sampleNext settledHazard
     onUsed placeOfCause placeForNew insertAt channelCandidate wholeTicks newClock clockCandidates earliestEvent setAgain setNew setChannel

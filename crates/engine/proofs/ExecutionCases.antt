@@ -272,6 +272,7 @@ pub pause-answer : (w : Bool) {a : Answer} → a ≡ noEvent 0
       delta = a .delta;
       «ticks_low» = a .«ticks_low»;
       «ticks_high» = a .«ticks_high»;
+      piece = a .piece;
     }
     ≡ withdrawnAnswer w
 pause-answer w e = rw e

@@ -14,7 +14,7 @@ use Rattle.hazards.specs.Rates.{kinds}
 use Rattle.hazards.proofs.Cases.{by-test, both-true}
 use Rattle.clocks.specs.Channels.{emptyChannel}
 use Rattle.clocks.specs.Layout.{WordRows, FloatRows, everyBelow, channelFrom, channelAt, clockOf, clockFrom, presentIn}
-use Rattle.clocks.specs.Layout.{isFlag, isU32, spareZero}
+use Rattle.clocks.specs.Layout.{isFlag, isU32, isByte, spareZero}
 use Rattle.clocks.specs.Layout.{codedSettings, codedSchedule, codedTimes, codedWords, codedNumbers, codedChannel, Coded}
 use Rattle.clocks.proofs.EveryBelow.{every-at, every-from}
 use Rattle.clocks.proofs.RowLaws.{channel-in}
@@ -22,7 +22,7 @@ use Rattle.engine.specs.Comparison.{sameFlag, sameFloat, sameIntervals, 
 use Rattle.engine.specs.Comparison.{sameClock, sameSlot}
 use Rattle.engine.specs.ComparisonInternals.{sameWordRow, sameFloatRow}
 use Rattle.engine.specs.StateRows.{slotOf}
-use Rattle.engine.proofs.SameWords.{allOf, each-of, every-eight, flag-as, u32-as, policy-as, tie-as, zero-floats, hazard-as}
+use Rattle.engine.proofs.SameWords.{allOf, each-of, every-eight, flag-as, u32-as, byte-as, policy-as, tie-as, zero-floats, hazard-as}
 
 -- ---- the numbers of two rows
 
@@ -54,7 +54,7 @@ scheduleTests b =
     ∷ isFlag (getD b 2 0)
     ∷ isU32 (getD b 3 0)
     ∷ isFlag (getD b 4 0)
-    ∷ eqb (getD b 5 0) 0
+    ∷ isByte (getD b 5 0)
     ∷ eqb (getD b 6 0) 0
     ∷ eqb (getD b 7 0) 0
     ∷ []
@@ -182,7 +182,7 @@ module _ (w v : WordRows) (f g : FloatRows) (c : Coded w f) (d : Coded v g) wher
   settingsFields = x 0 1 ∷ x 0 2 ∷ (x 0 3 && x 0 4) ∷ x 0 5 ∷ x 0 6 ∷ y 0 ∷ []
 
   abbrev winnerFields : List Bool
-  winnerFields = x 1 2 ∷ x 1 3 ∷ y 1 ∷ []
+  winnerFields = x 1 2 ∷ x 1 3 ∷ y 1 ∷ x 1 5 ∷ []
 
   abbrev scheduleFields : List Bool
   scheduleFields = (x 1 0 && x 1 1) ∷ allOf winnerFields ∷ x 1 4 ∷ y 2 ∷ []
@@ -212,6 +212,7 @@ module _ (w v : WordRows) (f g : FloatRows) (c : Coded w f) (d : Coded v g) wher
         flag-as (getD (getD w 1 []) 2 0) (getD (getD v 1 []) 2 0) (a 1) (b 1),
         u32-as (getD (getD w 1 []) 3 0) (getD (getD v 1 []) 3 0) (a 2) (b 2),
         flag-as (getD (getD w 1 []) 4 0) (getD (getD v 1 []) 4 0) (a 3) (b 3),
+        byte-as (getD (getD w 1 []) 5 0) (getD (getD v 1 []) 5 0) (a 4) (b 4),
       )
 
   present-place : sameFlag (presentIn w) (presentIn v) ≡ x 0 0
@@ -261,6 +262,7 @@ module _ (w v : WordRows) (f g : FloatRows) (c : Coded w f) (d : Coded v g) wher
         b 2 (omega arith),
         b 3 (omega arith),
         t 1 (omega arith),
+        b 5 (omega arith),
         b 4 (omega arith),
         t 2 (omega arith),
       )
@@ -294,8 +296,7 @@ module _ (w v : WordRows) (f g : FloatRows) (c : Coded w f) (d : Coded v g) wher
         let event = both-true (x 1 0) (x 1 1) (schedule-parts 0) in
         let a = each-of (scheduleTests (getD w 1 [])) (c .schedule) in
         let b = each-of (scheduleTests (getD v 1 [])) (d .schedule) in
-        every-eight (x 1) (event .0) (event .1) (winner-parts 0) (winner-parts 1) (schedule-parts 2)
-        (zeros-at (getD w 1 []) (getD v 1 []) 5 (a 4) (b 4))
+        every-eight (x 1) (event .0) (event .1) (winner-parts 0) (winner-parts 1) (schedule-parts 2) (winner-parts 3)
         (zeros-at (getD w 1 []) (getD v 1 []) 6 (a 5) (b 5))
         (zeros-at (getD w 1 []) (getD v 1 []) 7 (a 6) (b 6))
 

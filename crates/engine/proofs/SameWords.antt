@@ -18,7 +18,7 @@ use Rattle.hazards.specs.Rates.{kinds, rateOfKind, kindNumber, ownRate}
 use Rattle.hazards.specs.Ties.{tieBreakerOf, tieNumber}
 use Rattle.hazards.proofs.Cases.{by-test, both-true}
 use Rattle.clocks.specs.Clocks.{policyOf, policyNumber}
-use Rattle.clocks.specs.Layout.{everyBelow, flagFrom, u32From, byteFrom, isFlag, isU32}
+use Rattle.clocks.specs.Layout.{everyBelow, flagFrom, u32From, byteFrom, isFlag, isU32, isByte}
 use Rattle.engine.specs.Comparison.{sameFlag, sameInteger, sameFloat, sameHazard}
 use Rattle.engine.proofs.ComparisonLaws.{integer-same}
 
@@ -96,6 +96,9 @@ module _ (x y : ℕ) where
 
   pub u32-as : isU32 x ≡ true → isU32 y ≡ true → eqb (u32From x) (u32From y) ≡ eqb x y
   u32-as h k = rw (mod-eq-of-lt (ltb-true x 4294967296 h), mod-eq-of-lt (ltb-true y 4294967296 k))
+
+  pub byte-as : isByte x ≡ true → isByte y ≡ true → eqb (byteFrom x) (byteFrom y) ≡ eqb x y
+  byte-as h k = rw (mod-eq-of-lt (ltb-true x 256 h), mod-eq-of-lt (ltb-true y 256 k))
 
   pub policy-as : ltb x 2 ≡ true → ltb y 2 ≡ true
       → eqb (policyNumber (policyOf (byteFrom x))) (policyNumber (policyOf (byteFrom y))) ≡ eqb x y
