@@ -1,4 +1,4 @@
-// A clock's fields, read where they lie in its rows and written as a record of 1,423 bytes (host/README.md).
+// A clock's fields, read where they lie in its rows and written as a record of 1,424 bytes (host/README.md).
 ghost use Prim.Native.Nat.{_≤_};
 ghost use Rattle.clocks.specs.Layout.{Sized};
 use clocks::channels::HazardChannelState;
@@ -19,6 +19,7 @@ use clocks::layout::TIE;
 use clocks::layout::TIMES;
 use clocks::layout::WINNER;
 use clocks::layout::WINNER_CAUSE;
+use clocks::layout::WINNER_PIECE;
 use clocks::layout::WINNER_TIME;
 use clocks::layout::byte_from;
 use clocks::layout::u32_from;
@@ -101,6 +102,7 @@ fn put_schedule(out: &mut [u8], b: &[u64; 8], times: &[f64; 8]) {
     put_f64(out, 1406, times[WINNER_TIME]);
     put_u8(out, 1414, byte_from(b[ACTIVE]));
     put_f64(out, 1415, times[LAST_UPDATE]);
+    put_u8(out, 1423, byte_from(b[WINNER_PIECE]));
 }
 
 pub fn put_clock<'o, 'a>(out: &'o mut [u8], words: &'a [[u64; 8]], floats: &'a [[f64; 8]])

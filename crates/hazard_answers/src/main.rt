@@ -9,16 +9,20 @@ use hazards::fields::put_u64;
 use hazards::fields::u8_at;
 use hazards::fields::u64_at;
 use libc::STDOUT_FILENO;
+use probe::EVALUATION_WIDTH;
 use probe::SAMPLED_WIDTH;
 
-// operation u8, hazard of 138 bytes, t f64, w f64; expected: number u8, found u8, value f64.
+// The bytes of a case.
+const EVALUATION_CASE: usize = 173;
+
+// operation u8, hazard of 138 bytes, t f64, w f64; expected: number u8, found u8, value f64, piece u64.
 fn evaluation_agrees(case: &[u8]) -> bool {
     let f = probe::hazard_fields(case, 1);
     let op = u8_at(case, 0);
     let t = f64_at(case, 139);
     let w = f64_at(case, 147);
     let evaluation = probe::evaluate(op, f.kind, f.first, f.count, &f.ends, &f.rates, t, w);
-    let mut out = [0u8; 16];
+    let mut out = [0u8; EVALUATION_WIDTH];
     probe::put_evaluation(&mut out, 0, evaluation);
     if u8_at(&out, 0) != u8_at(case, 155) {
         return false;
@@ -26,7 +30,10 @@ fn evaluation_agrees(case: &[u8]) -> bool {
     if u8_at(&out, 1) != u8_at(case, 156) {
         return false;
     }
-    u64_at(&out, 8) == u64_at(case, 157)
+    if u64_at(&out, 8) != u64_at(case, 157) {
+        return false;
+    }
+    u64_at(&out, 16) == u64_at(case, 165)
 }
 
 // The thresholds of a case: how many there are at 27, then twelve places for them.
@@ -94,12 +101,12 @@ fn print_count(label: &[u8], count: Count) {
 }
 
 fn replay_evaluations(fd: i32) -> Count {
-    let mut case = [0u8; 165];
+    let mut case = [0u8; EVALUATION_CASE];
     let mut cases: u64 = 0;
     let mut differing: u64 = 0;
     let mut left: u64 = 1000000;
     while left > 0 {
-        if io::read_full(fd, &mut case) < 165 {
+        if io::read_full(fd, &mut case) < EVALUATION_CASE {
             break;
         }
         cases += 1;

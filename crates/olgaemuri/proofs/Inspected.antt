@@ -118,9 +118,9 @@ module _ (w : WordRows) (f : FloatRows) (j : ℕ) where
       rw (eq-eqb _ 1 one, lt-ltb j (min (getD (getD w 0 []) 7 0) 8) h, getD-table 8 (λ i. channelAt w f i) j emptyChannel (omega arith))
 
 -- a clock's own rows, by the numbers that the code gives for the fields that are coded
-pub own-there : (w : WordRows) (f : FloatRows) (policy tie generation cause : ℕ)
+pub own-there : (w : WordRows) (f : FloatRows) (policy tie piece generation cause : ℕ)
     → policy ≡ policyNumber (policyOf (byteFrom (getD (getD w 0 []) 5 0))) → tie ≡ tieNumber (tieBreakerOf (byteFrom (getD (getD w 0 []) 6 0)))
-    → generation ≡ u32From (getD (getD w 0 []) 4 0) → cause ≡ u32From (getD (getD w 1 []) 3 0) → getD (getD w 0 []) 0 0 ≡ 1
+    → piece ≡ byteFrom (getD (getD w 1 []) 5 0) → generation ≡ u32From (getD (getD w 0 []) 4 0) → cause ≡ u32From (getD (getD w 1 []) 3 0) → getD (getD w 0 []) 0 0 ≡ 1
     → record {
       found = true;
       «has_entity» = eqb (getD (getD w 0 []) 2 0) 1;
@@ -129,6 +129,7 @@ pub own-there : (w : WordRows) (f : FloatRows) (policy tie generation cause : �
       «has_winner» = eqb (getD (getD w 1 []) 2 0) 1;
       policy = policy;
       tie = tie;
+      «winner_piece» = piece;
       generation = generation;
       «winner_cause» = cause;
       process = getD (getD w 0 []) 1 0;
@@ -140,4 +141,4 @@ pub own-there : (w : WordRows) (f : FloatRows) (policy tie generation cause : �
       «last_update» = getD (getD f 0 []) 2 nan;
     } ≡ clockWhere (presentIn w) (clockFrom w f)
 unfolding clockWhere clockFrom clockOf
-own-there w f policy tie generation cause ep et eg ec one = rw (ep, et, eg, ec, eq-eqb _ 1 one)
+own-there w f policy tie piece generation cause ep et ei eg ec one = rw (ep, et, ei, eg, ec, eq-eqb _ 1 one)

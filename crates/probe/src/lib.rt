@@ -9,7 +9,6 @@ ghost use Rattle.hazards.specs.Roots.{nearestRoot};
 use hazards::answers::ANSWER_WIDTH;
 use hazards::checks::HazardFields;
 use hazards::draws::StreamPosition;
-use hazards::evaluations::Evaluation;
 use hazards::fields::f64_at;
 use hazards::fields::put_f64;
 use hazards::fields::put_u64;
@@ -88,6 +87,14 @@ pub fn settings_at(bytes: &[u8], at: usize) -> SampleSettings
     }
 }
 
+// What is found of an evaluation: its number, and a value or a wait; the piece of a hazard and a cumulative hazard is 0.
+pub struct Evaluated {
+    pub number: u8,
+    pub found: bool,
+    pub value: f64,
+    pub piece: usize,
+}
+
 // 0 hazard_at, 1 cumulative_hazard, else invert_cumulative_hazard.
 pub fn evaluate<'a>(
     op: u8,
@@ -98,14 +105,27 @@ pub fn evaluate<'a>(
     rates: &'a [f64; 8],
     t: f64,
     w: f64,
-) -> Evaluation {
-    if op == 0 {
-        return hazards::evaluations::evaluate_hazard_at(kind, first, count, ends, rates, t);
+) -> Evaluated {
+    if op > 1 {
+        let i = hazards::evaluations::evaluate_inversion(kind, first, count, ends, rates, t, w);
+        return Evaluated {
+            number: i.number,
+            found: i.found,
+            value: i.wait,
+            piece: i.piece,
+        };
     }
-    if op == 1 {
-        return hazards::evaluations::evaluate_cumulative_hazard(kind, first, count, ends, rates, t);
+    let e = if op == 0 {
+        hazards::evaluations::evaluate_hazard_at(kind, first, count, ends, rates, t)
+    } else {
+        hazards::evaluations::evaluate_cumulative_hazard(kind, first, count, ends, rates, t)
+    };
+    Evaluated {
+        number: e.number,
+        found: e.found,
+        value: e.value,
+        piece: 0,
     }
-    hazards::evaluations::evaluate_inversion(kind, first, count, ends, rates, t, w)
 }
 
 // The byte `found` in its place in a word.
@@ -115,14 +135,17 @@ fn found_flag(found: bool) -> u64
     if found { 256 } else { 0 }
 }
 
-// number u8, found u8, six zero bytes, value f64.
-pub fn put_evaluation(out: &mut [u8], at: usize, e: Evaluation)
+// number u8, found u8, six zero bytes, value f64, piece u64.
+pub const EVALUATION_WIDTH: usize = 24;
+
+pub fn put_evaluation(out: &mut [u8], at: usize, e: Evaluated)
     requires { ⌜ at ≤ 0x7fff_ffff_ffff_ffff ⌝ }
     ensures { λ _. ⌜ length (now (out .exit)) ≡ length (now (out .entry)) ⌝ }
 {
     let found = found_flag(e.found);
     put_u64(out, at, (e.number as u64) + found);
     put_f64(out, at + 8, e.value);
+    put_u64(out, at + 16, e.piece as u64);
 }
 
 fn lesser(a: usize, b: usize) -> usize
@@ -135,7 +158,7 @@ fn lesser(a: usize, b: usize) -> usize
 #[no_mangle]
 pub extern "C" fn probe_evaluate(op: u8, hazard: &[u8], points: &[u8], out: &mut [u8]) -> u64 {
     let fields = hazard_fields(hazard, 0);
-    let count = lesser(points.len() / 16, out.len() / 16);
+    let count = lesser(points.len() / 16, out.len() / EVALUATION_WIDTH);
     let mut i: usize = 0;
     while i < count {
         let at = 16 * i;
@@ -151,7 +174,7 @@ pub extern "C" fn probe_evaluate(op: u8, hazard: &[u8], points: &[u8], out: &mut
             t,
             w,
         );
-        put_evaluation(out, at, e);
+        put_evaluation(out, EVALUATION_WIDTH * i, e);
         i += 1;
     }
     count as u64
@@ -204,6 +227,13 @@ pub extern "C" fn probe_cumulative_hazard<'a>(
     hazards::rates::cumulative_hazard(hazard, ends, rates, count as usize, t)
 }
 
+// A wait, and the piece that it ends in.
+#[repr(C)]
+pub struct Inverted {
+    pub wait: f64,
+    pub piece: u64,
+}
+
 // A NaN where there is no wait.
 #[no_mangle]
 pub extern "C" fn probe_invert_cumulative_hazard<'a>(
@@ -214,12 +244,18 @@ pub extern "C" fn probe_invert_cumulative_hazard<'a>(
     rates: &'a [f64; 8],
     t_start: f64,
     target_w: f64,
-) -> f64 {
+) -> Inverted {
     let hazard = hazards::rates::rate_of_kind(kind, first);
     let pairs = count as usize;
     match hazards::rates::invert_cumulative_hazard(hazard, ends, rates, pairs, t_start, target_w) {
-        Wait::After(value) => value,
-        Wait::Never => 0.0 / 0.0,
+        Wait::After(wait, piece) => Inverted {
+            wait,
+            piece: piece as u64,
+        },
+        Wait::Never => Inverted {
+            wait: 0.0 / 0.0,
+            piece: 0,
+        },
     }
 }
 

@@ -20,6 +20,7 @@ use clocks::layout::START;
 use clocks::layout::THRESHOLD;
 use clocks::layout::TIMES;
 use clocks::layout::WINNER_CAUSE;
+use clocks::layout::WINNER_PIECE;
 use clocks::layout::WINNER_TIME;
 use engine::state_rows::APPLIED_LENGTH;
 use engine::state_rows::COUNTS;
@@ -30,14 +31,14 @@ use engine::state_rows::REQUEST_PRIORITY;
 use engine::state_rows::REQUESTS;
 use engine::state_rows::TICKS_LOW;
 
-pub const CASES: u64 = 19;
+pub const CASES: u64 = 20;
 
 // The numbers of the second channel.
 const CHANNEL_NUMBERS: usize = NUMBERS + CHANNEL_FLOATS;
 
-// Of the second channel; of the clock, whose winner is cause 2 at time 1, and whose last update time is +0.0; of the queued request, which
-// has ticks 10 and priority 0; of the counts: one threshold more is drawn, one request more is made, none is queued, the applied commands
-// are a byte shorter or longer; and a clock too many.
+// Of the second channel; of the clock, whose winner is cause 2 at time 1 in piece 0, and whose last update time is +0.0; of the queued
+// request, which has ticks 10 and priority 0; of the counts: one threshold more is drawn, one request more is made, none is queued, the
+// applied commands are a byte shorter or longer; another piece of the winner; and a clock too many.
 pub fn change(case: u64) -> Change {
     match case {
         0 => float(CHANNEL_NUMBERS, ACCUMULATED, 1.0),
@@ -58,6 +59,7 @@ pub fn change(case: u64) -> Change {
         15 => word(COUNTS, QUEUED, 0),
         16 => word(COUNTS, APPLIED_LENGTH, 367),
         17 => word(COUNTS, APPLIED_LENGTH, 369),
+        18 => word(SCHEDULE, WINNER_PIECE, 1),
         _ => word(CLOCK_WORDS * 5 + SETTINGS, PRESENT, 1),
     }
 }

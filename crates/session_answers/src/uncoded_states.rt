@@ -22,13 +22,14 @@ use clocks::layout::TIE;
 use clocks::layout::TIMES;
 use clocks::layout::WINNER;
 use clocks::layout::WINNER_CAUSE;
+use clocks::layout::WINNER_PIECE;
 use engine::state_rows::COUNTS;
 use engine::state_rows::REQUEST_PRIORITY;
 use engine::state_rows::REQUESTS;
 
 pub const CASES: u64 = 37;
 
-const FIELD_CASES: u64 = 14;
+const FIELD_CASES: u64 = 15;
 
 // The second channel's rows, and the last channel's numbers: its kind is 0.
 const CHANNEL: usize = CHANNELS + 1;
@@ -40,7 +41,7 @@ const LAST_NUMBERS: usize = NUMBERS + CHANNEL_FLOATS * 7;
 // Clock 5 is absent.
 const ABSENT: usize = CLOCK_WORDS * 5;
 
-// A flag of 2, a choice or a kind off its list, a number past 2^32, and a rate of kind 0 that is not +0.0.
+// A flag of 2, a choice or a kind off its list, a number past 2^32, a piece past 255, and a rate of kind 0 that is not +0.0.
 fn of_field(case: u64) -> Change {
     match case {
         0 => word(ABSENT + SETTINGS, PRESENT, 2),
@@ -56,6 +57,7 @@ fn of_field(case: u64) -> Change {
         10 => word(CHANNEL, CAUSE, 0x1_0000_0002),
         11 => word(CHANNEL, PRIORITY, 0x1_0000_0000),
         12 => word(REQUESTS, REQUEST_PRIORITY, 0x1_0000_0000),
+        13 => word(SCHEDULE, WINNER_PIECE, 256),
         _ => float(LAST_NUMBERS, RATE, -0.0),
     }
 }
@@ -63,28 +65,27 @@ fn of_field(case: u64) -> Change {
 // Each spare place of the rows of each kind.
 fn of_spare_place(case: u64) -> Change {
     match case {
-        0 => word(SCHEDULE, 5, 1),
-        1 => word(SCHEDULE, 6, 1),
-        2 => word(SCHEDULE, 7, 1),
-        3 => word(CHANNEL, 4, 1),
-        4 => word(CHANNEL, 5, 1),
-        5 => word(CHANNEL, 6, 1),
-        6 => word(CHANNEL, 7, 1),
-        7 => word(COUNTS, 4, 1),
-        8 => word(COUNTS, 5, 1),
-        9 => word(COUNTS, 6, 1),
-        10 => word(COUNTS, 7, 1),
-        11 => word(REQUESTS, 5, 1),
-        12 => word(REQUESTS, 6, 1),
-        13 => word(REQUESTS, 7, 1),
-        14 => float(TIMES, 3, -0.0),
-        15 => float(TIMES, 4, -0.0),
-        16 => float(TIMES, 5, -0.0),
-        17 => float(TIMES, 6, -0.0),
-        18 => float(TIMES, 7, -0.0),
-        19 => float(CHANNEL_NUMBERS, 4, -0.0),
-        20 => float(CHANNEL_NUMBERS, 5, -0.0),
-        21 => float(CHANNEL_NUMBERS, 6, -0.0),
+        0 => word(SCHEDULE, 6, 1),
+        1 => word(SCHEDULE, 7, 1),
+        2 => word(CHANNEL, 4, 1),
+        3 => word(CHANNEL, 5, 1),
+        4 => word(CHANNEL, 6, 1),
+        5 => word(CHANNEL, 7, 1),
+        6 => word(COUNTS, 4, 1),
+        7 => word(COUNTS, 5, 1),
+        8 => word(COUNTS, 6, 1),
+        9 => word(COUNTS, 7, 1),
+        10 => word(REQUESTS, 5, 1),
+        11 => word(REQUESTS, 6, 1),
+        12 => word(REQUESTS, 7, 1),
+        13 => float(TIMES, 3, -0.0),
+        14 => float(TIMES, 4, -0.0),
+        15 => float(TIMES, 5, -0.0),
+        16 => float(TIMES, 6, -0.0),
+        17 => float(TIMES, 7, -0.0),
+        18 => float(CHANNEL_NUMBERS, 4, -0.0),
+        19 => float(CHANNEL_NUMBERS, 5, -0.0),
+        20 => float(CHANNEL_NUMBERS, 6, -0.0),
         _ => float(CHANNEL_NUMBERS, 7, -0.0),
     }
 }

@@ -1,4 +1,4 @@
--- `replay_evaluations` is safe and ends: a case is 165 bytes, and there are at most a million.
+-- `replay_evaluations` is safe and ends: a case is 173 bytes, and there are at most a million.
 use Prim.Native.Nat.{_≤_, _+_}
 use mathlib.Core.Path.{_≡_}
 use lib.ListN.{length}
@@ -8,7 +8,7 @@ use Rattle.hazard_answers.proofs.replay_evaluations.Statement.{statemen
 use Rattle.hazard_answers.proofs.replay_evaluations.Tie as tie
 
 abbrev Inv-loop : tie.InvT-loop
-Inv-loop fd case₀ cases₀ differing₀ left₀ case cases differing left = (length case ≡ 165) × (cases + left ≤ 1000000) × (differing ≤ cases)
+Inv-loop fd case₀ cases₀ differing₀ left₀ case cases differing left = (length case ≡ 173) × (cases + left ≤ 1000000) × (differing ≤ cases)
 
 abbrev μ-loop : tie.MeasureT-loop
 μ-loop fd case₀ cases₀ differing₀ left₀ case cases differing left = left

@@ -8,7 +8,7 @@ use Rattle.probe.proofs.probe_evaluate.Statement.{statement}
 use Rattle.probe.proofs.probe_evaluate.Tie as tie
 
 abbrev Inv-loop : tie.InvT-loop
-Inv-loop op hazard points out₀ fields count i₀ out i = (i ≤ count) × (length out ≡ length out₀) × (16 * count < 2 ^ 63)
+Inv-loop op hazard points out₀ fields count i₀ out i = (i ≤ count) × (length out ≡ length out₀) × (24 * count < 2 ^ 63)
 
 abbrev μ-loop : tie.MeasureT-loop
 μ-loop op hazard points out₀ fields count i₀ out i = count - i
@@ -36,6 +36,9 @@ f64-at-requires-2 c κs = search needs
 
 evaluate-requires : tie.Need-evaluate-requires Inv-loop μ-loop
 evaluate-requires c κs = search needs
+
+mul-put-evaluation : tie.Need-mul-put-evaluation Inv-loop μ-loop
+mul-put-evaluation c = omega arith
 
 put-evaluation-requires : tie.Need-put-evaluation-requires Inv-loop μ-loop
 put-evaluation-requires c κs = search needs
@@ -69,6 +72,7 @@ probe-evaluate-spec =
     add-f64-at
     f64-at-requires-2
     evaluate-requires
+    mul-put-evaluation
     put-evaluation-requires
     add-i
     loop-less

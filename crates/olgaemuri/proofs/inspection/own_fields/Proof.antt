@@ -64,6 +64,12 @@ policy-number-requires c κs = search needs
 tie-number-requires : tie.Need-tie-number-requires
 tie-number-requires c κs = search needs
 
+array-read-byte-from-3 : tie.Need-array-read-byte-from-3
+array-read-byte-from-3 c = search needs
+
+byte-from-requires-3 : tie.Need-byte-from-requires-3
+byte-from-requires-3 c κs = search needs
+
 array-read-u32-from : tie.Need-array-read-u32-from
 array-read-u32-from c = search needs
 
@@ -76,37 +82,39 @@ array-read-u32-from-2 c = search needs
 u32-from-requires-2 : tie.Need-u32-from-requires-2
 u32-from-requires-2 c κs = search needs
 
-array-read-t47 : tie.Need-array-read-t47
-array-read-t47 c = search needs
+array-read-t51 : tie.Need-array-read-t51
+array-read-t51 c = search needs
 
-array-read-t50 : tie.Need-array-read-t50
-array-read-t50 c = search needs
+array-read-t54 : tie.Need-array-read-t54
+array-read-t54 c = search needs
 
-array-read-t53 : tie.Need-array-read-t53
-array-read-t53 c = search needs
+array-read-t57 : tie.Need-array-read-t57
+array-read-t57 c = search needs
 
-array-read-t56 : tie.Need-array-read-t56
-array-read-t56 c = search needs
+array-read-t60 : tie.Need-array-read-t60
+array-read-t60 c = search needs
 
-array-read-t59 : tie.Need-array-read-t59
-array-read-t59 c = search needs
+array-read-t63 : tie.Need-array-read-t63
+array-read-t63 c = search needs
 
-array-read-t62 : tie.Need-array-read-t62
-array-read-t62 c = search needs
+array-read-t66 : tie.Need-array-read-t66
+array-read-t66 c = search needs
 
-array-read-t65 : tie.Need-array-read-t65
-array-read-t65 c = search needs
+array-read-t69 : tie.Need-array-read-t69
+array-read-t69 c = search needs
 
 returns-2 : tie.Need-returns-2
 returns-2 c =
-    let b = c .before .before .before .before in
+    let t = c .before .before .before in
+    let b = t .before .before in
     let start = b .before .before .before .before .before .before .before .before in
     let policy =
-    c .before .before .before .policy-number .ensures
+    t .before .policy-number .ensures
     ∙ ap policyNumber (b .before .before .policy-of .ensures ∙ ap policyOf (b .before .before .before .byte-from .ensures)) in
     let tie =
-    c .before .before .tie-number .ensures ∙ ap tieNumber (b .tie-breaker .ensures ∙ ap tieBreakerOf (b .before .byte-from2 .ensures)) in
-    own-there (start .args .words .now) (start .args .floats .now) _ _ _ _ policy tie (c .before .u32-from .ensures) (c .u32-from2 .ensures)
+    t .tie-number .ensures ∙ ap tieNumber (b .tie-breaker .ensures ∙ ap tieBreakerOf (b .before .byte-from2 .ensures)) in
+    own-there (start .args .words .now) (start .args .floats .now) _ _ _ _ _ policy tie (c .before .before .byte-from3 .ensures)
+    (c .before .u32-from .ensures) (c .u32-from2 .ensures)
     (b .before .before .before .before .if1 .left)
 
 pub own-fields-spec : {M : Type 1} → statement M
@@ -131,15 +139,17 @@ own-fields-spec =
     array-read-t34
     policy-number-requires
     tie-number-requires
+    array-read-byte-from-3
+    byte-from-requires-3
     array-read-u32-from
     u32-from-requires
     array-read-u32-from-2
     u32-from-requires-2
-    array-read-t47
-    array-read-t50
-    array-read-t53
-    array-read-t56
-    array-read-t59
-    array-read-t62
-    array-read-t65
+    array-read-t51
+    array-read-t54
+    array-read-t57
+    array-read-t60
+    array-read-t63
+    array-read-t66
+    array-read-t69
     returns-2)
