@@ -14,9 +14,9 @@ use Rattle.hazards.specs.Answers.{headBytes, answerBytes}
 use Rattle.hazards.specs.Ties.{candidateAfter, preferred, precedes, earlier, earliest}
 use Rattle.hazards.specs.Sampler.{faultsOfAll, settingsFaults, drawsRefusal, sampleRefusal, candidates, censoredAt, sampledEvent}
 use Rattle.hazards.specs.Sampler.{sampleNext}
-use Rattle.clocks.specs.Channels.{settledHazard, onUsed, placeOfCause, placeForNew, insertAt, channelCandidate}
+use Rattle.clocks.specs.Channels.{settledHazard, onUsed, placeOfCause, placeForNew, insertAt, removeAt, channelCandidate}
 use Rattle.clocks.specs.Ticks.{wholeTicks}
-use Rattle.clocks.specs.Clocks.{newClock, clockCandidates, earliestEvent}
+use Rattle.clocks.specs.Clocks.{newClock, removeChannel, clockCandidates, earliestEvent}
 use Rattle.clocks.specs.Setting.{setAgain, setNew, setChannel}
 use Rattle.clocks.specs.Scheduling.{finalEvent, scheduledFor, reschedule, pause, resume, onEventDispatched}
 use Rattle.clocks.specs.Validation.{isFinite, ascendingFrom, validChannel, validClock}
@@ -26,7 +26,8 @@ use Rattle.engine.specs.Opening.{openedState}
 use Rattle.engine.specs.Validation.{validSlot, validRequest, distinct, validQueue, validShared, validState}
 use Rattle.engine.specs.Comparison.{sameFloat, everyBelow, sameHazard, sameIntervals, sameChannel, sameSettings, sameChannels}
 use Rattle.engine.specs.Comparison.{sameSchedule, sameClock, sameSlot, sameRequest, sameShared, sameState}
-use Rattle.engine.specs.Execution.{performCreate, performSet, performReschedule, performPause, performResume, performDeliver}
+use Rattle.engine.specs.Execution.{performCreate, performSet, performRemove, performReschedule, performPause, performResume}
+use Rattle.engine.specs.Execution.{performDeliver}
 use Rattle.engine.specs.Execution.{performOn, target, perform}
 use Rattle.engine.specs.Engine.{classify}
 use Rattle.engine.specs.Replay.{replay, splitFrom, undo}
@@ -41,10 +42,11 @@ unfolding ofBits toBits isNan add sub mul div lt le notBelowZero zeroBits inRang
     cumulativeOfRate cumulativeHazard endsIn waitFrom constantWait waitOfRate invertCumulativeHazard ownRate
     rangeFault ascending intervalsFault choiceFault hazardFaults drawAt headBytes answerBytes candidateAfter preferred precedes
     earlier earliest faultsOfAll settingsFaults drawsRefusal sampleRefusal candidates censoredAt sampledEvent sampleNext settledHazard
-    onUsed placeOfCause placeForNew insertAt channelCandidate wholeTicks newClock clockCandidates earliestEvent setAgain setNew setChannel
+    onUsed placeOfCause placeForNew insertAt removeAt channelCandidate wholeTicks newClock removeChannel clockCandidates earliestEvent
+    setAgain setNew setChannel
     finalEvent scheduledFor reschedule pause resume onEventDispatched isFinite ascendingFrom validChannel validClock widthOf comesFirst
     nextRequest without isQueued openedState validSlot validRequest distinct validQueue validShared validState sameFloat everyBelow
     sameHazard sameIntervals sameChannel sameSettings sameChannels sameSchedule sameClock sameSlot sameRequest sameShared sameState
-    createFaults setFaults rescheduleFaults pauseFaults performCreate performSet performReschedule performPause performResume
+    createFaults setFaults rescheduleFaults pauseFaults performCreate performSet performRemove performReschedule performPause performResume
     performDeliver performOn target perform classify replay splitFrom undo execute feed feedAll newSession recordCommand ledgerOf
 computed = tt

@@ -1,10 +1,10 @@
--- Demand 3 on three lists worked through, computed from the definitions: bytes that are no command, commands accepted, refused and undone;
--- then two events at one tick; then a cause of kind 4.
+-- Demand 3 on four lists worked through, computed from the definitions: bytes that are no command, commands accepted, refused and undone;
+-- then two events at one tick; then a cause of kind 4; then a curve in pieces.
 use mathlib.Core.Path.{_≡_, refl}
 use mathlib.Core.List.{List, [], _∷_, _++_}
 use Prim.Native.Nat.{ℕ}
-use mathlib.Core.Bool.{false}
-use lib.IntN.{negsuc}
+use mathlib.Core.Bool.{Bool, true, false}
+use lib.IntN.{pos, negsuc}
 use lib.ListN.{replicate}
 use lib.Ieee.{Float, fin, binary64, ofBits}
 use Rattle.hazards.specs.Floats.{z}
@@ -12,14 +12,18 @@ use Rattle.hazards.specs.Fields.{bytesOf}
 use Rattle.hazards.specs.declared.answers.Answer.{Answer}
 use Rattle.clocks.specs.Clocks.{one}
 use Rattle.engine.specs.Commands as commands
+use Rattle.engine.specs.State.{slotAt}
 use Rattle.engine.specs.Engine.{Bytes, Engine, Reply, refusal, reverted, completed}
 use Rattle.engine.specs.Execute.{execute}
 use Rattle.engine.specs.Sessions.{Session, feed, newSession}
 use Rattle.engine.specs.Instance.{engineOf}
 use Rattle.engine.specs.Demand3 as demand
 use Rattle.engine.specs.Rows as rows
-use Rattle.engine.specs.Rows.{two, three, stream, f64, setBytes, censorAt, undoBytes, channelIn}
+use Rattle.engine.specs.Rows.{half, two, three, stream, f64, setBytes, censorAt, undoBytes, channelIn}
 use Rattle.engine.proofs.Computed.{computed}
+
+abbrev seven : Float
+seven = fin false 7 (pos 0)
 
 -- CREATE of a clock, Restart, scale 1.0
 abbrev create : ℕ → Bytes
@@ -136,3 +140,70 @@ pub worked-wear : (numbers (newSession engine 236) wear ≡ 0 ∷ 5 ∷ 0 ∷ 0 
     × (demand.ledger stream 236 wear .rows 0 .delivered ≡ 1) × (demand.queued stream 236 wear 0 ≡ 0)
 unfolding computed
 worked-wear = (refl, refl, refl, refl)
+
+-- ---- a curve in pieces: cause 1 of clock 0 has the table's P, and the threshold 2.5, which is reached at the trailing rate
+
+-- SET of cause 1 of clock 0 at 0
+abbrev setCurve : Bytes
+setCurve =
+    (commands.set ∷ 0 ∷ bytesOf 4 1)
+    ++ (replicate 4 0
+    ++ ((3 ∷ f64 half) ++ (f64 z ++ ((2 ∷ f64 two) ++ (f64 one ++ (f64 rows.five ++ replicate 104 0))))))
+
+abbrev remove : Bytes
+remove = commands.remove ∷ 0 ∷ bytesOf 4 1
+
+abbrev curveStream : Bytes
+curveStream = f64 rows.twoAndHalf
+
+abbrev curveEngine : Engine
+curveEngine = engineOf curveStream 400
+
+-- an event is queued, censored, queued again, delivered, which is undone; the clock is paused at 2, resumed with 0.5 of its threshold left,
+-- and that undone; it is paused at 7 with none left and resumed, which is undone; then no cause is left, and nothing is queued
+abbrev curve : List Bytes
+curve =
+    rows.createBytes 0 1 one
+    ∷ setCurve
+    ∷ next
+    ∷ rows.rescheduleBytes z (censorAt three)
+    ∷ next
+    ∷ deliver
+    ∷ undoBytes
+    ∷ rows.pauseBytes two
+    ∷ rows.resumeBytes two
+    ∷ undoBytes
+    ∷ undoBytes
+    ∷ rows.pauseBytes seven
+    ∷ rows.resumeBytes seven
+    ∷ undoBytes
+    ∷ remove
+    ∷ rows.rescheduleBytes seven rows.noCensor
+    ∷ []
+
+-- of each reply: whether there is an event, and its piece
+abbrev eventIn : Reply Answer → Bool × ℕ
+eventIn (refusal n) = (false, 0)
+eventIn reverted = (false, 0)
+eventIn (completed a) = (a .event, a .piece)
+
+abbrev events : Session curveEngine → List Bytes → List (Bool × ℕ)
+events u [] = []
+events u (i ∷ is) = eventIn (execute curveEngine (u .state) (u .journal) i .reply) ∷ events (feed curveEngine u i) is
+
+-- the piece of the winner that clock 0 holds after each command
+abbrev held : Session curveEngine → List Bytes → List ℕ
+held u [] = []
+held u (i ∷ is) =
+    let v = feed curveEngine u i in
+    slotAt (v .state) 0 .clock .«current_winner» .piece ∷ held v is
+
+-- DELIVER repeats the piece that was queued and clears it; a censored event has none, nor has a threshold that is reached already; what
+-- queues no event leaves the winner's piece
+pub worked-curve : (events (newSession curveEngine 400) curve
+    ≡ (false, 0) ∷ (false, 0) ∷ (true, 2) ∷ (true, 0) ∷ (true, 2) ∷ (true, 2) ∷ (false, 0) ∷ (false, 0) ∷ (true, 0) ∷ (false, 0)
+    ∷ (false, 0) ∷ (false, 0) ∷ (true, 0) ∷ (false, 0) ∷ (false, 0) ∷ (false, 0) ∷ [])
+    × (held (newSession curveEngine 400) curve ≡ 0 ∷ 0 ∷ 2 ∷ 0 ∷ 2 ∷ 0 ∷ 2 ∷ 2 ∷ 0 ∷ 2 ∷ 2 ∷ 2 ∷ 0 ∷ 2 ∷ 2 ∷ 2 ∷ [])
+    × (demand.ledger curveStream 400 curve .rows 0 .made ≡ 3) × (demand.queued curveStream 400 curve 0 ≡ 0)
+unfolding computed
+worked-curve = (refl, refl, refl, refl)

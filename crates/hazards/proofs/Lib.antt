@@ -26,6 +26,7 @@ pub mod NearestRoots
 pub mod OrderLaws
 pub mod Overwrite
 pub mod Pieces
+pub mod PieceStruck
 pub mod QuotientOrder
 pub mod RateForWait
 pub mod Reorderings
@@ -47,6 +48,7 @@ pub mod WaitBounds
 pub mod WholeRoots
 pub mod Winners
 pub mod WorkedLists
+pub mod WorkedPieces
 pub mod WorkedRates
 pub mod WorkedRoots
 pub mod WorkedWeibull
