@@ -3,21 +3,56 @@
 use crate::describe;
 use crate::formats::{self, EVALUATION_BYTES, POSITION_BYTES, SAMPLE_BYTES};
 use crate::numbers::{self, SIDES, Sides};
-use crate::probe;
+use crate::probe::{self, Fields};
 use cases::chosen;
 use cases::evaluations::EvaluationCase;
+use cases::piece_tally::PieceTally;
 use cases::radicands::{self, radicand};
 use cases::random::Random;
 use cases::samples::SampleCase;
 use cases::weibull_tally::WeibullTally;
 use cases::words::float;
 use reference::answer::Answer;
+use reference::evaluation::INVERT_CUMULATIVE_HAZARD;
+use std::fmt::{Display, Formatter, Result as Written};
 
 /// What stands in a buffer before a call, so that a byte left out is seen.
 const FILLED: u8 = 0xA5;
 
-/// The chosen cases, then as many random evaluations, samples and roots in turn as asked for; what these show of kind 4.
-pub fn run(seed: u64, count: u64) -> Result<WeibullTally, String> {
+/// What the random cases show of kind 4 and of pieces.
+#[derive(Default)]
+pub struct Shown {
+    weibull: WeibullTally,
+    pieces: PieceTally,
+}
+
+impl Shown {
+    fn add(&mut self, evaluated: &EvaluationCase, sampled: &SampleCase) {
+        let (value, sample) = (evaluated.expected(), sampled.expected().0);
+        self.weibull.add_evaluation(evaluated, &value);
+        self.weibull.add_sample(sampled, &sample);
+        self.pieces.add_evaluation(evaluated, &value);
+        self.pieces.add_sample(&sample);
+    }
+
+    /// A sort that no case shows, in words.
+    fn missing(&self) -> Option<String> {
+        match (self.weibull.least(), self.pieces.least()) {
+            ((0, sort), _) => Some(format!("of kind 4 {sort}")),
+            (_, (0, sort)) => Some(format!("among {sort}")),
+            _ => None,
+        }
+    }
+}
+
+impl Display for Shown {
+    fn fmt(&self, f: &mut Formatter<'_>) -> Written {
+        write!(f, "{}; {}", self.weibull, self.pieces)
+    }
+}
+
+/// The chosen cases, then as many random evaluations, samples and roots in turn as asked for; what these show.
+pub fn run(seed: u64, count: u64) -> Result<Shown, String> {
     let mut place = 0;
     let mut said = |outcome: Result<(), String>| {
         place += 1;
@@ -34,22 +69,21 @@ pub fn run(seed: u64, count: u64) -> Result<WeibullTally, String> {
     }
     said(root(f64::INFINITY))?;
     let mut random = Random::new(seed);
-    let mut tally = WeibullTally::default();
+    let mut shown = Shown::default();
     for _ in 0..count {
-        let case = EvaluationCase::random(&mut random);
-        said(evaluation(&case))?;
-        tally.add_evaluation(&case, &case.expected());
-        let case = SampleCase::random(&mut random);
+        let evaluated = EvaluationCase::random(&mut random);
+        said(evaluation(&evaluated))?;
+        let sampled = SampleCase::random(&mut random);
         let left_over = &random.word().to_le_bytes()[..random.index(8)];
-        said(sample(&case, left_over).map(drop))?;
-        tally.add_sample(&case, &case.expected().0);
+        said(sample(&sampled, left_over).map(drop))?;
+        shown.add(&evaluated, &sampled);
         said(root(radicand(&mut random)))?;
     }
-    match tally.least() {
-        (0, sort) => Err(format!(
-            "seed {seed}: of {count} random cases there is none of kind 4 {sort}"
+    match shown.missing() {
+        Some(sort) => Err(format!(
+            "seed {seed}: of {count} random cases there is none {sort}"
         )),
-        _ => Ok(tally),
+        None => Ok(shown),
     }
 }
 
@@ -75,7 +109,7 @@ fn evaluation(case: &EvaluationCase) -> Result<(), String> {
     let done = probe::evaluate(case.operation, &hazard, &point, &mut out);
     if done == 1 && out == expected {
         return if answer.number == 0 {
-            on_numbers(case)
+            on_numbers(case).and_then(|()| piece(case, answer.piece))
         } else {
             Ok(())
         };
@@ -101,6 +135,21 @@ fn on_numbers(case: &EvaluationCase) -> Result<(), String> {
             Err(difference("an evaluation on numbers", &case, 1, values))
         }
     }
+}
+
+/// The piece of an inversion on numbers, beside the model's.
+fn piece(case: &EvaluationCase, model: u64) -> Result<(), String> {
+    if case.operation != INVERT_CUMULATIVE_HAZARD {
+        return Ok(());
+    }
+    let fields = Fields::of(&case.hazard);
+    let piece = probe::invert_cumulative_hazard(&fields, case.t, case.w).piece;
+    if piece == model {
+        return Ok(());
+    }
+    let case = describe::evaluation_case(case);
+    let pieces = [model, piece].map(|piece| format!("piece {piece}"));
+    Err(difference("an inversion on numbers", &case, 1, pieces))
 }
 
 /// What both sides answer, with the position after it. `left_over`: under 8 bytes after the last whole threshold.

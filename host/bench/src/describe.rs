@@ -4,6 +4,7 @@ use crate::formats;
 use cases::evaluations::EvaluationCase;
 use cases::samples::SampleCase;
 use cases::words::{float, hazard, hex};
+use reference::answer::ANSWER_BYTES;
 use reference::evaluation::OPERATIONS;
 use reference::fields::Reader;
 use reference::request::Record;
@@ -46,19 +47,21 @@ fn record(record: &Record) -> String {
 pub fn evaluation(bytes: &[u8]) -> String {
     let mut reader = Reader(bytes);
     let (number, found) = (reader.u8(), reader.u8());
-    let value = float(Reader(&bytes[8..]).f64());
+    let mut rest = Reader(&bytes[8..]);
+    let (value, piece) = (float(rest.f64()), rest.u64());
     let hex = hex(bytes);
-    format!("number {number}, found {found}, value {value} [{hex}]")
+    format!("number {number}, found {found}, value {value}, piece {piece} [{hex}]")
 }
 
 pub fn sample(bytes: &[u8]) -> String {
     let mut reader = Reader(bytes);
     let [number, event, censored, _] = [(); 4].map(|()| reader.u8());
     let (cause, delta) = (reader.u32(), float(reader.f64()));
-    let after = formats::read_position(&bytes[32..]);
+    let piece = bytes[formats::PIECE];
+    let after = formats::read_position(&bytes[ANSWER_BYTES..]);
     let hex = hex(bytes);
     format!(
         "number {number}, event {event}, censored {censored}, cause {cause}, delta {delta}, \
-         position after {after} [{hex}]"
+         piece {piece}, position after {after} [{hex}]"
     )
 }

@@ -63,9 +63,9 @@ fn comparison(option: &str) -> Option<Comparison> {
 }
 
 fn compare(seed: u64, count: u64) -> Result<String, String> {
-    let tally = compare::run(seed, count)?;
+    let shown = compare::run(seed, count)?;
     Ok(format!(
-        "{count} evaluations, {count} samples and {count} roots, no difference; {tally}"
+        "{count} evaluations, {count} samples and {count} roots, no difference; {shown}"
     ))
 }
 

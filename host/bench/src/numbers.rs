@@ -36,16 +36,21 @@ const MODEL: [Call<Weibull>; OPERATIONS.len()] = [
     |weibull, t, w| model_invert_cumulative_hazard(*weibull, t, w),
 ];
 
+/// The wait of an inversion; its piece, which the Rust does not give, is left out.
 const RATTLE: [Call<Fields>; OPERATIONS.len()] = [
     |hazard, t, _| probe::hazard_at(hazard, t),
     |hazard, t, _| probe::cumulative_hazard(hazard, t),
-    |hazard, t, w| probe::invert_cumulative_hazard(hazard, t, w),
+    |hazard, t, w| probe::invert_cumulative_hazard(hazard, t, w).wait,
 ];
 
 #[inline(never)]
 fn checked(operation: u8, hazard: &Hazard, t: f64, w: f64) -> f64 {
-    let answer = evaluation::evaluate(operation, hazard, t, w);
-    if answer.found { answer.value } else { f64::NAN }
+    let answer = match operation {
+        0 => evaluation::hazard_at(hazard, t).map(Some),
+        1 => evaluation::cumulative_hazard(hazard, t).map(Some),
+        _ => evaluation::invert_cumulative_hazard(hazard, t, w),
+    };
+    answer.ok().flatten().unwrap_or(f64::NAN)
 }
 
 #[inline(never)]

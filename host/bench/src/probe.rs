@@ -5,8 +5,17 @@
 
 use reference::hazard::{Hazard, PAIRS};
 
+/// A wait, and the piece of the curve that it ends in.
+#[repr(C)]
+#[derive(Clone, Copy, Debug)]
+pub struct Inverted {
+    /// A NaN where there is none.
+    pub wait: f64,
+    pub piece: u64,
+}
+
 mod raw {
-    use super::PAIRS;
+    use super::{Inverted, PAIRS};
 
     unsafe extern "C" {
         pub fn probe_evaluate(
@@ -56,7 +65,7 @@ mod raw {
             rates: &[f64; PAIRS],
             t_start: f64,
             target_w: f64,
-        ) -> f64;
+        ) -> Inverted;
 
         pub fn probe_nearest_root(x: f64) -> f64;
 
@@ -130,8 +139,7 @@ pub fn cumulative_hazard(h: &Fields, t: f64) -> f64 {
     }
 }
 
-/// A NaN where there is no wait.
-pub fn invert_cumulative_hazard(h: &Fields, t_start: f64, target_w: f64) -> f64 {
+pub fn invert_cumulative_hazard(h: &Fields, t_start: f64, target_w: f64) -> Inverted {
     // SAFETY: as in `evaluate_numbers`.
     unsafe {
         raw::probe_invert_cumulative_hazard(

@@ -1,6 +1,6 @@
 //! The benchmark of the evaluations and the sampler: both sides in one run, first held to the same answers, then timed.
 
-use crate::formats::{SAMPLE_BYTES, Sample};
+use crate::formats::{PIECE, SAMPLE_BYTES, Sample};
 use crate::numbers::{self, SIDES, Sides};
 use crate::timing::{RUNS, best};
 use crate::workloads::{self, POINTS, POSITIONS};
@@ -12,12 +12,13 @@ use std::hint::black_box;
 const EVALUATIONS: &str = "
 Evaluations, on numbers, one driver for both sides. Checked: each call checks the fields, and the Rust
 side builds the Rust's hazard. Unchecked: the evaluation alone, on a hazard built beforehand. Weibull: beside
-the same steps in plain Rust with the processor's own root, not the Rust's powf.";
+the same steps in plain Rust with the processor's own root, not the Rust's powf. Rattle's inversions give
+the piece of the curve too, the Rust's do not.";
 
 const SAMPLER: &str = "
 Sampler, on records decoded beforehand. Checked: each call checks the records, and the Rust side builds
 the Rust's causes. Prebuilt: the Rust's bare sample_next on causes built beforehand, which checks
-nothing, beside Rattle's checked call.";
+nothing, beside Rattle's checked call. Rattle's samples have the winner's piece too, the Rust's do not.";
 
 pub fn print() {
     println!("ns per call, best of {RUNS} runs; ratio = Rust / Rattle, above 1: Rattle is faster");
@@ -88,6 +89,15 @@ fn evaluation_times(operation: u8, hazard: &Hazard) -> [f64; 4] {
     )
 }
 
+/// Samples with zero in place of the piece, which the Rust does not give.
+fn without_pieces(samples: &[u8]) -> Vec<u8> {
+    let mut samples = samples.to_vec();
+    for sample in samples.chunks_exact_mut(SAMPLE_BYTES) {
+        sample[PIECE] = 0;
+    }
+    samples
+}
+
 /// Rust and Rattle checked, Rust prebuilt.
 fn sample_times(request: &[u8]) -> [f64; 3] {
     let (stream, positions) = (workloads::thresholds(), workloads::positions());
@@ -98,7 +108,11 @@ fn sample_times(request: &[u8]) -> [f64; 3] {
         assert_eq!(done, POSITIONS as u64);
         out
     });
-    assert!(outs.iter().all(|out| *out == outs[0]), "the sides differ");
+    let rust = without_pieces(&outs[0]);
+    assert!(
+        outs.iter().all(|out| without_pieces(out) == rust),
+        "the sides differ"
+    );
     let [a, b, c] = outs.each_mut();
     let batch = |side: usize, out: &mut [u8]| {
         sides[side](black_box(request), &stream, &positions, black_box(out));

@@ -1,4 +1,4 @@
-//! The Rust side of the sampler: the same work from the same bytes through the unchanged Rust.
+//! The Rust side of the sampler: the same work from the same bytes through the unchanged Rust, which gives no piece.
 
 use crate::formats::{self, POSITION_BYTES, SAMPLE_BYTES};
 use kairo_ecs_rng::DeterministicStream;
@@ -11,7 +11,8 @@ use std::hint::black_box;
 pub fn sample(request: &[u8], stream: &[u8], positions: &[u8], out: &mut [u8]) -> u64 {
     let request = Request::decode(request);
     each_position(positions, out, |position| {
-        sampler::sample(black_box(&request), stream, position)
+        let event = sampler::sample_event(black_box(&request), stream, position);
+        event.map_or_else(Answer::refused, |event| Answer::sampled(event, 0))
     })
 }
 
@@ -23,7 +24,7 @@ pub fn sample_prebuilt(request: &[u8], stream: &[u8], positions: &[u8], out: &mu
         let mut stream = DeterministicStream::new(stream, *position);
         let event = causes.sample_next(request.age, request.censor_age(), &mut stream);
         *position = stream.position();
-        Answer::sampled(event)
+        Answer::sampled(event, 0)
     })
 }
 

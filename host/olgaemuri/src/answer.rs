@@ -1,4 +1,4 @@
-//! The engine's answer to one command, from its 32 bytes and back (document 01, "Answer").
+//! The engine's answer to one command, from its 40 bytes and back (document 01, "Answer"; the piece is change 6 of document 02).
 
 use crate::fields::{Reader, Writer};
 use crate::refusal::Refusal;
@@ -25,7 +25,17 @@ pub struct Answer {
     pub delta: f64,
     /// The event's time in ticks.
     pub ticks: u128,
+    /// The piece of its cause's rate curve in which the event falls. For [`Hazard::PiecewiseConstant`] it is the place of the pair
+    /// used, counted from 0, or the number of pairs where it is the rate after the last; [`Hazard::pieces`] has them in this order.
+    /// It is 0 for other hazards, for a cause whose threshold is used up already, and for a censored event.
+    ///
+    /// [`Hazard::PiecewiseConstant`]: crate::Hazard::PiecewiseConstant
+    /// [`Hazard::pieces`]: crate::Hazard::pieces
+    pub piece: u8,
 }
+
+/// Bytes behind the piece. They are zero.
+const REST: [u8; 7] = [0; 7];
 
 impl Answer {
     /// A refusal.
@@ -58,11 +68,13 @@ impl Answer {
             .u8(u8::from(self.withdrawn))
             .u32(self.cause)
             .f64(self.delta)
-            .bytes(&self.ticks.to_le_bytes());
-        out.0.try_into().expect("the fields are 32 bytes long")
+            .bytes(&self.ticks.to_le_bytes())
+            .u8(self.piece)
+            .bytes(&REST);
+        out.0.try_into().expect("the fields are as long")
     }
 
-    /// The answer with these bytes; none where the number is above 18 or a flag is neither 0 nor 1.
+    /// The answer with these bytes; none where the number is above 18, a flag is neither 0 nor 1, or a byte behind the piece is not 0.
     #[must_use]
     pub fn from_bytes(bytes: &[u8; ANSWER_BYTES]) -> Option<Self> {
         let mut fields = Reader(bytes);
@@ -73,7 +85,7 @@ impl Answer {
                     .filter(|refusal| *refusal <= Refusal::InvalidBuffers)?,
             ),
         };
-        Some(Self {
+        let answer = Self {
             refusal,
             event: flag(fields.u8())?,
             censored: flag(fields.u8())?,
@@ -81,11 +93,13 @@ impl Answer {
             cause: fields.u32(),
             delta: fields.f64(),
             ticks: u128::from(fields.u64()) | u128::from(fields.u64()) << 64,
-        })
+            piece: fields.u8(),
+        };
+        (fields.0 == REST).then_some(answer)
     }
 }
 
-/// `accepted`, with what was withdrawn and what was scheduled or delivered; or the refusal.
+/// `accepted`, with what was withdrawn and what was scheduled or delivered, the piece where it is not 0; or the refusal.
 impl fmt::Display for Answer {
     fn fmt(&self, f: &mut fmt::Formatter) -> fmt::Result {
         if let Some(refusal) = self.refusal {
@@ -101,7 +115,11 @@ impl fmt::Display for Answer {
             (true, true) => write!(f, ", censored")?,
             (true, false) => write!(f, ", cause {}", self.cause)?,
         }
-        write!(f, " after {} at tick {}", self.delta, self.ticks)
+        write!(f, " after {} at tick {}", self.delta, self.ticks)?;
+        match self.piece {
+            0 => Ok(()),
+            piece => write!(f, " in piece {piece}"),
+        }
     }
 }
 

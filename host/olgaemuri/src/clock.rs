@@ -115,6 +115,11 @@ impl Clock {
 
     /// The event that an answer schedules.
     fn pending(&self, answer: &Answer, now: f64, priority: i32, index: u64) -> Option<Pending> {
+        let cause = self
+            .causes
+            .iter()
+            .find(|cause| cause.number == answer.cause);
+        let struck = cause.and_then(|cause| cause.hazard.pieces().nth(usize::from(answer.piece)));
         answer.event.then_some(Pending {
             clock: self.number,
             ticks: answer.ticks,
@@ -124,6 +129,8 @@ impl Clock {
             censored: answer.censored,
             scheduled_at: now,
             delta: answer.delta,
+            piece: answer.piece,
+            struck,
         })
     }
 
@@ -154,6 +161,16 @@ impl Clock {
 pub(crate) struct Before {
     pub clock: u8,
     change: Change,
+}
+
+impl Before {
+    /// The event that was pending, where the command was one about events.
+    pub fn pending(&self) -> Option<&Pending> {
+        match &self.change {
+            Change::Schedule(_, moved) => moved.pending.as_deref(),
+            Change::Absent | Change::Cause(..) => None,
+        }
+    }
 }
 
 #[derive(Clone, Debug, PartialEq)]

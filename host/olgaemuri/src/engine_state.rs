@@ -41,6 +41,8 @@ pub struct Winner {
     pub cause: u32,
     /// Its time.
     pub time: f64,
+    /// The piece of its cause's rate curve in which it falls, as [`Answer::piece`](crate::Answer::piece) has it.
+    pub piece: u8,
 }
 
 /// A cause of a clock in an [`Engine`].
@@ -81,6 +83,8 @@ pub struct Request {
     pub scheduled_at: f64,
     /// Its time.
     pub time: f64,
+    /// The piece of its cause's rate curve in which it falls, as [`Answer::piece`](crate::Answer::piece) has it.
+    pub piece: u8,
 }
 
 impl Request {
@@ -108,6 +112,7 @@ impl Engine {
         let winner = Winner {
             cause: fields.winner_cause,
             time: fields.winner_time,
+            piece: fields.winner_piece,
         };
         fields.found.then(|| ClockState {
             number,
@@ -151,6 +156,7 @@ impl Engine {
             censored: winner.cause == NO_CAUSE,
             scheduled_at: clock.last_update,
             time: winner.time,
+            piece: winner.piece,
         })
     }
 }

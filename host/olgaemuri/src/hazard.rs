@@ -14,6 +14,21 @@ pub struct Pair {
     pub rate: f64,
 }
 
+/// A piece of the rate curve of a [`Hazard::PiecewiseConstant`]. A breakdown that just uses it up falls in it and not in the next.
+/// Times are rounded, so that of a breakdown may lie just past the end of its piece.
+#[derive(Clone, Copy, Debug, PartialEq)]
+#[non_exhaustive]
+pub struct Piece {
+    /// Its number, as [`Answer::piece`](crate::Answer::piece) has it: pairs from 0, then the rate after the last.
+    pub number: u8,
+    /// The age at which it begins, counted from the RESCHEDULE or RESUME that schedules the event.
+    pub from: f64,
+    /// The age at which it ends; none for the rate after the last pair.
+    pub to: Option<f64>,
+    /// Its rate, which is not below 0.
+    pub rate: f64,
+}
+
 /// The hazard of one cause. A rate that is negative counts as 0.
 #[derive(Clone, Debug, PartialEq)]
 #[non_exhaustive]
@@ -72,6 +87,23 @@ impl Hazard {
             Self::PiecewiseConstant { pairs, .. } => pairs,
             Self::Zero | Self::Constant(_) | Self::Gompertz(_) | Self::Weibull(_) => &[],
         }
+    }
+
+    /// The pieces of a PiecewiseConstant, one for each pair and one for the rate after the last; none for another kind.
+    pub fn pieces(&self) -> impl Iterator<Item = Piece> {
+        let trailing = match self {
+            Self::PiecewiseConstant { trailing, .. } => Some((None, *trailing)),
+            Self::Zero | Self::Constant(_) | Self::Gompertz(_) | Self::Weibull(_) => None,
+        };
+        let pairs = self.pairs().iter().map(|pair| (Some(pair.end), pair.rate));
+        let begins = std::iter::once(0.0).chain(self.pairs().iter().map(|pair| pair.end));
+        let pieces = (0..=u8::MAX).zip(begins).zip(pairs.chain(trailing));
+        pieces.map(|((number, from), (to, rate))| Piece {
+            number,
+            from,
+            to,
+            rate: if rate > 0.0 { rate } else { 0.0 },
+        })
     }
 
     /// The hazard with these fields. Refuses by 4 or 6 what no hazard of this type has: an unknown kind, a `first` of Zero that

@@ -1,6 +1,7 @@
 //! The request ledger (document 01's book): pending events and counts, from commands and answers alone.
 
 use crate::answer::Answer;
+use crate::hazard::Piece;
 use std::cmp::Reverse;
 
 /// An event that is scheduled and not yet delivered or withdrawn.
@@ -23,6 +24,10 @@ pub struct Pending {
     pub scheduled_at: f64,
     /// How long after that it comes.
     pub delta: f64,
+    /// The piece of its cause's rate curve in which it falls, as [`Answer::piece`] has it.
+    pub piece: u8,
+    /// That piece, where the cause's hazard is piecewise constant.
+    pub struck: Option<Piece>,
 }
 
 impl Pending {

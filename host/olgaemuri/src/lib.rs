@@ -48,7 +48,7 @@ pub use container::BytesError;
 pub use engine::Engine;
 pub use engine_state::{CauseState, ClockState, Request, Winner};
 pub use exponential::Exponential;
-pub use hazard::{Hazard, MAX_PAIRS, Pair};
+pub use hazard::{Hazard, MAX_PAIRS, Pair, Piece};
 pub use input::Input;
 pub use ledger::{Account, Pending};
 pub use outcome::{Applied, Outcome, Step};

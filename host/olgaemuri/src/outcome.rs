@@ -4,6 +4,7 @@ use crate::answer::Answer;
 use crate::batch;
 use crate::clock::{Before, Clock, enter, revert};
 use crate::command::Command;
+use crate::hazard::Piece;
 use crate::input::{Input, parts};
 use crate::ledger::Pending;
 use crate::refusal::Refusal;
@@ -22,6 +23,17 @@ pub struct Step {
     pub clock: Option<u8>,
     /// Whether it is an accepted command that was not undone later: one of [`Outcome::applied`].
     pub applied: bool,
+    /// Few have one, so it takes little room.
+    struck: Option<Box<Piece>>,
+}
+
+impl Step {
+    /// The piece of the rate curve in which the event falls that was scheduled or delivered, where its cause's hazard was piecewise
+    /// constant when it was scheduled.
+    #[must_use]
+    pub fn struck(&self) -> Option<Piece> {
+        self.struck.as_deref().copied()
+    }
 }
 
 /// An applied command. A run of the applied commands alone gives it the same answer.
@@ -34,6 +46,8 @@ pub struct Applied<'a> {
     pub answer: Answer,
     /// The clock that it names or, for DELIVER, the clock whose event is delivered.
     pub clock: u8,
+    /// As [`Step::struck`].
+    pub struck: Option<Piece>,
 }
 
 /// What a run gave.
@@ -74,6 +88,7 @@ impl Outcome {
                 command: step.input.command().expect("an applied step is a command"),
                 answer: step.answer,
                 clock: step.clock.expect("an applied command has a clock"),
+                struck: step.struck(),
             }
         })
     }
@@ -155,6 +170,7 @@ impl Outcome {
         let mut step = Step {
             clock: input.command().and_then(Command::clock),
             applied: false,
+            struck: None,
             input,
             begins,
             answer,
@@ -164,6 +180,8 @@ impl Outcome {
             Some(command) => {
                 let before = enter(&mut self.clocks, command, &answer);
                 (step.clock, step.applied) = (Some(before.clock), true);
+                let event = self.event(command, &before).filter(|_| answer.event);
+                step.struck = event.and_then(|event| event.struck).map(Box::new);
                 self.applied.push((self.steps.len(), before));
                 self.give_again(&step.input);
             }
@@ -174,6 +192,14 @@ impl Outcome {
             self.bytes_read += step.input.width() as u64;
         }
         self.steps.push(step);
+    }
+
+    /// The event that an entered DELIVER has delivered, or that is pending after another command.
+    fn event<'a>(&'a self, command: &Command, before: &'a Before) -> Option<&'a Pending> {
+        match command {
+            Command::Deliver => before.pending(),
+            _ => self.clock(before.clock)?.events.pending.as_ref(),
+        }
     }
 
     fn undo(&mut self) {

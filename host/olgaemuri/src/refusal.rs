@@ -42,7 +42,7 @@ pub enum Refusal {
     StreamExhausted = 15,
     /// 16: the threshold due is not finite, below 0 or above 1,024.
     InvalidThreshold = 16,
-    /// 17: under 32 answer bytes are left for a command. A [`Session`](crate::Session) never gives too few.
+    /// 17: under 40 answer bytes are left for a command. A [`Session`](crate::Session) never gives too few.
     AnswersFull = 17,
     /// 18: the stream is no multiple of 8 bytes or the result not 16. A [`Session`](crate::Session) never gives such buffers.
     InvalidBuffers = 18,

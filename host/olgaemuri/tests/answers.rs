@@ -3,7 +3,7 @@
 mod common;
 
 use common::Random;
-use olgaemuri::{Answer, Refusal};
+use olgaemuri::{ANSWER_BYTES, Answer, Refusal};
 
 #[test]
 fn every_answer_comes_back_from_its_bytes() {
@@ -17,6 +17,7 @@ fn every_answer_comes_back_from_its_bytes() {
         answer.cause = random.word() as u32;
         answer.delta = random.any_float();
         answer.ticks = u128::from(random.word()) << 64 | u128::from(random.word());
+        answer.piece = random.word() as u8;
         let bytes = answer.to_bytes();
         let back = Answer::from_bytes(&bytes).expect("an answer's own bytes");
         assert_eq!(back.to_bytes(), bytes);
@@ -27,7 +28,7 @@ fn every_answer_comes_back_from_its_bytes() {
 #[test]
 fn layout_of_row_9() {
     let answer = common::row_9().run().steps[2].answer;
-    let mut expected = [0; 32];
+    let mut expected = [0; ANSWER_BYTES];
     expected[1] = 1;
     expected[4] = 1;
     expected[14..17].copy_from_slice(&[0x10, 0x40, 0x28]);
@@ -42,10 +43,23 @@ fn layout_of_row_9() {
 
 #[test]
 fn ticks_are_low_then_high() {
-    let mut bytes = [0; 32];
+    let mut bytes = [0; ANSWER_BYTES];
     (bytes[16], bytes[24]) = (5, 1);
     let answer = Answer::from_bytes(&bytes).expect("an answer");
     assert_eq!(answer.ticks, (1 << 64) + 5);
+}
+
+#[test]
+fn the_piece_is_byte_32() {
+    let mut bytes = [0; ANSWER_BYTES];
+    bytes[32] = 255;
+    let answer = Answer::from_bytes(&bytes).expect("an answer");
+    assert_eq!((answer.piece, answer.ticks), (255, 0));
+    for at in 33..ANSWER_BYTES {
+        let mut more = bytes;
+        more[at] = 1;
+        assert_eq!(Answer::from_bytes(&more), None, "{at}");
+    }
 }
 
 #[test]
@@ -59,7 +73,7 @@ fn bytes_that_are_no_answer() {
         (2, 2),
         (3, 255),
     ] {
-        let mut bytes = [0; 32];
+        let mut bytes = [0; ANSWER_BYTES];
         bytes[at] = byte;
         assert_eq!(Answer::from_bytes(&bytes), None);
     }
@@ -80,4 +94,9 @@ fn answers_in_words() {
         "refused by 8: the clock is there already",
     ];
     assert_eq!(words, expected);
+    let mut answer = Answer::default();
+    (answer.event, answer.cause, answer.piece) = (true, 7, 2);
+    (answer.delta, answer.ticks) = (6.0, 60);
+    let words = "accepted, cause 7 after 6 at tick 60 in piece 2";
+    assert_eq!(answer.to_string(), words);
 }

@@ -76,7 +76,7 @@ fn assert_same_clock(held: &ClockState, told: &Clock) {
 fn assert_same_event(held: &Request, told: &Pending) {
     assert_eq!(held.delivery_order(), told.delivery_order());
     assert_eq!((held.clock, held.cause), (told.clock, told.cause));
-    assert_eq!(held.censored, told.censored);
+    assert_eq!((held.censored, held.piece), (told.censored, told.piece));
     assert_eq!(held.scheduled_at, told.scheduled_at);
     assert_eq!(held.time, told.scheduled_at + told.delta);
 }
@@ -256,7 +256,10 @@ fn every_field_of_a_clock() {
     );
     assert_eq!((clock.active, clock.request), (true, Some(0)));
     let winner = clock.winner.unwrap();
-    assert_eq!((winner.cause, winner.time), (NO_CAUSE, 4.0));
+    assert_eq!(
+        (winner.cause, winner.time, winner.piece),
+        (NO_CAUSE, 4.0, 0)
+    );
     assert_eq!(clock.last_update, 1.5);
     assert!([0, 14, 16, 255].map(|number| engine.clock(number).is_none()) == [true; 4]);
 }
@@ -286,6 +289,7 @@ fn every_field_of_a_request() {
     assert_eq!((request.priority, request.index), (-1, 0));
     assert_eq!((request.cause, request.censored), (NO_CAUSE, true));
     assert_eq!((request.scheduled_at, request.time), (1.5, 4.0));
+    assert_eq!(request.piece, 0);
 }
 
 #[test]

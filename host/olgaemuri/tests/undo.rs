@@ -3,7 +3,7 @@
 mod common;
 
 use common::{Random, create, likely_command, likely_session, reschedule, row_9, set};
-use olgaemuri::{Answer, Clock, Command, Pending, Policy, Session};
+use olgaemuri::{ANSWER_BYTES, Answer, Clock, Command, Pending, Policy, Session};
 
 /// What a planner sees, apart from the list of steps.
 #[derive(Clone, Debug, PartialEq)]
@@ -11,7 +11,7 @@ struct View {
     pending: Vec<Pending>,
     clocks: Vec<Clock>,
     draws: usize,
-    applied: Vec<(Command, [u8; 32])>,
+    applied: Vec<(Command, [u8; ANSWER_BYTES])>,
 }
 
 fn view(session: &Session) -> View {

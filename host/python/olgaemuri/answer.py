@@ -1,4 +1,4 @@
-"""The engine's answer to one command, from its 32 bytes."""
+"""The engine's answer to one command, from its 40 bytes."""
 
 from __future__ import annotations
 
@@ -20,6 +20,7 @@ class Answer:
     cause: int = 0
     delta: float = 0.0  # how long after the command's time it comes; for Deliver, after the time at which it was scheduled
     ticks: int = 0
+    piece: int = 0  # of its cause's rate curve in which it falls: pairs from 0, then the trailing rate; else 0
 
     @property
     def number(self) -> int:
@@ -28,7 +29,7 @@ class Answer:
 
     @classmethod
     def from_bytes(cls, answer: bytes) -> Answer:
-        """The answer with these 32 bytes."""
-        number, event, censored, withdrawn, cause, delta, low, high = struct.unpack("<4BId2Q", answer)
+        """The answer with these 40 bytes, of which the last seven are not used."""
+        number, event, censored, withdrawn, cause, delta, low, high, piece = struct.unpack("<4BId2QB7x", answer)
         refusal = Refusal(number) if number else None
-        return cls(refusal, bool(event), bool(censored), bool(withdrawn), cause, delta, high << 64 | low)
+        return cls(refusal, bool(event), bool(censored), bool(withdrawn), cause, delta, high << 64 | low, piece)

@@ -41,6 +41,7 @@ class Step:
             "cause": answer.cause if event else None,
             "delta": answer.delta if event else None,
             "ticks": answer.ticks if event else None,
+            "piece": answer.piece if event and not answer.censored else None,
             "applied": self.applied,
             "undone_by": self.undone_by,
         }

@@ -45,6 +45,7 @@ class ClockState:
     request: Optional[int]  # the index of its request in the queue
     last_update: float  # the time at which it was last rescheduled, paused or resumed
     causes: list[CauseState]  # by ascending number
+    winner_piece: int = 0  # of its cause's rate curve in which the winner falls, as in an answer
 
 
 @dataclass(frozen=True)
@@ -59,6 +60,7 @@ class Request:
     censored: bool
     scheduled_at: float
     time: float
+    piece: int = 0  # of its cause's rate curve in which it falls, as in an answer
 
     @property
     def delivery_order(self) -> tuple[int, int, int]:
@@ -165,7 +167,7 @@ class Engine:
             number, found.process, Policy(found.policy), Tie(found.tie), found.scale,
             (found.entity_index, found.generation) if found.has_entity else None, found.is_active,
             (found.winner_cause, found.winner_time) if found.has_winner else None, found.event_index if found.has_event else None,
-            found.last_update, [self._cause(number, place) for place in range(found.causes)],
+            found.last_update, [self._cause(number, place) for place in range(found.causes)], found.winner_piece,
         )
 
     def queue(self) -> list[Request]:
@@ -193,7 +195,7 @@ class Engine:
         clock = library.function("olgaemuri_clock")(*self._rows(), found.clock)
         return Request(
             found.clock, found.ticks_high << 64 | found.ticks_low, found.priority, found.index, clock.winner_cause,
-            clock.winner_cause == NO_CAUSE, clock.last_update, clock.winner_time,
+            clock.winner_cause == NO_CAUSE, clock.last_update, clock.winner_time, clock.winner_piece,
         )
 
     def _open(self, length: int, applied: bytes) -> None:

@@ -5,7 +5,7 @@ MAX_CAUSES = 8
 MAX_PAIRS = 8
 
 THRESHOLD_BYTES = 8
-ANSWER_BYTES = 32
+ANSWER_BYTES = 40
 RESULT_BYTES = 16
 
 # A state: rows of eight words and rows of eight floats.

@@ -22,6 +22,7 @@ class Event:
     priority: int
     index: int  # how many events were scheduled before it
     state: str = "scheduled"  # or "withdrawn", or "delivered"
+    piece: int = 0  # of its cause's rate curve in which it falls, as in an answer
 
     @property
     def time(self) -> float:
@@ -45,6 +46,7 @@ class Event:
             "ticks": self.ticks,
             "state": self.state,
             "priority": self.priority,
+            "piece": None if self.censored else self.piece,
         }
 
 
@@ -96,6 +98,5 @@ class Ledger:
     def _schedule(self, command: Command, answer: Answer) -> None:
         index = len(self.events)
         self.pending[command.clock] = index
-        self.events.append(
-            Event(command.clock, answer.cause, answer.censored, command.now, answer.delta, answer.ticks, command.priority, index)
-        )
+        event = Event(command.clock, answer.cause, answer.censored, command.now, answer.delta, answer.ticks, command.priority, index)
+        self.events.append(replace(event, piece=answer.piece))

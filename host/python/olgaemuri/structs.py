@@ -25,9 +25,9 @@ class Clock(Structure):
 
     _fields_ = [
         ("found", c_bool), ("has_entity", c_bool), ("is_active", c_bool), ("has_event", c_bool), ("has_winner", c_bool),
-        ("policy", c_uint8), ("tie", c_uint8), ("generation", c_uint32), ("winner_cause", c_uint32), ("process", c_uint64),
-        ("entity_index", c_uint64), ("causes", c_uint64), ("event_index", c_uint64), ("scale", c_double), ("winner_time", c_double),
-        ("last_update", c_double),
+        ("policy", c_uint8), ("tie", c_uint8), ("winner_piece", c_uint8), ("generation", c_uint32), ("winner_cause", c_uint32),
+        ("process", c_uint64), ("entity_index", c_uint64), ("causes", c_uint64), ("event_index", c_uint64), ("scale", c_double),
+        ("winner_time", c_double), ("last_update", c_double),
     ]
 
 

@@ -26,7 +26,8 @@ class Answers(unittest.TestCase):
             self.assertEqual(engine.requests_made, len(outcome.events))
             queue, pending = engine.queue(), outcome.pending
             self.assertEqual([request.delivery_order for request in queue], [event.delivery_order for event in pending])
-            self.assertEqual([(request.clock, request.time) for request in queue], [(event.clock, event.time) for event in pending])
+            told = [(event.clock, event.time, event.piece) for event in pending]
+            self.assertEqual([(request.clock, request.time, request.piece) for request in queue], told)
             accepted += len(outcome.applied)
         self.assertGreater(accepted, 1000)
 

@@ -97,7 +97,7 @@ class Refusals(unittest.TestCase):
 class Examples(unittest.TestCase):
     @unittest.skipIf(command_line() is None, "the command line is not built")
     def test_beside_the_command_line(self):
-        for name, breakdowns in [("press-shop", 12), ("guide-rails", 3)]:
+        for name, breakdowns in [("press-shop", 12), ("guide-rails", 3), ("punch-life", 7)]:
             with tempfile.TemporaryDirectory() as folder:
                 file = Path(folder) / "example.bytes"
                 session = str(ROOT / f"examples/{name}.session")
@@ -117,6 +117,7 @@ class Examples(unittest.TestCase):
             other = {**other, "clock": other["machine"], "ticks": ticks, "refusal": row.get("refusal")}
             shared = [name for name in row if name in other]
             self.assertGreaterEqual(len(shared), 7)
+            self.assertIn("piece", shared)
             self.assertEqual({name: row[name] for name in shared}, {name: other[name] for name in shared})
 
     def test_bytes_that_are_no_session(self):

@@ -1,11 +1,12 @@
-//! What the wrapper derives from answers alone (draws, pending events, clocks, the clock of a delivered event), held to the oracle's state.
+//! What the wrapper derives from answers alone (draws, pending events, clocks, the clock of a delivered event, the piece of a curve that
+//! an event falls in), held to the oracle's state.
 
 use cases::sessions::{Session, Step};
 use kairo_ecs_des::{HazardChannelState, SurvivalClock};
 use kairo_ecs_types::EventKind;
 use olgaemuri::{Cause, Clock, Command, Outcome, thresholds_from_bytes};
 use reference::choices::{POLICIES, TIES};
-use reference::hazard::Hazard;
+use reference::hazard::{Hazard, PIECEWISE};
 use reference::state::State;
 
 /// The first of these that differs, in words.
@@ -31,6 +32,7 @@ pub fn difference(session: &Session) -> Option<String> {
             "the clocks of delivered events",
             same_delivered(run, &steps),
         ),
+        ("the pieces of queued events", same_struck(run, &steps)),
     ];
     let (what, _) = same.iter().find(|(_, same)| !same)?;
     Some(format!("{what} of the wrapper are not the oracle's"))
@@ -43,13 +45,19 @@ fn through_wrapper(session: &Session) -> olgaemuri::Session {
     wrapped
 }
 
-/// Clock, order of delivery and cause of each.
+/// Clock, order of delivery, cause and piece of each.
 fn same_pending(run: &Outcome, state: &State) -> bool {
     let mut queue = state.scheduler.queue.clone();
     queue.sort_by_key(|queued| queued.order());
-    let queued = queue
-        .iter()
-        .map(|queued| (queued.clock, queued.order(), queued.request.kind));
+    let piece = |clock: u8| state.clocks[usize::from(clock)].as_ref().map(|c| c.piece);
+    let queued = queue.iter().map(|queued| {
+        (
+            queued.clock,
+            queued.order(),
+            queued.request.kind,
+            piece(queued.clock),
+        )
+    });
     let pending = run.pending().into_iter();
     pending
         .map(|event| {
@@ -57,6 +65,7 @@ fn same_pending(run: &Outcome, state: &State) -> bool {
                 event.clock,
                 event.delivery_order(),
                 EventKind::Custom(event.cause),
+                Some(event.piece),
             )
         })
         .eq(queued)
@@ -68,7 +77,7 @@ fn same_clocks(run: &Outcome, state: &State) -> bool {
         .iter()
         .zip(0..)
         .filter_map(|(clock, number)| Some((clock.as_ref()?, number)));
-    let present: Vec<(&SurvivalClock, u8)> = present.collect();
+    let present: Vec<_> = present.collect();
     let mut pairs = run.clocks.iter().zip(&present);
     run.clocks.len() == present.len()
         && pairs.all(|(clock, (other, number))| clock.number == *number && same_clock(clock, other))
@@ -111,4 +120,29 @@ fn same_delivered(run: &Outcome, steps: &[Step]) -> bool {
             step.input.command() == Some(&Command::Deliver) && step.answer.is_accepted();
         !delivered || step.clock == other.before.scheduler.next().map(|queued| queued.clock)
     })
+}
+
+/// Each event that is queued: number, end and rate of its piece, where the cause's hazard is a curve.
+fn same_struck(run: &Outcome, steps: &[Step]) -> bool {
+    run.steps.iter().zip(steps).all(|(step, other)| {
+        let queued = other.answer.event && step.input.command() != Some(&Command::Deliver);
+        let struck = step
+            .struck()
+            .map(|piece| (piece.number, piece.to, piece.rate));
+        !queued || struck == struck_piece(other)
+    })
+}
+
+/// The piece that the oracle answers, of the curve of the winner's channel.
+fn struck_piece(step: &Step) -> Option<(u8, Option<f64>, f64)> {
+    let name = step.command.as_ref()?.clock()?;
+    let clock = step.before.clocks[usize::from(name)].as_ref()?;
+    let mut channels = clock.channels.values();
+    let winner = channels.find(|channel| channel.cause_id.0 == step.answer.cause)?;
+    let hazard = Hazard::of(&winner.hazard).filter(|hazard| hazard.kind == PIECEWISE)?;
+    let number = step.answer.piece;
+    let pair = hazard.used().get(usize::from(number));
+    let rate = pair.map_or(hazard.first, |pair| pair.rate);
+    let rate = if rate > 0.0 { rate } else { 0.0 };
+    Some((number, pair.map(|pair| pair.end), rate))
 }

@@ -100,14 +100,14 @@ mod tests {
         let seen = difference(wrong, session).expect("the event byte differs");
         let text = report(wrong, session, &seen);
         for part in [
-            "answers differ first at byte 65: 01 in the Rust, 00 in the engine",
-            "journal 700 bytes, answers 101 bytes, result 16 bytes",
+            "answers differ first at byte 81: 01 in the Rust, 00 in the engine",
+            "journal 700 bytes, answers 125 bytes, result 16 bytes",
             "stream of 16 bytes: 2.0, 1.0",
             "   1  CREATE clock 0, process 1, policy 1, tie 0, scale 10.0",
             "   2  SET clock 0, cause 1, priority 0, now 0.0, kind 1, first 0.5",
             "   3  RESCHEDULE clock 0, now 0.0, has-censor 0, censor 0.0, priority 0",
-            "Rust: number 0, event 1, censored 0, withdrawn 0, cause 1, delta 4.0, ticks low 40 high 0",
-            "engine: number 0, event 0, censored 0, withdrawn 0, cause 1, delta 4.0, ticks low 40 high 0",
+            "Rust: number 0, event 1, censored 0, withdrawn 0, cause 1, delta 4.0, ticks low 40 high 0, piece 0",
+            "engine: number 0, event 0, censored 0, withdrawn 0, cause 1, delta 4.0, ticks low 40 high 0, piece 0",
         ] {
             assert!(text.contains(part), "{part}\nnot in\n{text}");
         }

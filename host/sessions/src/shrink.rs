@@ -233,7 +233,7 @@ mod tests {
             commands: [pause(3), pause(4)].concat(),
             stream: vec![],
             journal: 0,
-            answers: 64,
+            answers: 2 * ANSWER_BYTES,
             result: 15,
         };
         let small = shrink(&session, &|s| {

@@ -43,6 +43,9 @@ const CHANGES: [Change; 22] = [
     &[("first", f64::NAN)],
 ];
 
+/// How many chosen states there are here.
+pub const COUNT: usize = CHANGES.len();
+
 /// Each list of commands given to each state, with what both sides answered.
 pub fn compare(layout: &Layout) -> Result<Refusals, String> {
     let stream: Vec<u8> = THRESHOLDS.into_iter().flat_map(f64::to_le_bytes).collect();

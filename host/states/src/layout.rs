@@ -12,7 +12,9 @@ pub enum Kind {
     Flag,
     /// One of so many choices.
     Choice(u8),
+    /// A small number, for which any word is coded.
     Byte,
+    Word8,
     Word32,
     Word64,
     Float,
@@ -21,7 +23,7 @@ pub enum Kind {
 impl Kind {
     pub fn width(self) -> usize {
         match self {
-            Kind::Flag | Kind::Choice(_) | Kind::Byte => 1,
+            Kind::Flag | Kind::Choice(_) | Kind::Byte | Kind::Word8 => 1,
             Kind::Word32 => 4,
             Kind::Word64 | Kind::Float => 8,
         }
@@ -171,7 +173,7 @@ const CHANNEL_TAIL: [Row; 3] = [
     float("interval start", 0, 2),
 ];
 
-const CLOCK_TAIL: [Row; 7] = [
+const CLOCK_TAIL: [Row; 8] = [
     word(Kind::Flag, "scheduled", 1, 0),
     word(Kind::Word64, "scheduled index", 1, 1),
     word(Kind::Flag, "has-winner", 1, 2),
@@ -179,6 +181,7 @@ const CLOCK_TAIL: [Row; 7] = [
     float("winner's time", 0, 1),
     word(Kind::Flag, "active flag", 1, 4),
     float("last update time", 0, 2),
+    word(Kind::Word8, "winner's piece", 1, 5),
 ];
 
 /// Pair `i` of a channel.
@@ -285,7 +288,7 @@ mod tests {
     #[test]
     fn fields_and_spare_places_fill_the_rows() {
         let layout = Layout::new();
-        let spare = 16 * (3 + 5 + 8 * (4 + 4)) + 4 + 16 * 3;
+        let spare = 16 * (2 + 5 + 8 * (4 + 4)) + 4 + 16 * 3;
         assert_eq!(layout.spare.len(), spare);
         assert_eq!(layout.fields.len() + spare, places().count());
         let mut places: Vec<Place> = layout.fields.iter().map(|f| f.place).collect();

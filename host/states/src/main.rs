@@ -10,6 +10,7 @@
 mod both;
 mod engine;
 mod handed_in;
+mod handed_in_pieces;
 mod layout;
 mod reading;
 mod rows;
@@ -22,7 +23,7 @@ use cases::random::Random;
 use cases::sessions::{JOURNAL_BEFORE, Session};
 use cases::{equal_ticks, lists, session_kinds};
 use layout::Layout;
-use olgaemuri_sys::{RESULT_BYTES, THRESHOLD_BYTES};
+use olgaemuri_sys::{ANSWER_BYTES, RESULT_BYTES, THRESHOLD_BYTES};
 use reference::command::width;
 use std::env;
 use std::process::ExitCode;
@@ -54,8 +55,10 @@ fn main() -> ExitCode {
 /// What was compared, or the first difference in words.
 fn compare_all(seed: u64, count: u64, each: u64) -> Result<Tally, String> {
     let layout = Layout::new();
+    let mut handed_in = handed_in::compare(&layout)?;
+    handed_in.add(&handed_in_pieces::compare(&layout)?);
     let mut tally = Tally {
-        handed_in: handed_in::compare(&layout)?,
+        handed_in,
         ..Tally::default()
     };
     let (mut source, mut random) = (Random::new(seed), Random::new(!seed));
@@ -108,7 +111,7 @@ fn compare(tries: &mut Tries, s: &Session, each: u64, swept: bool) -> Result<(),
         .map_err(|words| format!("at opening: {words}"))?;
     let (mut rest, mut answers) = (&s.commands[..], Vec::new());
     while !rest.is_empty() {
-        let number = answers.len() / 32 + 1;
+        let number = answers.len() / ANSWER_BYTES + 1;
         let said = |words| format!("command {number}: {words}");
         answers.extend(both.give(layout, &s.stream, rest).map_err(said)?);
         tries.tally.commands += 1;
@@ -138,7 +141,7 @@ fn same_run(s: &Session, answers: &[u8], journal: &[u8]) -> Result<(), String> {
         &mut run_answers,
         &mut result,
     );
-    let answered = (answers.len() / 32) as u64;
+    let answered = (answers.len() / ANSWER_BYTES) as u64;
     if result[..8] == answered.to_le_bytes() && run_answers == answers && run_journal == journal {
         return Ok(());
     }

@@ -66,8 +66,8 @@ impl Rows {
             && floats.zip(others).all(same)
     }
 
-    /// Whether the rows are coded as a state's: flags, choices and numbers of 32 bits within their bounds, zero in every spare place, and
-    /// no rate beside the kind that has none.
+    /// Whether the rows are coded as a state's: flags, choices and numbers of 8 and 32 bits within their bounds, zero in every spare place,
+    /// and no rate beside the kind that has none.
     pub fn is_coded(&self, layout: &Layout) -> bool {
         let zero = |place: &Place| self.bits(*place) == 0;
         layout.spare.iter().all(zero)
@@ -80,6 +80,7 @@ impl Rows {
         match field.kind {
             Kind::Flag => bits < 2,
             Kind::Choice(choices) => bits < u64::from(choices),
+            Kind::Word8 => bits <= u64::from(u8::MAX),
             Kind::Word32 => bits <= u64::from(u32::MAX),
             Kind::Byte | Kind::Word64 | Kind::Float => true,
         }
@@ -118,6 +119,7 @@ mod tests {
         assert!(with(Place::Word(0, 0), 1) && !with(Place::Word(0, 0), 2));
         assert!(with(Place::Word(2, 2), 4) && !with(Place::Word(2, 2), 5));
         assert!(with(Place::Word(161, 3), 0xFFFF_FFFF) && !with(Place::Word(161, 3), 1 << 32));
+        assert!(with(Place::Word(1, 5), 255) && !with(Place::Word(1, 5), 256));
         assert!(!with(Place::Word(160, 4), 1) && !with(Place::Float(0, 3), minus_zero));
         assert!(!with(Place::Float(1, 3), minus_zero) && with(Place::Float(1, 2), minus_zero));
     }

@@ -17,6 +17,13 @@ impl Refusals {
         self.by_13 += u64::from(number == 13);
     }
 
+    /// What was counted elsewhere too.
+    pub fn add(&mut self, other: &Refusals) {
+        self.inputs += other.inputs;
+        self.by_1 += other.by_1;
+        self.by_13 += other.by_13;
+    }
+
     /// Neither number is missing.
     fn has_both(&self) -> bool {
         self.by_1 > 0 && self.by_13 > 0

@@ -8,6 +8,7 @@ use crate::rows::Rows;
 use crate::tally::Tally;
 use crate::tampering;
 use cases::random::Random;
+use olgaemuri_sys::ANSWER_BYTES;
 use reference::command::{DELIVER, UNDO};
 use reference::execute::execute;
 use reference::record::{decode, encode};
@@ -95,7 +96,7 @@ impl Tries<'_> {
     }
 
     /// The number that any rows are answered with, held to what the oracle says of them.
-    fn number(&mut self, rows: &Rows, journal: &[u8], input: &[u8]) -> Result<u8, String> {
+    pub fn number(&mut self, rows: &Rows, journal: &[u8], input: &[u8]) -> Result<u8, String> {
         match reading::read(self.layout, rows) {
             Reading::Uncoded => {
                 self.tally.uncoded += 1;
@@ -154,6 +155,6 @@ fn is_1_or_13(number: u8) -> bool {
 fn refusal(rows: &Rows, journal: &[u8], stream: &[u8], input: &[u8]) -> Option<u8> {
     let (mut after, mut bytes) = (rows.clone(), journal.to_vec());
     let answer = engine::execute(&mut after, stream, &mut bytes, input);
-    let is_refusal = answer[0] != 0 && answer[1..] == [0; 31];
+    let is_refusal = answer[0] != 0 && answer[1..] == [0; ANSWER_BYTES - 1];
     (is_refusal && after.is_same(rows) && bytes == journal).then_some(answer[0])
 }

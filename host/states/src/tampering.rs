@@ -29,7 +29,7 @@ const FLOATS: [f64; 17] = [
     f64::NAN,
 ];
 
-/// Words around the bounds of flags, choices, counts, bytes and numbers of 32 bits.
+/// Words around the bounds of flags, choices, counts, bytes and numbers of 8 and 32 bits.
 const WORDS: [u64; 21] = [
     0,
     1,
@@ -86,7 +86,7 @@ fn other(random: &mut Random, kind: Kind, bytes: &[u8]) -> Vec<u8> {
         Kind::Choice(choices) => {
             vec![(bytes[0] + 1 + random.below(u64::from(choices) - 1) as u8) % choices]
         }
-        Kind::Byte => vec![bytes[0].wrapping_add(random.pick(&[1, 255, 7, 16]))],
+        Kind::Byte | Kind::Word8 => vec![bytes[0].wrapping_add(random.pick(&[1, 255, 7, 16]))],
         Kind::Word32 | Kind::Word64 => near(random, bytes),
         Kind::Float => random.pick(&FLOATS).to_le_bytes().to_vec(),
     }

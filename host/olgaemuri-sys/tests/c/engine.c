@@ -24,7 +24,7 @@ static void print_clock(const struct engine *e, size_t number)
     if (clock.has_entity)
         printf(" entity %" PRIu64 ":%" PRIu32, clock.entity_index, clock.generation);
     if (clock.has_winner)
-        printf(" winner %" PRIu32 " at %g", clock.winner_cause, clock.winner_time);
+        printf(" winner %" PRIu32 " at %g in piece %u", clock.winner_cause, clock.winner_time, clock.winner_piece);
     if (clock.has_event)
         printf(" request %" PRIu64, clock.event_index);
     printf("\n");
@@ -58,8 +58,8 @@ static void give(struct engine *e, const char *title, const uint8_t *command, si
 {
     struct olgaemuri_answer answer =
         olgaemuri_state_execute(&e->state, e->stream, sizeof e->stream, e->journal, sizeof e->journal, command, length);
-    printf("%s: number %u event %u censored %u withdrawn %u cause %" PRIu32 " delta %g ticks %" PRIu64 "\n", title, answer.number,
-           answer.event, answer.censored, answer.withdrawn, answer.cause, answer.delta, answer.ticks_low);
+    printf("%s: number %u event %u censored %u withdrawn %u cause %" PRIu32 " delta %g ticks %" PRIu64 " piece %u\n", title,
+           answer.number, answer.event, answer.censored, answer.withdrawn, answer.cause, answer.delta, answer.ticks_low, answer.piece);
 }
 
 /* Two presses; the second has two causes, one of them with pairs. */
@@ -119,7 +119,8 @@ static void refused(struct engine *e)
     olgaemuri_put_deliver(command);
     printf("short answer: returned %u, wrote %u\n",
            olgaemuri_execute(e->state.words, OLGAEMURI_STATE_WORD_ROWS, e->state.floats, OLGAEMURI_STATE_FLOAT_ROWS, e->stream,
-                             sizeof e->stream, e->journal, sizeof e->journal, command, 1, answer, 31),
+                             sizeof e->stream, e->journal, sizeof e->journal, command, 1, answer,
+                             OLGAEMURI_ANSWER_BYTES - 1),
            answer[0] != 0xa5);
     printf("a row less: returned %u\n", olgaemuri_open(e->state.words, OLGAEMURI_STATE_WORD_ROWS - 1, e->state.floats,
                                                        OLGAEMURI_STATE_FLOAT_ROWS, e->journal, sizeof e->journal));

@@ -19,8 +19,9 @@ struct session {
 static void print_answer(const uint8_t *bytes)
 {
     struct olgaemuri_answer answer = olgaemuri_get_answer(bytes);
-    printf("number %u event %u censored %u withdrawn %u cause %" PRIu32 " delta %g ticks %" PRIu64 " %" PRIu64 "\n", answer.number,
-           answer.event, answer.censored, answer.withdrawn, answer.cause, answer.delta, answer.ticks_low, answer.ticks_high);
+    printf("number %u event %u censored %u withdrawn %u cause %" PRIu32 " delta %g ticks %" PRIu64 " %" PRIu64 " piece %u\n",
+           answer.number, answer.event, answer.censored, answer.withdrawn, answer.cause, answer.delta, answer.ticks_low, answer.ticks_high,
+           answer.piece);
 }
 
 /* Runs the list and prints the number returned, the result, the answers and how long the applied commands are. */
@@ -93,10 +94,11 @@ static void refusals(struct session *s)
 static void short_buffers(struct session *s)
 {
     struct olgaemuri_result result;
+    const size_t three = 3 * OLGAEMURI_ANSWER_BYTES;
     begin(s);
-    uint8_t number = olgaemuri_run_session(s->list, s->length, s->stream, 16, s->journal, ROOM, s->answers, 95, &result);
-    printf("95 answer bytes: returned %u, answered %" PRIu64 "\n", number, result.answered);
-    number = olgaemuri_run_session(s->list, s->length, s->stream, 15, s->journal, ROOM, s->answers, 96, &result);
+    uint8_t number = olgaemuri_run_session(s->list, s->length, s->stream, 16, s->journal, ROOM, s->answers, three - 1, &result);
+    printf("%zu answer bytes: returned %u, answered %" PRIu64 "\n", three - 1, number, result.answered);
+    number = olgaemuri_run_session(s->list, s->length, s->stream, 15, s->journal, ROOM, s->answers, three, &result);
     printf("15 stream bytes: returned %u, answered %" PRIu64 "\n", number, result.answered);
     number = olgaemuri_run_session(NULL, 0, NULL, 0, NULL, 0, NULL, 0, &result);
     printf("no bytes: returned %u, answered %" PRIu64 "\n", number, result.answered);

@@ -40,10 +40,9 @@ impl Csv {
 }
 
 const ANSWERS_HEAD: &str = "no,line,command,machine,machine_name,now,number,refusal,event,censored,withdrawn,\
-    cause,cause_name,delta,ticks,applied,undone_by,text";
+    cause,cause_name,delta,ticks,applied,undone_by,text,piece";
 
-const EVENTS_HEAD: &str =
-    "no,machine,machine_name,cause,cause_name,censored,scheduled_at,time,ticks,state,priority";
+const EVENTS_HEAD: &str = "no,machine,machine_name,cause,cause_name,censored,scheduled_at,time,ticks,state,priority,piece";
 
 fn write_answers(report: &Report, out: &mut dyn Write) -> io::Result<()> {
     writeln!(out, "{ANSWERS_HEAD}")?;
@@ -55,7 +54,7 @@ fn write_events(events: &[Event], names: &Names, out: &mut dyn Write) -> io::Res
     writeln!(out, "{EVENTS_HEAD}")?;
     for (event, number) in events.iter().zip(1..) {
         let mut cells = event_cells(number, event, names).to_vec();
-        cells.push(event.priority.to_string());
+        cells.extend([event.priority.to_string(), piece_cell(event.piece())]);
         write_cells(&cells, out)?;
     }
     Ok(())
@@ -70,7 +69,7 @@ fn flag(flag: bool) -> String {
     u8::from(flag).to_string()
 }
 
-fn answer_cells(row: &Row, names: &Names) -> [String; 18] {
+fn answer_cells(row: &Row, names: &Names) -> [String; 19] {
     let (step, answer) = (row.step, &row.step.answer);
     let event = |text: String| if answer.event { text } else { String::new() };
     let now = step.input.command().and_then(|command| command.now());
@@ -95,7 +94,13 @@ fn answer_cells(row: &Row, names: &Names) -> [String; 18] {
         flag(step.applied),
         row.undone_by.map_or(String::new(), |undo| undo.to_string()),
         step.input.to_string().replace('\n', " "),
+        piece_cell(row.piece()),
     ]
+}
+
+/// The number of a piece; nothing where there is no breakdown.
+pub fn piece_cell(piece: Option<u8>) -> String {
+    piece.map_or(String::new(), |piece| piece.to_string())
 }
 
 /// An event's cells behind a number.

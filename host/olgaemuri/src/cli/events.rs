@@ -1,6 +1,6 @@
 //! The events that the applied commands schedule, and what became of each.
 
-use olgaemuri::{Answer, Applied, CLOCKS, Command, Outcome, Pending};
+use olgaemuri::{Applied, CLOCKS, Command, Outcome, Pending, Piece};
 
 /// What became of an event.
 #[derive(Clone, Copy, Debug, PartialEq)]
@@ -34,6 +34,16 @@ pub struct Event {
     pub priority: i32,
     /// Its place among the deliveries, or among the pending events in the order of delivery.
     pub place: Option<usize>,
+    /// The piece of its cause's rate curve in which it falls, where the hazard is piecewise.
+    pub struck: Option<Piece>,
+}
+
+impl Event {
+    /// The number of its piece, which is 0 for a hazard that has no pieces; none for the end of observation.
+    pub fn piece(&self) -> Option<u8> {
+        let number = self.struck.map_or(0, |piece| piece.number);
+        Some(number).filter(|_| !self.censored)
+    }
 }
 
 /// The events in the order in which they were scheduled. Undone commands have left no trace in it.
@@ -78,7 +88,7 @@ impl Walk {
             Command::Reschedule { now, priority, .. } | Command::Resume { now, priority, .. }
                 if applied.answer.event =>
             {
-                self.schedule(applied.clock, &applied.answer, *now, *priority);
+                self.schedule(applied, *now, *priority);
             }
             _ => {}
         }
@@ -99,7 +109,8 @@ impl Walk {
         self.deliveries += 1;
     }
 
-    fn schedule(&mut self, machine: u8, answer: &Answer, now: f64, priority: i32) {
+    fn schedule(&mut self, applied: &Applied, now: f64, priority: i32) {
+        let (machine, answer) = (applied.clock, &applied.answer);
         let index = self.events.len();
         self.pending[usize::from(machine)] = Some(index);
         self.events.push(Event {
@@ -112,6 +123,7 @@ impl Walk {
             fate: Fate::Pending,
             priority,
             place: None,
+            struck: applied.struck,
         });
     }
 }
@@ -128,6 +140,7 @@ impl From<Pending> for Event {
             fate: Fate::Pending,
             priority: pending.priority,
             place: None,
+            struck: pending.struck,
         }
     }
 }

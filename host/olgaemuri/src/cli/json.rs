@@ -118,6 +118,7 @@ fn row_object(row: &Row, names: &Names) -> String {
         ("cause_name", event(string(&names.cause(answer.cause)))),
         ("delta", event(number(answer.delta))),
         ("ticks", event(string(&answer.ticks.to_string()))),
+        ("piece", maybe(row.piece(), |piece| piece.to_string())),
         ("applied", step.applied.to_string()),
         ("undone_by", maybe(row.undone_by, |undo| undo.to_string())),
     ])
@@ -135,5 +136,6 @@ fn event_object(event: &Event, names: &Names) -> String {
         ("ticks", string(&event.ticks.to_string())),
         ("state", string(event.fate.word())),
         ("priority", event.priority.to_string()),
+        ("piece", maybe(event.piece(), |piece| piece.to_string())),
     ])
 }

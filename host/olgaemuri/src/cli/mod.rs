@@ -6,6 +6,7 @@ mod arguments;
 mod compare;
 mod convert;
 mod csv;
+mod curve;
 mod events;
 mod files;
 mod help;
@@ -50,7 +51,7 @@ impl From<String> for Failure {
     }
 }
 
-const SUBCOMMANDS: [&str; 9] = [
+const SUBCOMMANDS: [&str; 10] = [
     "run",
     "compare",
     "convert",
@@ -59,6 +60,7 @@ const SUBCOMMANDS: [&str; 9] = [
     "sweep",
     "summary",
     "rate",
+    "curve",
     "help",
 ];
 
@@ -106,6 +108,7 @@ fn dispatch(words: &[String]) -> Result<u8, Failure> {
         "sweep" => with(rest, &sweep::OPTIONS, help::SWEEP, sweep::sweep),
         "summary" => with(rest, &sweep::SUMMARY_OPTIONS, help::SUMMARY, sweep::summary),
         "rate" => with(rest, &rate::OPTIONS, help::RATE, rate::rate),
+        "curve" => with(rest, &curve::OPTIONS, help::CURVE, curve::curve),
         "help" | "--help" | "-h" => help::show(rest.first().map(String::as_str)),
         "--version" | "-V" => {
             files::write(

@@ -18,6 +18,14 @@ pub struct Row<'a> {
     pub undoes: Option<usize>,
 }
 
+impl Row<'_> {
+    /// The number of the piece in which the breakdown falls that was scheduled or delivered; none without one.
+    pub fn piece(&self) -> Option<u8> {
+        let answer = &self.step.answer;
+        Some(answer.piece).filter(|_| answer.event && !answer.censored)
+    }
+}
+
 /// What a row has beside its step.
 #[derive(Clone, Copy, Debug)]
 struct Mark {

@@ -4,6 +4,7 @@ use super::events::{Event, breakdowns};
 use super::report::{Report, Row};
 use super::table::{Column, Table, write_aligned};
 use super::wording::{self, counted};
+use olgaemuri::Piece;
 use olgaemuri::text::{Names, columns, visible};
 use std::io::{self, Write};
 
@@ -20,7 +21,7 @@ pub fn write_report(report: &Report, most: Option<usize>, out: &mut dyn Write) -
     write_breakdowns(&list, report.names(), most, out)
 }
 
-const COLUMNS: [Column; 11] = [
+const COLUMNS: [Column; 12] = [
     Column::Right("no"),
     Column::Right("line"),
     Column::Right("now"),
@@ -29,15 +30,18 @@ const COLUMNS: [Column; 11] = [
     Column::Left("operands"),
     Column::Left("answer"),
     Column::Name("cause"),
+    Column::Right("piece"),
     Column::Right("after"),
     Column::Right("tick"),
     Column::Left("note"),
 ];
 
-/// The places of the line's number, which is left out where there is little room, and of what stands below the others then.
+/// The places of the line's number, which is left out where there is little room, and of what stands below the others then. Pieces
+/// have a column where a breakdown falls in one.
 const LINE: usize = 1;
 const OPERANDS: usize = 5;
-const NOTE: usize = 10;
+const PIECE: usize = 8;
+const NOTE: usize = 11;
 
 /// The rows are made twice, to find the columns' widths and to be written, so that they need not be kept.
 fn write_answers(report: &Report, most: Option<usize>, out: &mut dyn Write) -> io::Result<()> {
@@ -49,32 +53,42 @@ fn write_answers(report: &Report, most: Option<usize>, out: &mut dyn Write) -> i
     let rows = || whole().map(shortened);
     let mut table = Table::new(&COLUMNS);
     rows().for_each(|row| table.look_at(&row));
-    match most.filter(|most| table.width() > *most) {
+    let has_pieces = report.rows().any(|row| row.step.struck().is_some());
+    let is_shown = |place: usize| has_pieces || place != PIECE;
+    let wide = table.only(is_shown);
+    match most.filter(|most| wide.width() > *most) {
         Some(most) => write_narrow(&table, whole(), most, out),
         None => {
-            table.write_head(out)?;
-            rows().try_for_each(|row| table.write_row(out, &row))
+            wide.write_head(out)?;
+            rows().try_for_each(|row| wide.write_row(out, &kept(row, is_shown)))
         }
     }
 }
 
-/// Operands and note stand in lines of their own, below the rest.
+/// The cells of a row at these places.
+fn kept(row: Vec<String>, keep: impl Fn(usize) -> bool) -> Vec<String> {
+    let cells = (0..).zip(row).filter(|(place, _)| keep(*place));
+    cells.map(|(_, cell)| cell).collect()
+}
+
+/// Operands, piece and note stand in lines of their own, below the rest.
 fn write_narrow(
     table: &Table,
     rows: impl Iterator<Item = Vec<String>>,
     most: usize,
     out: &mut dyn Write,
 ) -> io::Result<()> {
-    let is_beside = |place: usize| ![LINE, OPERANDS, NOTE].contains(&place);
+    let is_beside = |place: usize| ![LINE, OPERANDS, PIECE, NOTE].contains(&place);
     let mut table = table.only(is_beside);
     table.narrow(most);
     table.write_head(out)?;
-    for row in rows {
-        let below = [OPERANDS, NOTE].map(|place| row[place].clone());
+    for mut row in rows {
+        if !row[PIECE].is_empty() {
+            row[PIECE].insert_str(0, "piece ");
+        }
+        let below = [OPERANDS, PIECE, NOTE].map(|place| row[place].clone());
         let below: Vec<String> = below.into_iter().filter(|cell| !cell.is_empty()).collect();
-        let beside = (0..).zip(row).filter(|(place, _)| is_beside(*place));
-        let beside: Vec<String> = beside.map(|(_, cell)| cell).collect();
-        table.write_row(out, &beside)?;
+        table.write_row(out, &kept(row, is_beside))?;
         for line in wrapped(
             &visible(&below.join("; ")),
             most.saturating_sub(INDENT.len()),
@@ -116,6 +130,7 @@ fn cells(row: &Row, names: &Names) -> Vec<String> {
         wording::operands(&step.input, names),
         wording::answer(row),
         event(names.cause(answer.cause)),
+        struck_cell(step.struck()),
         event(wording::rounded(answer.delta)),
         event(answer.ticks.to_string()),
         wording::note(row),
@@ -142,38 +157,50 @@ fn summary(report: &Report) -> Vec<String> {
     lines
 }
 
-/// Priorities have a column where one of them is not 0.
+/// The number of the piece in which a breakdown falls, where its cause's hazard has pieces.
+fn struck_cell(struck: Option<Piece>) -> String {
+    struck.map_or(String::new(), |piece| piece.number.to_string())
+}
+
+/// Pieces have a column where a breakdown falls in one, priorities where one of them is not 0.
 pub fn write_breakdowns(
     events: &[Event],
     names: &Names,
     most: Option<usize>,
     out: &mut dyn Write,
 ) -> io::Result<()> {
-    let mut columns = vec![
-        Column::Right("no"),
-        Column::Name("machine"),
-        Column::Name("cause"),
-        Column::Right("at"),
-        Column::Right("tick"),
-        Column::Left("state"),
-    ];
-    let has_priorities = events.iter().any(|event| event.priority != 0);
-    if has_priorities {
-        columns.push(Column::Right("priority"));
-    }
-    let cells = |(event, number): (&Event, usize)| {
-        let mut cells = vec![number.to_string()];
-        cells.extend(event_cells(event, names));
-        if has_priorities {
-            cells.push(event.priority.to_string());
-        }
-        cells
-    };
     if events.is_empty() {
         return writeln!(out, "none");
     }
+    let has_pieces = events.iter().any(|event| event.struck.is_some());
+    let has_priorities = events.iter().any(|event| event.priority != 0);
+    let is_shown = |place: usize| match EVENT_COLUMNS[place] {
+        Column::Right("piece") => has_pieces,
+        Column::Right("priority") => has_priorities,
+        _ => true,
+    };
+    let columns = (0..EVENT_COLUMNS.len()).filter(|place| is_shown(*place));
+    let columns: Vec<Column> = columns.map(|place| EVENT_COLUMNS[place]).collect();
+    let cells = |(event, number): (&Event, usize)| {
+        let [machine, cause, time, ticks, state] = event_cells(event, names);
+        let (piece, priority) = (struck_cell(event.struck), event.priority.to_string());
+        let front = [number.to_string(), machine, cause, piece];
+        let cells = front.into_iter().chain([time, ticks, state, priority]);
+        kept(cells.collect(), is_shown)
+    };
     write_aligned(&columns, || events.iter().zip(1..).map(cells), most, out)
 }
+
+const EVENT_COLUMNS: [Column; 8] = [
+    Column::Right("no"),
+    Column::Name("machine"),
+    Column::Name("cause"),
+    Column::Right("piece"),
+    Column::Right("at"),
+    Column::Right("tick"),
+    Column::Left("state"),
+    Column::Right("priority"),
+];
 
 /// Machine, cause, time, tick, state.
 pub fn event_cells(event: &Event, names: &Names) -> [String; 5] {

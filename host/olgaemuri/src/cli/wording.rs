@@ -3,7 +3,7 @@
 use super::out_of_range::out_of_range;
 use super::report::{Report, Row};
 use olgaemuri::text::{Names, columns, cut, float_text};
-use olgaemuri::{Command, Hazard, Input, Pair, Refusal, Step};
+use olgaemuri::{Command, Hazard, Input, Pair, Piece, Refusal, Step};
 
 /// A float for tables: short, and rounded where its digits are many. CSV and JSON have all of them.
 pub fn rounded(value: f64) -> String {
@@ -74,7 +74,16 @@ fn schedule_words(censor: Option<f64>, priority: i32) -> String {
     words.join(", ")
 }
 
-fn hazard_words(hazard: &Hazard) -> String {
+/// A piece of a rate curve: its number, its rate, and where it lies.
+pub fn piece_words(piece: &Piece) -> String {
+    let (number, rate, from) = (piece.number, rounded(piece.rate), rounded(piece.from));
+    match piece.to.map(rounded) {
+        Some(to) => format!("piece {number} (rate {rate} from {from} to {to})"),
+        None => format!("piece {number} (rate {rate} from {from} on)"),
+    }
+}
+
+pub fn hazard_words(hazard: &Hazard) -> String {
     match hazard {
         Hazard::Constant(rate) => format!("rate {}", rounded(*rate)),
         Hazard::Gompertz(eta) => format!("eta {}", rounded(*eta)),
@@ -186,6 +195,10 @@ fn event_words(row: &Row, names: &Names) -> String {
         .clock
         .map_or(String::new(), |machine| names.machine(machine));
     let (after, ticks) = (rounded(answer.delta), answer.ticks);
+    let struck = row.step.struck();
+    let struck = struck.map_or(String::new(), |piece| {
+        format!(", in {}", piece_words(&piece))
+    });
     let what = match (answer.event, answer.censored) {
         (false, _) => {
             let asked = matches!(
@@ -203,9 +216,9 @@ fn event_words(row: &Row, names: &Names) -> String {
     };
     match command {
         Some(Command::Deliver) => {
-            format!("delivered: {what}, {after} after it was scheduled, at tick {ticks}")
+            format!("delivered: {what}, {after} after it was scheduled, at tick {ticks}{struck}")
         }
-        _ => format!("scheduled: {what}, in {after}, at tick {ticks}"),
+        _ => format!("scheduled: {what}, in {after}, at tick {ticks}{struck}"),
     }
 }
 

@@ -59,6 +59,19 @@ fn the_lines_of_the_example_are_in_its_output() {
     }
 }
 
+/// The curve as the README shows it, without the last words.
+#[test]
+fn the_curve_is_shown_as_it_is_printed() {
+    let shown = blocks(README).into_iter();
+    let shown = shown.filter(|block| block.starts_with("punch 1: tool break."));
+    let shown: Vec<String> = shown.collect();
+    let printed = String::from_utf8(example("punch-life-curve.out")).unwrap();
+    assert_eq!(shown.len(), 1);
+    assert!(printed.starts_with(&format!("{}\n", shown[0])), "{printed}");
+    let words = "olgaemuri curve examples/punch-life.session \"punch 1\" \"tool break\"";
+    assert!(text_of(README).contains(&format!("\n    {words} --svg curve.svg\n")));
+}
+
 /// A Rust program without what its layout is free in.
 fn without_layout(program: &str) -> String {
     program
@@ -132,7 +145,7 @@ fn every_field_of_csv_and_json_is_in_the_format() {
     let json = text_of("examples/press-shop.json");
     let columns: Vec<&str> = csv.lines().next().unwrap().split(',').collect();
     let keys = keys(&json);
-    assert!(columns.len() == 18 && keys.contains(&"scheduled_at"));
+    assert!(columns.len() == 19 && keys.contains(&"scheduled_at"));
     for name in columns.into_iter().chain(keys) {
         assert!(fields.contains(&format!("`{name}`")), "{name}");
     }

@@ -5,12 +5,13 @@ use super::program::{example, olgaemuri, scratch};
 use std::fs;
 
 /// The examples with all their output, and the titles of their pictures.
-const EXAMPLES: [(&str, &str); 2] = [
+const EXAMPLES: [(&str, &str); 3] = [
     ("press-shop", "A press shop over two weeks, in hours"),
     (
         "guide-rails",
         "A press with guide rails that wear, in hours",
     ),
+    ("punch-life", "The life of a punch, in hours"),
 ];
 
 /// The output of `run` for each example, held to the stored file with this ending.
@@ -94,6 +95,59 @@ fn guide_rails() {
     assert_eq!(event, [1.0, 200.0]);
 }
 
+/// What the comments of the punch say: in which pieces its tools break, and when; what the softer one would have done.
+#[test]
+fn punch_life() {
+    let stored = String::from_utf8(example("punch-life.json")).unwrap();
+    let report = json::parse(&stored).unwrap();
+    let told = |line: &Value| {
+        let piece = line.get("piece");
+        let piece = (*piece != Value::Null).then(|| piece.number());
+        (
+            line.get("machine").number(),
+            piece,
+            line.get("time").number().round(),
+        )
+    };
+    let breakdowns: Vec<_> = report.get("breakdowns").array().iter().map(told).collect();
+    let expected = [
+        (0.0, Some(0.0), 15.0),
+        (1.0, Some(0.0), 60.0),
+        (0.0, Some(2.0), 161.0),
+        (1.0, None, 300.0),
+        (0.0, Some(3.0), 378.0),
+        (0.0, Some(2.0), 603.0),
+        (0.0, Some(0.0), 613.0),
+    ];
+    assert_eq!(breakdowns, expected);
+    let answers = report.get("answers").array().iter();
+    let undone = answers.filter(|answer| *answer.get("undone_by") != Value::Null);
+    let undone: Vec<&Value> = undone.map(|answer| answer.get("piece")).collect();
+    assert_eq!(undone, [&Value::Null, &Value::Number(2.0)]);
+}
+
+#[test]
+fn curves() {
+    let curve = [
+        "curve",
+        "examples/punch-life.session",
+        "punch 1",
+        "tool break",
+    ];
+    let title = "Tool break of punch 1: the rate over the age, in hours";
+    for (options, ending) in [
+        (&[][..], "out"),
+        (&["--csv"], "csv"),
+        (&["--json"], "json"),
+        (&["--svg", "-", "--title", title], "svg"),
+    ] {
+        check(
+            &[&curve, options].concat(),
+            &format!("punch-life-curve.{ending}"),
+        );
+    }
+}
+
 #[test]
 fn side_by_side() {
     check(
@@ -169,6 +223,6 @@ fn the_csv_has_as_many_cells_in_every_line() {
         let outside = line.split('"').step_by(2);
         outside.map(|part| part.matches(',').count()).sum::<usize>() + 1
     };
-    assert!(stored.lines().all(|line| cells(line) == 18), "{stored}");
+    assert!(stored.lines().all(|line| cells(line) == 19), "{stored}");
     assert_eq!(stored.lines().count(), 53);
 }

@@ -31,6 +31,60 @@ fn an_edit_is_made_and_taken_back() {
     assert_eq!(out, TAKEN_BACK);
 }
 
+/// A punch whose event falls in the piece after the last end.
+const PUNCH: &str = "thresholds 2.5 1\nmachine 0 \"punch 1\"\ncause 1 \"tool break\"\n\
+    create machine=0 policy=retain scale=10\n\
+    set machine=0 cause=1 now=0 hazard=piecewise pieces=2:1,5:0 then=0.5\nreschedule machine=0 now=0\n";
+
+/// The sentence tells the piece and its rate, and `list` has its number.
+#[test]
+fn pieces_are_told() {
+    let out = typed(&[], &format!("{PUNCH}list\ndeliver\nundo\nredo\n"));
+    let (told, piece) = (
+        "a breakdown of punch 1 by tool break",
+        "at tick 60, in piece 2 (rate 0.5 from 5 on)",
+    );
+    for line in [
+        format!("\nscheduled: {told}, in 6, {piece}\n"),
+        format!("\ndelivered: {told}, 6 after it was scheduled, {piece}\n"),
+        format!("\ndone again: deliver; delivered: {told}, 6 after it was scheduled, {piece}\n"),
+        "\n 1  punch 1  tool break      2   6    60  scheduled\n".to_string(),
+    ] {
+        assert!(out.contains(&line), "{line}\n{out}");
+    }
+    let paused = format!("{PUNCH}pause machine=0 now=1\nresume machine=0 now=3\n");
+    let out = typed(&[], &paused);
+    let piece = "in 1.5, at tick 45, in piece 0 (rate 1 from 0 to 2)\n";
+    assert!(out.contains(piece), "{out}");
+}
+
+#[test]
+fn curves_are_shown() {
+    let out = typed(&[], &format!("{PUNCH}curve \"punch 1\" 1 # all of it\n"));
+    for line in [
+        "\npunch 1: tool break. 1 breakdown: 0 delivered, 1 scheduled.\n",
+        "\n    2     5  on   0.5           1\n",
+    ] {
+        assert!(out.contains(line), "{line}\n{out}");
+    }
+    let two = "`curve` takes a machine and a cause; names with spaces stand in quotes";
+    for (line, told) in [
+        ("curve", two),
+        ("curve punch 1 1", two),
+        (
+            "curve 3 1",
+            "no machine with a cause `3` in the session; there is punch 1",
+        ),
+        (
+            "curve 0 \"tool brake\"",
+            "no cause `tool brake` in punch 1; did you mean `tool break`?",
+        ),
+    ] {
+        let out = typed(&[], &format!("{PUNCH}{line}\n"));
+        assert!(out.ends_with(&format!("{told}\n")), "{line}\n{out}");
+    }
+}
+
 const TAKEN_BACK: &str = "Type commands; `undo` and `redo`, `help` for help, `quit` to end.
   in force: 0; scheduled: nothing; thresholds drawn: 0 of 0
 noted

@@ -2,6 +2,7 @@
 
 mod compare;
 mod convert;
+mod curve;
 mod documents;
 mod examples;
 mod interactive;

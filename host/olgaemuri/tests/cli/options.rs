@@ -71,15 +71,17 @@ fn priorities_are_shown() {
     for line in shown {
         assert!(tables.contains(line), "{line}\n{tables}");
     }
-    let title =
-        "data-priority=\"1\"><title>machine 0: cause 1 at 4, tick 4, priority 1; scheduled,";
+    let title = "data-priority=\"1\" data-piece=\"0\"><title>machine 0: cause 1 at 4, tick 4, priority 1; scheduled,";
     assert!(run(&["--svg", "-"]).contains(title));
-    assert!(run(&["--json"]).contains("\"state\": \"scheduled\", \"priority\": -2147483648}"));
+    assert!(
+        run(&["--json"])
+            .contains("\"state\": \"scheduled\", \"priority\": -2147483648, \"piece\": 0}")
+    );
 }
 
 #[test]
 fn csv_of_breakdowns_and_events() {
-    let head = "no,machine,machine_name,cause,cause_name,censored,scheduled_at,time,ticks,state,priority\n";
+    let head = "no,machine,machine_name,cause,cause_name,censored,scheduled_at,time,ticks,state,priority,piece\n";
     let breakdowns = run(&["--csv=breakdowns"]);
     assert!(breakdowns.starts_with(head), "{breakdowns}");
     assert_eq!(breakdowns.lines().count(), 1 + 12);
@@ -90,7 +92,10 @@ fn csv_of_breakdowns_and_events() {
     let events = run(&["--csv=events"]);
     assert!(events.starts_with(head), "{events}");
     assert_eq!(events.lines().count(), 1 + 14);
-    assert_eq!(events.matches(",withdrawn,0\n").count(), 2);
+    assert_eq!(events.matches(",withdrawn,0,").count(), 2);
+    // the shear's blade, which was to break in piece 2, and an end of observation
+    assert_eq!(events.matches(",withdrawn,0,2\n").count(), 1);
+    assert_eq!(events.matches(",scheduled,0,\n").count(), 2);
     assert_eq!(run(&["--csv=answers"]), run(&["--csv"]));
     assert_eq!(run(&["--csv"]).into_bytes(), example("press-shop.csv"));
     let ran = olgaemuri(&["run", SESSION, "--csv=evens"], b"");

@@ -5,8 +5,8 @@ use super::program::{example, olgaemuri, scratch};
 use super::xml::{self, Element};
 use std::fs;
 
-/// Machine, cause, time's bits, ticks, state.
-type Event = (u64, u64, u64, String, String);
+/// Machine, cause, time's bits, ticks, state, piece.
+type Event = (u64, u64, u64, String, String, String);
 
 /// Runs a session: its answers, and its picture.
 fn run(session: &[u8], name: &str) -> (Value, Element) {
@@ -46,12 +46,15 @@ fn answered_events(answers: &[Value]) -> Vec<Event> {
                 answer.get("cause").number(),
                 answer.get("ticks").text().to_string(),
             );
+            let piece = answer.get("piece");
+            let piece = (*piece != Value::Null).then(|| piece.number().to_string());
             events.push((
                 machine as u64,
                 cause as u64,
                 time.to_bits(),
                 ticks,
                 "scheduled".to_string(),
+                piece.unwrap_or_default(),
             ));
         }
     }
@@ -75,6 +78,7 @@ fn drawn_events(picture: &Element) -> Vec<Event> {
             time,
             value("ticks"),
             value("state"),
+            value("piece"),
         )
     };
     let mut events: Vec<Event> = picture.with_class("event").into_iter().map(of).collect();
@@ -150,9 +154,11 @@ fn random_session(random: &mut u64) -> String {
             0 => format!("create machine={machine} policy=retain scale=10"),
             1..=3 => {
                 let (cause, rate) = (below(9), below(50) as f64 / 100.0);
-                format!(
-                    "set machine={machine} cause={cause} now={time} hazard=constant rate={rate}"
-                )
+                let hazard = match below(2) {
+                    0 => format!("constant rate={rate}"),
+                    _ => format!("piecewise pieces=1:{rate},3:0,5:0.1 then=0.2"),
+                };
+                format!("set machine={machine} cause={cause} now={time} hazard={hazard}")
             }
             4..=6 => format!(
                 "reschedule machine={machine} now={time} censor={}",
@@ -169,6 +175,39 @@ fn random_session(random: &mut u64) -> String {
         .collect();
     lines.splice(1..1, creates);
     lines.join("\n")
+}
+
+/// A mark says its piece when it is pointed at, and has its number where the hazard has pieces; so has the legend.
+#[test]
+fn pieces_are_drawn() {
+    let (_, picture) = run(&example("punch-life.session"), "pieces");
+    let struck = "punch 1: tool break at 378, tick 22680, piece 3 (rate 0.02 from 200 on); delivered, as scheduled at 163";
+    let seal = "punch 2: ram seal at 60, tick 3600; delivered, as scheduled at 0";
+    let events = picture.with_class("event").into_iter();
+    let titles: Vec<String> = events
+        .map(|event| event.child("title").text.clone())
+        .collect();
+    for title in [struck, seal] {
+        assert!(titles.iter().any(|told| told == title), "{titles:?}");
+    }
+    let words = |class: &str| -> Vec<String> {
+        texts(&picture, class)
+            .into_iter()
+            .map(|text| text.1)
+            .collect()
+    };
+    // the last one is the legend's
+    assert_eq!(words("piece"), ["0", "2", "3", "2", "1"]);
+    assert_eq!(words("piece-due"), ["0"]);
+    let legend = "number: piece of the cause's rate curve, from 0";
+    assert_eq!(words("legend").last().map(String::as_str), Some(legend));
+    let (_, without) = run(&example("guide-rails.session"), "no-pieces");
+    assert_eq!(texts(&without, "piece"), []);
+    assert!(
+        !texts(&without, "legend")
+            .iter()
+            .any(|text| text.1 == legend)
+    );
 }
 
 #[test]

@@ -180,7 +180,7 @@ fn bytes_are_not_written_to_a_terminal() {
 #[test]
 fn tables_fit_the_width() {
     let session = String::from_utf8(super::program::example("press-shop.session")).unwrap();
-    for width in [64, 80, 100, 120, 159] {
+    for width in [64, 80, 100, 120, 159, 166] {
         let out = run(&["--width", &width.to_string()], &session);
         let widest = out.lines().map(columns).max().unwrap();
         assert!(widest <= width, "{widest} columns of {width}\n{out}");

@@ -7,7 +7,7 @@ use std::fs;
 fn help_is_there_for_everything() {
     let general = olgaemuri(&["--help"], b"");
     assert_eq!(general.status, 0);
-    for topic in ["run", "compare", "convert", "interactive", "rate"] {
+    for topic in ["run", "compare", "convert", "interactive", "rate", "curve"] {
         assert!(general.text().contains(&format!("olgaemuri {topic}")));
         let by_option = olgaemuri(&[topic, "--help"], b"");
         let by_word = olgaemuri(&["help", topic], b"");
@@ -59,6 +59,13 @@ fn help_on_a_word_of_the_format() {
         let help = olgaemuri(&["help", kind], b"");
         assert!(help.text().starts_with("  hazard    how fast"), "{kind}");
         assert!(help.text().contains(kind), "{}", help.text());
+    }
+    for (word, part) in [
+        ("pieces", "Answers number them from 0"),
+        ("then", "number as the last piece"),
+    ] {
+        let help = olgaemuri(&["help", word], b"");
+        assert!(help.text().contains(part), "{}", help.text());
     }
     let help = olgaemuri(&["help", "policy"], b"");
     assert!(help.text().starts_with("  policy    what `set` does"));
@@ -161,7 +168,7 @@ fn without_words_and_without_a_terminal_it_says_how_it_is_used() {
     ));
     // the whole of it, which takes two lines
     let words: Vec<&str> = ran.err.lines().skip(1).take(2).map(str::trim).collect();
-    assert!(words.concat().ends_with("|rate|help"), "{}", ran.err);
+    assert!(words.concat().ends_with("|rate|curve|help"), "{}", ran.err);
 }
 
 #[test]

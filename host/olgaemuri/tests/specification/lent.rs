@@ -2,7 +2,7 @@
 
 use crate::common::{create_clock, reschedule_on, set_on};
 use crate::document::{number, table};
-use olgaemuri::{ANSWER_BYTES, Command, Policy};
+use olgaemuri::{ANSWER_BYTES, Answer, Command, Policy};
 use olgaemuri_sys::{
     Cause, Clock, Counts, ROW, Request, STATE_FLOAT_ROWS, STATE_WORD_ROWS, cause, clock, counts,
     execute, open, request,
@@ -111,6 +111,10 @@ impl Lent {
     }
 
     pub fn number(&mut self, input: &[u8]) -> u8 {
+        self.answer(input).number()
+    }
+
+    pub fn answer(&mut self, input: &[u8]) -> Answer {
         let stream: Vec<u8> = [2.0_f64, 4.0]
             .iter()
             .flat_map(|value| value.to_le_bytes())
@@ -118,7 +122,8 @@ impl Lent {
         let mut answer = [0; ANSWER_BYTES];
         self.call(|words, floats, journal| {
             execute(words, floats, &stream, journal, input, &mut answer)
-        })
+        });
+        Answer::from_bytes(&answer).expect("the engine's layout")
     }
 
     pub fn give(&mut self, command: &Command) {
@@ -168,6 +173,7 @@ fn edge(values: &str) -> (u64, Option<u64>) {
         "0, 1" => (1, Some(2)),
         "0 to 2" => (2, Some(3)),
         "0 to 4" => (4, Some(5)),
+        "below 2^8" => (255, Some(256)),
         "below 2^32" => ((1 << 32) - 1, Some(1 << 32)),
         "+0.0" | "+0.0 with kind 0, else any" => (0, Some((-0.0_f64).to_bits())),
         _ => panic!("{values}"),
@@ -265,6 +271,7 @@ fn told_word(lent: &Lent, name: &str) -> u64 {
         "event index" => told.event_index,
         "has winner" => u64::from(told.has_winner),
         "winner cause" => u64::from(told.winner_cause),
+        "winner piece" => u64::from(told.winner_piece),
         "active" => u64::from(told.is_active),
         "cause" => u64::from(channel.cause),
         "priority" => u64::from(channel.priority),

@@ -9,6 +9,7 @@ mod headings;
 mod lent;
 mod limits;
 mod order;
+mod pieces;
 mod rates;
 mod records;
 mod refusals;

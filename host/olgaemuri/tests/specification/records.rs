@@ -34,7 +34,7 @@ fn choices_have_these_bytes_and_names() {
 
 #[test]
 fn the_answer_s_bytes() {
-    let mut answers = [Answer::default(); 8];
+    let mut answers = [Answer::default(); 9];
     answers[0].refusal = Some(Refusal::InvalidState);
     answers[1].event = true;
     answers[2].censored = true;
@@ -43,6 +43,7 @@ fn the_answer_s_bytes() {
     answers[5].delta = floats()[0];
     answers[6].ticks = u128::from(u64::MAX);
     answers[7].ticks = u128::from(u64::MAX) << 64;
+    answers[8].piece = u8::MAX;
     let names = [
         "number",
         "event",
@@ -52,6 +53,7 @@ fn the_answer_s_bytes() {
         "delta",
         "ticks low",
         "ticks high",
+        "piece",
     ];
     let none = Answer::default().to_bytes();
     let places = answers.map(|answer| changed(&none, &answer.to_bytes()));
@@ -60,8 +62,9 @@ fn the_answer_s_bytes() {
         .iter()
         .map(|row| (row[2], range(row[0], row[1])))
         .collect();
-    assert_eq!(document, names.into_iter().zip(places).collect::<Vec<_>>());
-    assert_eq!(document[7].1.end, ANSWER_BYTES);
+    let (unused, used) = document.split_last().expect("rows");
+    assert_eq!(used, names.into_iter().zip(places).collect::<Vec<_>>());
+    assert_eq!(*unused, ("unused", used[8].1.end..ANSWER_BYTES));
 }
 
 #[test]

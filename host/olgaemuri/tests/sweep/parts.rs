@@ -119,10 +119,10 @@ fn parts_that_are_missing_or_out_of_order_are_told() {
 
 #[test]
 fn rows_that_are_none_are_told() {
-    let ran = olgaemuri(&["summary", "-"], b"0,,,,,,,,,,\nx\n");
+    let ran = olgaemuri(&["summary", "-"], b"0,,,,,,,,,,,\nx\n");
     assert_eq!(ran.status, 2);
     assert!(
-        ran.err.starts_with("standard input:2: expected 11 cells"),
+        ran.err.starts_with("standard input:2: expected 12 cells"),
         "{}",
         ran.err
     );
@@ -161,5 +161,8 @@ fn a_run_can_be_made_alone() {
         assert_eq!(cells[7].parse(), Ok(breakdown.get("time").number()));
         assert_eq!(cells[8], breakdown.get("ticks").text());
         assert_eq!(cells[9], breakdown.get("state").text());
+        let piece = breakdown.get("piece");
+        let piece = (*piece != crate::json::Value::Null).then(|| piece.number().to_string());
+        assert_eq!(cells[11], piece.unwrap_or_default());
     }
 }

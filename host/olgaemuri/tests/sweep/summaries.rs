@@ -171,7 +171,7 @@ fn thresholds_that_run_out_are_told_and_counted() {
     let all: Vec<&str> = rows.lines().skip(1).collect();
     assert_eq!(
         all,
-        ["0,,,,,,,,,,15:2", "1,,,,,,,,,,15:2", "2,,,,,,,,,,15:2"]
+        ["0,,,,,,,,,,15:2,", "1,,,,,,,,,,15:2,", "2,,,,,,,,,,15:2,"]
     );
     assert_eq!(
         told,

@@ -1,16 +1,16 @@
-//! Chosen cases: rows 1 to 7 of document 01's table, the limits, and those of kind 4.
+//! Chosen cases: rows 1 to 7 of document 01's table, the limits, and those of kind 4 and of pieces.
 
-use crate::chosen_weibull;
 use crate::evaluations::EvaluationCase;
 use crate::floats::{LARGEST_SUBNORMAL, SMALLEST};
 use crate::samples::SampleCase;
+use crate::{chosen_pieces, chosen_weibull};
 use reference::evaluation::{CUMULATIVE_HAZARD, HAZARD_AT, INVERT_CUMULATIVE_HAZARD};
 use reference::fields::LIMIT;
 use reference::hazard::{CONSTANT, GOMPERTZ, Hazard, PIECEWISE};
 use reference::request::{Record, Request};
 
 /// P of document 01's table.
-fn table_hazard() -> Hazard {
+pub(crate) fn table_hazard() -> Hazard {
     Hazard::piecewise(&[(2.0, 1.0), (5.0, 0.0)], 0.5)
 }
 
@@ -43,6 +43,7 @@ pub fn evaluations() -> Vec<EvaluationCase> {
         }
     }
     cases.extend(chosen_weibull::evaluations());
+    cases.extend(chosen_pieces::evaluations());
     cases
 }
 
@@ -98,6 +99,7 @@ pub fn samples() -> Vec<SampleCase> {
         cases.push(case);
     }
     cases.extend(chosen_weibull::samples());
+    cases.extend(chosen_pieces::samples());
     cases
 }
 

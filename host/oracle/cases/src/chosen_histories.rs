@@ -2,9 +2,9 @@
 //! clock that is written anew is likely to part from the Rust. All draw from the start of the
 //! stream: 2.0, 1.0, 2.0, 2.0, 1.0, 0.5, 4.0, 1.5, 0.25, 3.0, 0.0, -0.0.
 
-use crate::chosen_weibull;
 use crate::clock_steps::History;
 use crate::floats::SMALLEST;
+use crate::{chosen_pieces, chosen_weibull};
 use kairo_ecs_rng::DeterministicStream;
 use reference::command::{Command, Create, Reschedule, Set};
 use reference::fields::LIMIT;
@@ -83,6 +83,7 @@ pub fn histories(thresholds: &[u8]) -> Vec<History<'_>> {
         draws(),
         floats(),
         chosen_weibull::histories(),
+        chosen_pieces::histories(),
     ];
     let run = |(create, position, commands): Chosen| {
         let stream = DeterministicStream::new(thresholds, position);

@@ -1,7 +1,8 @@
 //! Chosen sessions: rows 9 to 12 of document 01's table with their undos, its errors to shut out,
-//! sixteen clocks, priorities at the ends of i32, hazard kind 4.
+//! sixteen clocks, priorities at the ends of i32, hazard kind 4, pieces.
 
 use crate::chosen_histories::{censored, constant, create, pause, remove, reschedule, resume};
+use crate::chosen_pieces;
 use crate::chosen_weibull::{SHORT_ROOT, wears};
 use crate::floats::SMALLEST;
 use crate::sessions::{Session, command_count};
@@ -39,6 +40,7 @@ pub fn sessions() -> Vec<Session> {
     all.extend(sixteen_clocks());
     all.push(urgent_first());
     all.extend(guide_rails());
+    all.extend(chosen_pieces::sessions());
     all
 }
 

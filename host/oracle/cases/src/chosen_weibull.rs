@@ -42,7 +42,7 @@ const BAD_SCALES: [f64; 7] = [
 pub(crate) const SHORT_ROOT: f64 = 1.0 + 1.0 / (1u64 << 25) as f64;
 
 /// Where the thresholds 4.0 and 1.5 stand in the stream of the histories.
-const FOUR_THEN_ONE_AND_A_HALF: u64 = 6;
+pub(crate) const FOUR_THEN_ONE_AND_A_HALF: u64 = 6;
 
 fn kind_4(scale: f64) -> Hazard {
     Hazard::single_rate(WEIBULL, scale)

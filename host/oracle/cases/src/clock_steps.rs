@@ -1,5 +1,5 @@
 //! Histories of a single clock, step by step, with the answer and the clock after each: records of
-//! 1,664 bytes over one stream of thresholds.
+//! 1,672 bytes over one stream of thresholds.
 
 use crate::random::Random;
 use kairo_ecs_core::Scheduler;
@@ -10,7 +10,7 @@ use reference::command::{Command, Create, SET_BYTES};
 use reference::dump::dump_clock;
 use reference::refusal::Refusal;
 
-pub const RECORD_BYTES: usize = 1664;
+pub const RECORD_BYTES: usize = 1672;
 
 /// One command, what it found and what it left.
 #[derive(Clone, Debug)]

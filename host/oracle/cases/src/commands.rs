@@ -137,12 +137,25 @@ fn aimed_hazard(random: &mut Random, view: &View) -> Hazard {
 fn hazard_with_wait(random: &mut Random, style: Style, w: f64) -> Option<Hazard> {
     let wait = random.pick(&WAITS);
     let rate = Some(w / wait).filter(|rate| size_in_range(*rate))?;
-    match random.below(5) {
+    match random.below(7) {
         0 | 1 => Some(Hazard::single_rate(CONSTANT, rate)),
         2 => Some(Hazard::single_rate(GOMPERTZ, rate)),
         3 => weibull::with_wait(w, wait),
-        _ => Some(Hazard::piecewise(&[(wait, rate)], signed(random, style))),
+        _ => Some(curve_with_rate(random, style, wait, rate)),
     }
+}
+
+/// A curve with one rate up to the wait, which ends in any of its pieces: up to three pairs before it, then within a pair, at its end or
+/// in the trailing piece.
+fn curve_with_rate(random: &mut Random, style: Style, wait: f64, rate: f64) -> Hazard {
+    let ends = [0.25, 0.5, 0.75].map(|part| part * wait);
+    let before = random.index(ends.len() + 1);
+    let mut pairs: Vec<(f64, f64)> = ends[..before].iter().map(|end| (*end, rate)).collect();
+    if random.chance(35) {
+        return Hazard::piecewise(&pairs, rate);
+    }
+    pairs.push((random.pick(&[1.0, 1.0, 1.5]) * wait, rate));
+    Hazard::piecewise(&pairs, signed(random, style))
 }
 
 /// Mostly later than the command before; often when an event or a threshold is due.

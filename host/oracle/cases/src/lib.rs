@@ -5,6 +5,7 @@
 
 pub mod chosen;
 pub mod chosen_histories;
+pub mod chosen_pieces;
 pub mod chosen_sessions;
 pub mod chosen_weibull;
 pub mod clock_histories;
@@ -21,6 +22,8 @@ pub mod hazards;
 pub mod inputs;
 pub mod lists;
 pub mod order_claims;
+pub mod piece_coverage;
+pub mod piece_tally;
 pub mod powf_tally;
 pub mod radicands;
 pub mod random;

@@ -38,7 +38,7 @@ pub(crate) fn plan(random: &mut Random) -> Plan {
             style(random)
         },
         clocks: random.pick(&[1, 1, 2, 3, 5, 16, 16]),
-        commands: random.pick(&[4, 10, 25, 50, 80, 110]),
+        commands: random.pick(&[4, 10, 25, 50, 80, 100]),
         undo: random.pick(&[0, 5, 10, 20, 40]),
         deliver: random.pick(&[3, 6, 15]),
         damage: random.pick(&[0, 0, 3, 10]),

@@ -4,6 +4,7 @@
 use crate::chosen_histories::{constant, create, pause, remove, reschedule, resume};
 use crate::chosen_sessions::{of, session, table_clock};
 use crate::sessions::Session;
+use reference::answer::ANSWER_BYTES;
 use reference::command::{Command, Create};
 
 pub fn sessions() -> Vec<Session> {
@@ -98,7 +99,9 @@ fn lengths() -> Vec<Session> {
         &[table_clock(), constant(1, 0.5, 0.0), reschedule(0.0)],
     );
     let mut all = Vec::new();
-    for answers in [0, 31, 32, 95, 96, 97] {
+    let needed = 3 * ANSWER_BYTES;
+    let few = [0, ANSWER_BYTES - 1, ANSWER_BYTES].into_iter();
+    for answers in few.chain(needed - 1..=needed + 1) {
         all.push(Session {
             answers,
             ..whole.clone()
@@ -121,7 +124,7 @@ fn lengths() -> Vec<Session> {
     }
     all.push(Session {
         commands: vec![0],
-        answers: 31,
+        answers: ANSWER_BYTES - 1,
         ..whole
     });
     all

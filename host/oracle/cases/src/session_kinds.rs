@@ -4,7 +4,7 @@ use crate::chosen_histories::{constant, pause, reschedule, resume};
 use crate::chosen_sessions::{self, table_clock};
 use crate::random::Random;
 use crate::sessions::Session;
-use crate::{equal_ticks, full_clocks, random_sessions, refused_sessions};
+use crate::{chosen_pieces, equal_ticks, full_clocks, random_sessions, refused_sessions};
 use kairo_ecs_rng::THRESHOLD_BYTES;
 use reference::command::Command;
 
@@ -12,6 +12,7 @@ use reference::command::Command;
 pub fn chosen() -> Vec<Session> {
     let mut all = chosen_sessions::sessions();
     all.extend(refused_sessions::sessions());
+    all.extend(chosen_pieces::rounded_sessions());
     all.extend(cut_at_every_length(&cut_session()));
     all
 }

@@ -13,8 +13,8 @@ pub const RESULT_BEFORE: u8 = 0xC3;
 
 /// No buffer of a session is longer.
 pub const BUFFER_LIMIT: usize = 4096;
-/// No session has more commands.
-pub const COMMAND_LIMIT: usize = 120;
+/// No session has more commands, so that all its answers fit a buffer.
+pub const COMMAND_LIMIT: usize = 102;
 
 /// The buffers that are given: two by their bytes, three by their lengths.
 #[derive(Clone, Debug)]

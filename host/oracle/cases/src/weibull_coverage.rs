@@ -1,7 +1,8 @@
 //! What a session's steps show of hazard kind 4 (document 02, change 4).
 
 use crate::sessions::Step;
-use kairo_ecs_des::{HazardChannelState, SurvivalClock};
+use kairo_ecs_des::HazardChannelState;
+use reference::clock::Clock;
 use reference::command::Command;
 use reference::hazard::{Hazard, SMALLEST_SCALE, WEIBULL};
 
@@ -17,7 +18,7 @@ pub fn of_weibull(steps: &[Step]) -> [(&'static str, bool); 5] {
 }
 
 /// The clock that a step's command names, as the command finds it.
-fn clock(step: &Step) -> Option<&SurvivalClock> {
+fn clock(step: &Step) -> Option<&Clock> {
     let name = step.command.as_ref()?.clock()?;
     step.before.clocks.get(usize::from(name))?.as_ref()
 }

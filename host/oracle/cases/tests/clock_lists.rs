@@ -5,9 +5,9 @@ mod common;
 use cases::clock_steps::{ClockStep, RECORD_BYTES};
 use cases::{command_tally, lists};
 use common::{checksum, numbers};
-use kairo_ecs_des::SurvivalClock;
 use kairo_ecs_rng::CauseId;
 use reference::choices::{POLICIES, TIES, number_of};
+use reference::clock::Clock;
 use reference::command::{Command, Create};
 use std::collections::BTreeSet;
 
@@ -20,7 +20,7 @@ fn clock_steps_are_the_same_each_time() {
     let bytes = lists::clock_step_bytes(&steps);
     assert_eq!(bytes, lists::clock_step_bytes(&lists::clock_steps()));
     assert_eq!(bytes.len(), steps.len() * RECORD_BYTES);
-    assert_eq!(checksum(&bytes), 0xB3E5_FD02_EE46_5AFE);
+    assert_eq!(checksum(&bytes), 0xB0D4_C5F0_99E6_1CF5);
 }
 
 /// Rows 9 and 10 come first: CREATE, SET, RESCHEDULE, PAUSE, RESUME, DELIVER.
@@ -34,9 +34,9 @@ fn layout_of_a_step() {
     assert_eq!(step[172..180], [0, 1, 0, 0, 1, 0, 0, 0]);
     assert_eq!(step[180..188], 4.0f64.to_le_bytes());
     assert_eq!(step[188..196], 40u64.to_le_bytes());
-    assert_eq!(step[196..204], [0; 8]);
-    assert_eq!(step[204..212], 1u64.to_le_bytes());
-    layout_of_a_clock(&step[212..]);
+    assert_eq!(step[196..212], [0; 16]);
+    assert_eq!(step[212..220], 1u64.to_le_bytes());
+    layout_of_a_clock(&step[220..]);
 }
 
 fn layout_of_a_clock(clock: &[u8]) {
@@ -63,12 +63,12 @@ fn only_three_refusals_are_among_the_steps() {
 }
 
 /// Each step with the clock as it was before.
-fn pairs(steps: &[ClockStep]) -> impl Iterator<Item = (&SurvivalClock, &ClockStep)> {
+fn pairs(steps: &[ClockStep]) -> impl Iterator<Item = (&Clock, &ClockStep)> {
     let pairs = steps.windows(2).map(|pair| (&pair[0].after, &pair[1]));
     pairs.filter(|(_, step)| !matches!(step.command, Command::Create(_)))
 }
 
-fn accepted(steps: &[ClockStep]) -> impl Iterator<Item = (&SurvivalClock, &ClockStep)> {
+fn accepted(steps: &[ClockStep]) -> impl Iterator<Item = (&Clock, &ClockStep)> {
     pairs(steps).filter(|(_, step)| step.answer.number == 0)
 }
 
@@ -135,7 +135,7 @@ fn ties_are_decided_by_every_tie_choice() {
 }
 
 /// At least ten accepted steps for which the test holds.
-fn at_least_ten(name: &str, test: impl Fn(&SurvivalClock, &ClockStep) -> bool) {
+fn at_least_ten(name: &str, test: impl Fn(&Clock, &ClockStep) -> bool) {
     let steps = lists::clock_steps();
     let count = accepted(&steps).filter(|(before, step)| test(before, step));
     assert!(count.count() >= 10, "{name}");
@@ -143,7 +143,7 @@ fn at_least_ten(name: &str, test: impl Fn(&SurvivalClock, &ClockStep) -> bool) {
 
 #[test]
 fn thresholds_kept_and_drawn_afresh() {
-    let again = |before: &SurvivalClock, step: &ClockStep| match &step.command {
+    let again = |before: &Clock, step: &ClockStep| match &step.command {
         Command::Set(set) => before.channels.contains_key(&CauseId(set.cause)),
         _ => false,
     };
@@ -158,7 +158,7 @@ fn thresholds_kept_and_drawn_afresh() {
 
 #[test]
 fn censor_times_around_now_and_the_event() {
-    let times = |before: &SurvivalClock, step: &ClockStep| match &step.command {
+    let times = |before: &Clock, step: &ClockStep| match &step.command {
         Command::Reschedule(operands) | Command::Resume(operands) => {
             let event = before.compute_earliest_event(operands.now)?;
             Some((operands.now, operands.censor_time()?, event.1))

@@ -20,7 +20,7 @@ fn evaluations_are_the_same_each_time() {
         bytes.len(),
         lists::EVALUATION_COUNT * evaluations::CASE_BYTES
     );
-    assert_eq!(checksum(&bytes), 0x7F6E_4B47_6BD0_EE02);
+    assert_eq!(checksum(&bytes), 0x2774_DF31_1814_C17D);
 }
 
 #[test]
@@ -28,7 +28,7 @@ fn samples_are_the_same_each_time() {
     let bytes = lists::sample_bytes(&lists::samples());
     assert_eq!(bytes, lists::sample_bytes(&lists::samples()));
     assert_eq!(bytes.len(), lists::SAMPLE_COUNT * samples::CASE_BYTES);
-    assert_eq!(checksum(&bytes), 0x9FF9_1CCA_0534_A43A);
+    assert_eq!(checksum(&bytes), 0xB2C5_3226_094F_4598);
 }
 
 #[test]
@@ -39,11 +39,12 @@ fn rates_are_the_same_each_time() {
     assert_eq!(checksum(&bytes), 0xA923_27AA_A9AA_18DB);
 }
 
-/// Row 1 comes second: cumulative of Constant 0.5 at 4.0 is 2.0.
+/// Row 1 comes second: cumulative of Constant 0.5 at 4.0 is 2.0. The second wait of row 4, in piece 2, comes tenth.
 #[test]
 fn layout_of_an_evaluation() {
     let bytes = lists::evaluation_bytes(&lists::evaluations());
-    let case = &bytes[evaluations::CASE_BYTES..2 * evaluations::CASE_BYTES];
+    let cases: Vec<&[u8]> = bytes.chunks(evaluations::CASE_BYTES).collect();
+    let case = cases[1];
     assert_eq!(case[..2], [1, 1]);
     assert_eq!(case[2..10], 0.5f64.to_le_bytes());
     assert_eq!(case[10..139], [0; 129]);
@@ -51,6 +52,9 @@ fn layout_of_an_evaluation() {
     assert_eq!(case[147..155], [0; 8]);
     assert_eq!(case[155..157], [0, 1]);
     assert_eq!(case[157..165], 2.0f64.to_le_bytes());
+    assert_eq!(case[165..], [0; 8]);
+    assert_eq!(cases[9][157..165], 6.0f64.to_le_bytes());
+    assert_eq!(cases[9][165..], 2u64.to_le_bytes());
 }
 
 /// Row 7 with tie 0 comes first: causes 3 and 7, both waits 4.0.
@@ -67,8 +71,8 @@ fn layout_of_a_sample() {
     assert_eq!(case[270..278], [7, 0, 0, 0, 9, 0, 0, 0]);
     assert_eq!(case[1292..1300], [0, 1, 0, 0, 3, 0, 0, 0]);
     assert_eq!(case[1300..1308], 4.0f64.to_le_bytes());
-    assert_eq!(case[1308..1324], [0; 16]);
-    assert_eq!(case[1324..], [2, 0, 0, 0, 0, 0, 0, 0]);
+    assert_eq!(case[1308..1332], [0; 24]);
+    assert_eq!(case[1332..], [2, 0, 0, 0, 0, 0, 0, 0]);
 }
 
 /// Document 02's example comes first, a pair without a rate third.

@@ -3,6 +3,7 @@
 use cases::random::Random;
 use cases::session_coverage::Coverage;
 use cases::session_kinds;
+use reference::answer::ANSWER_BYTES;
 use reference::{batch, unvalidated};
 
 /// The seed of the short run, and a small part of its sessions.
@@ -10,7 +11,7 @@ const SEED: u64 = 20_261_115;
 const SESSIONS: usize = 4000;
 
 /// Each with the least number of sessions among the random ones that show it.
-const KINDS: [(&str, usize); 31] = [
+const KINDS: [(&str, usize); 37] = [
     ("many undos", 100),
     ("undone draw", 100),
     ("undone request", 100),
@@ -38,6 +39,12 @@ const KINDS: [(&str, usize); 31] = [
     ("kind 4 is Zero", 50),
     ("smallest scale", 10),
     ("scale too small", 20),
+    ("piece queued", 100),
+    ("trailing piece", 100),
+    ("piece delivered", 100),
+    ("piece replaced", 100),
+    ("piece kept without event", 10),
+    ("piece given back", 100),
     ("answers cut", 100),
     ("answer cut within", 50),
     ("threshold cut", 50),
@@ -76,7 +83,12 @@ fn buffers_are_cut_at_every_length() {
     assert!((0..=403).all(|length| has(&|s| s.commands.len() == length && s.journal == 700)));
     assert!((0..=24).all(|length| has(&|s| s.stream.len() == length)));
     assert!((0..=404).all(|length| has(&|s| s.journal == length)));
-    assert!((0..=261).all(|length| has(&|s| s.answers == length)));
+    let answers = 0..=8 * ANSWER_BYTES + 5;
+    assert!(
+        answers
+            .into_iter()
+            .all(|length| has(&|s| s.answers == length))
+    );
     assert!((0..=33).all(|length| has(&|s| s.result == length)));
 }
 

@@ -5,6 +5,7 @@ mod common;
 use cases::sessions::{BUFFER_LIMIT, COMMAND_LIMIT, Session, command_count};
 use cases::{command_tally, lists};
 use common::{checksum, numbers};
+use reference::answer::ANSWER_BYTES;
 use reference::command::NAMES;
 use reference::command_fields::CLOCKS;
 use std::collections::BTreeSet;
@@ -13,7 +14,7 @@ use std::collections::BTreeSet;
 fn sessions_are_the_same_each_time() {
     let bytes = lists::session_bytes(&lists::sessions());
     assert_eq!(bytes, lists::session_bytes(&lists::sessions()));
-    assert_eq!(checksum(&bytes), 0xE0D3_AC28_CB2C_F5DD);
+    assert_eq!(checksum(&bytes), 0xB477_30BC_BEF9_C53D);
 }
 
 /// Row 9 comes first: CREATE, SET, RESCHEDULE over the thresholds 2.0 and 1.0.
@@ -24,14 +25,15 @@ fn layout_of_a_session() {
         .chunks(4)
         .map(|field| u32::from_le_bytes(field.try_into().expect("four bytes")))
         .collect();
-    assert_eq!(header, [212, 16, 700, 101, 16, 0]);
+    assert_eq!(header, [212, 16, 700, 125, 16, 0]);
     let (commands, rest) = bytes[24..].split_at(212);
     assert_eq!((commands[0], commands[33], commands[189]), (1, 2, 4));
     let (stream, rest) = rest.split_at(16);
     assert_eq!(stream, [2.0f64, 1.0].map(f64::to_le_bytes).concat());
-    let (answers, rest) = rest.split_at(101);
-    assert_eq!(answers[64..69], [0, 1, 0, 0, 1]);
-    assert_eq!(answers[96..], [0xA5; 5]);
+    let (answers, rest) = rest.split_at(125);
+    let third = &answers[2 * ANSWER_BYTES..];
+    assert_eq!(third[..5], [0, 1, 0, 0, 1]);
+    assert_eq!(third[ANSWER_BYTES..], [0xA5; 5]);
     let (journal, rest) = rest.split_at(700);
     assert_eq!(journal[..212], *commands);
     assert_eq!(journal[212..], [0; 488]);

@@ -14,14 +14,14 @@ pub fn piece(hazard: &Hazard, start: f64, w: f64) -> usize {
         if start >= pair.end {
             continue;
         }
-        let added = above_zero(pair.rate) * (pair.end - from);
+        let added = not_below_zero(pair.rate) * (pair.end - from);
         if pair.rate > 0.0 && left <= added {
             return index;
         }
         left -= added;
         from = pair.end;
     }
-    let wait = from + left / above_zero(hazard.first) - start;
+    let wait = from + left / not_below_zero(hazard.first) - start;
     if wait.is_finite() {
         hazard.used().len()
     } else {
@@ -35,6 +35,6 @@ pub fn to_byte(piece: usize) -> u8 {
 }
 
 /// A rate at most 0 counts as +0.0; over it, a wait is infinite.
-fn above_zero(rate: f64) -> f64 {
+fn not_below_zero(rate: f64) -> f64 {
     if rate > 0.0 { rate } else { 0.0 }
 }

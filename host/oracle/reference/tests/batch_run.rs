@@ -3,6 +3,7 @@
 mod common;
 
 use common::{constant, create, pause, reschedule};
+use reference::answer::ANSWER_BYTES;
 use reference::batch::run;
 use reference::command::Command;
 
@@ -38,11 +39,12 @@ fn result(answered: u64, read: u64) -> Vec<u8> {
 
 #[test]
 fn a_whole_list() {
-    let done = run_with(&list(), &2.0f64.to_le_bytes(), 100, 16);
+    let done = run_with(&list(), &2.0f64.to_le_bytes(), 3 * ANSWER_BYTES + 4, 16);
     assert_eq!((done.number, done.result), (0, result(3, 212)));
-    assert_eq!(done.answers[..64], [0; 64]);
-    assert_eq!(done.answers[64..69], [0, 1, 0, 0, 1]);
-    assert_eq!(done.answers[96..], [0xA5; 4]);
+    let (first, last) = done.answers.split_at(2 * ANSWER_BYTES);
+    assert_eq!(first, [0; 2 * ANSWER_BYTES]);
+    assert_eq!(last[..5], [0, 1, 0, 0, 1]);
+    assert_eq!(last[ANSWER_BYTES..], [0xA5; 4]);
     assert_eq!(done.journal[..212], list());
     assert_eq!(done.journal[212..], [0; 88]);
 }
@@ -56,13 +58,15 @@ fn an_empty_list() {
 
 #[test]
 fn ends_by_2_and_3() {
-    let end = |tail: &[u8]| run_with(&[&list(), tail].concat(), &2.0f64.to_le_bytes(), 200, 16);
+    let room = 5 * ANSWER_BYTES;
+    let end = |tail: &[u8]| run_with(&[&list(), tail].concat(), &2.0f64.to_le_bytes(), room, 16);
     for (tail, number) in [(&[9, 1, 1][..], 2), (&[1, 0], 3), (&[5; 9], 3)] {
         let done = end(tail);
         assert_eq!((done.number, done.result), (number, result(4, 212)));
-        assert_eq!(done.answers[96], number);
-        assert_eq!(done.answers[97..128], [0; 31]);
-        assert_eq!(done.answers[128..], [0xA5; 72]);
+        let answers: Vec<&[u8]> = done.answers.chunks(ANSWER_BYTES).collect();
+        assert_eq!(answers[3][0], number);
+        assert_eq!(answers[3][1..], [0; ANSWER_BYTES - 1]);
+        assert_eq!(answers[4], [0xA5; ANSWER_BYTES]);
     }
 }
 
@@ -71,17 +75,18 @@ fn ends_by_2_and_3() {
 fn other_refusals_go_on() {
     let commands = [pause(1.0), Command::Undo, Command::Deliver, create(1.0)];
     let bytes = commands.map(|command| command.to_bytes()).concat();
-    let done = run_with(&bytes, &[], 128, 16);
+    let done = run_with(&bytes, &[], 4 * ANSWER_BYTES, 16);
     assert_eq!((done.number, done.result), (0, result(4, 45)));
-    let numbers: Vec<u8> = done.answers.chunks(32).map(|answer| answer[0]).collect();
+    let answers = done.answers.chunks(ANSWER_BYTES);
+    let numbers: Vec<u8> = answers.map(|answer| answer[0]).collect();
     assert_eq!(numbers, [9, 12, 11, 0]);
 }
 
 #[test]
 fn refused_by_17_at_every_length_of_the_answers() {
-    for length in 0..96 {
+    for length in 0..3 * ANSWER_BYTES {
         let done = run_with(&list(), &2.0f64.to_le_bytes(), length, 16);
-        let answered = length / 32;
+        let answered = length / ANSWER_BYTES;
         let read = [0, 33, 189][answered];
         assert_eq!(
             (done.number, done.result),
@@ -90,12 +95,12 @@ fn refused_by_17_at_every_length_of_the_answers() {
         assert_eq!(done.journal[..read as usize], list()[..read as usize]);
         assert!(done.journal[read as usize..].iter().all(|byte| *byte == 0));
         assert!(
-            done.answers[answered * 32..]
+            done.answers[answered * ANSWER_BYTES..]
                 .iter()
                 .all(|byte| *byte == 0xA5)
         );
     }
-    assert_eq!(run_with(&[0], &[], 31, 16).number, 17);
+    assert_eq!(run_with(&[0], &[], ANSWER_BYTES - 1, 16).number, 17);
 }
 
 #[test]

@@ -26,7 +26,8 @@ fn row_9() -> Engine {
     let answer = engine.give(reschedule(0.0)).to_bytes();
     assert_eq!(answer[..8], [0, 1, 0, 0, 1, 0, 0, 0]);
     assert_eq!(answer[8..16], [0, 0, 0, 0, 0, 0, 0x10, 0x40]);
-    assert_eq!(answer[16..], [[0x28, 0, 0, 0, 0, 0, 0, 0], [0; 8]].concat());
+    assert_eq!(answer[16..24], [0x28, 0, 0, 0, 0, 0, 0, 0]);
+    assert_eq!(answer[24..], [0; 16]);
     engine
 }
 

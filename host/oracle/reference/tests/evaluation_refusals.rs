@@ -33,6 +33,7 @@ fn refused(number: u8) -> Evaluation {
         number,
         found: false,
         value: 0.0,
+        piece: 0,
     }
 }
 

@@ -17,7 +17,7 @@ fn engine() -> Engine {
 #[test]
 fn layout_of_a_record() {
     let record = encode(&engine().state);
-    assert_eq!((record.len(), STATE_BYTES, SLOTS_AT), (23280, 23280, 496));
+    assert_eq!((record.len(), STATE_BYTES, SLOTS_AT), (23296, 23296, 496));
     let counts = [2u64, 368, 1, 1].map(u64::to_le_bytes).concat();
     assert_eq!(record[..32], counts);
     assert_eq!(
@@ -28,6 +28,22 @@ fn layout_of_a_record() {
     let clock = &record[SLOTS_AT..][..SLOT_BYTES];
     assert_eq!((clock[0], clock[32], clock[33]), (1, 2, 1));
     assert_eq!(clock[33 + CHANNEL_BYTES], 2);
+    assert_eq!(clock[SLOT_BYTES - 1], 0);
+}
+
+/// The winner's piece is the last byte of its clock; without a winner it is dropped.
+#[test]
+fn piece_of_a_winner() {
+    let mut engine = engine();
+    engine.clock(0).piece = 7;
+    let mut record = encode(&engine.state);
+    assert_eq!(record[SLOTS_AT..][SLOT_BYTES - 1], 7);
+    let piece = |record: &[u8]| decode(record).and_then(|s| s.clocks[0].as_ref().map(|c| c.piece));
+    assert_eq!(piece(&record), Some(7));
+    let has_winner = SLOTS_AT + 1 + 1401;
+    assert_eq!(record[has_winner], 1);
+    record[has_winner] = 0;
+    assert_eq!(piece(&record), Some(0));
 }
 
 /// An absent clock is 0 and a clock of zeros, whose scale CREATE makes 1.0.

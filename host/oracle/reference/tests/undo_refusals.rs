@@ -3,6 +3,7 @@
 mod common;
 
 use common::{Engine, constant, constant_on, create, create_on, pause, reschedule, reschedule_on};
+use reference::answer::ANSWER_BYTES;
 use reference::clock::deliver;
 use reference::command::{Command, DELIVER};
 use reference::dump::dump_state;
@@ -136,7 +137,7 @@ fn bytes_of_the_journal_after_undo() {
     let mut engine = engine();
     let whole = engine.journal.clone();
     engine.journal[250] = 7;
-    assert_eq!(engine.give(Command::Undo).to_bytes(), [0; 32]);
+    assert_eq!(engine.give(Command::Undo).to_bytes(), [0; ANSWER_BYTES]);
     assert_eq!(engine.journal[..189], whole[..189]);
     assert_eq!(engine.journal[189..250], [0; 61]);
     assert_eq!(engine.journal[250], 7);

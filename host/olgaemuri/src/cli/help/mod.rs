@@ -24,12 +24,14 @@ pub const SUMMARY: &str = include_str!("summary.txt");
 
 pub const RATE: &str = include_str!("rate.txt");
 
+pub const CURVE: &str = include_str!("curve.txt");
+
 pub const FORMAT: &str = include_str!("format.txt");
 
 pub const ANSWERS: &str = include_str!("answers.txt");
 
 /// The topics of `olgaemuri help`.
-const TOPICS: [(&str, &str); 10] = [
+const TOPICS: [(&str, &str); 11] = [
     ("run", RUN),
     ("compare", COMPARE),
     ("convert", CONVERT),
@@ -38,6 +40,7 @@ const TOPICS: [(&str, &str); 10] = [
     ("sweep", SWEEP),
     ("summary", SUMMARY),
     ("rate", RATE),
+    ("curve", CURVE),
     ("format", FORMAT),
     ("answers", ANSWERS),
 ];

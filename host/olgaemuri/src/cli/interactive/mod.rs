@@ -15,7 +15,9 @@ use std::io::{self, BufRead, IsTerminal, Write, stderr, stdin, stdout};
 use typed::Typed;
 
 /// The words that are no lines of a session.
-const WORDS: [&str; 7] = ["redo", "help", "list", "rate", "save", "picture", "quit"];
+const WORDS: [&str; 8] = [
+    "redo", "help", "list", "rate", "curve", "save", "picture", "quit",
+];
 
 /// Whether to go on.
 #[derive(PartialEq)]
@@ -125,6 +127,9 @@ impl Talk<'_> {
             ["help", word] => help_on(typed, word)?,
             ["list"] => typed.list()?,
             ["rate", asked @ ..] => typed.say(&rate::told(asked))?,
+            ["curve", ..] => {
+                typed.curve(line.trim_start().strip_prefix("curve").unwrap_or_default())?
+            }
             ["undo"] => typed.undo("1")?,
             ["undo", times] if !times.starts_with('#') => typed.undo(times)?,
             ["redo"] => typed.redo("1")?,

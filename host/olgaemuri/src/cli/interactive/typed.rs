@@ -1,6 +1,7 @@
 //! A session while it is typed.
 
 use super::shown;
+use crate::cli::curve;
 use crate::cli::report::Report;
 use crate::cli::terminal;
 use crate::cli::wording::counted;
@@ -46,6 +47,12 @@ impl<'a> Typed<'a> {
     pub fn list(&mut self) -> io::Result<()> {
         let list = shown::list(&self.report, terminal::width());
         self.say(&list)
+    }
+
+    /// The rate curve of a cause, which is named behind the word.
+    pub fn curve(&mut self, rest: &str) -> io::Result<()> {
+        let told = curve::told(&self.report, rest, terminal::width());
+        self.say(&told)
     }
 
     /// Reads a line of the session and tries it. Comments and names, of which the engine knows nothing, are kept without a run.

@@ -98,6 +98,7 @@ mod tests {
             fate,
             priority: 0,
             place: None,
+            struck: None,
         }
     }
 

@@ -14,6 +14,7 @@ enum Sample {
     Ahead,
     Cause(u32),
     Fate(Fate),
+    Piece,
 }
 
 type Item = (Sample, String);
@@ -33,7 +34,7 @@ pub fn legend(
 ) -> (String, f64) {
     let mut out = String::new();
     let mut y = top;
-    for group in [conditions(), causes(events, palette, names), fates()] {
+    for group in [conditions(), causes(events, palette, names), fates(events)] {
         let (text, bottom) = rows(&group, palette, borders, y);
         out += &text;
         y = bottom;
@@ -83,14 +84,20 @@ fn causes(events: &[Event], palette: &Palette, names: &Names) -> Vec<Item> {
     causes.chain(censored).collect()
 }
 
-fn fates() -> Vec<Item> {
+/// What became of an event, and the number in its mark if there is any.
+fn fates(events: &[Event]) -> Vec<Item> {
     let item = |(fate, words): (Fate, &str)| (Sample::Fate(fate), words.to_string());
     let fates = [
         (Fate::Delivered, "filled: delivered"),
         (Fate::Pending, "hollow: scheduled"),
         (Fate::Withdrawn, "crossed out, above the bar: withdrawn"),
     ];
-    fates.map(item).to_vec()
+    let is_numbered = |event: &Event| event.struck.is_some() && event.fate != Fate::Withdrawn;
+    let piece = events.iter().any(is_numbered).then(|| {
+        let words = "number: piece of the cause's rate curve, from 0";
+        (Sample::Piece, words.to_string())
+    });
+    fates.map(item).into_iter().chain(piece).collect()
 }
 
 fn drawn(sample: &Sample, palette: &Palette, x: f64, y: f64) -> String {
@@ -102,6 +109,7 @@ fn drawn(sample: &Sample, palette: &Palette, x: f64, y: f64) -> String {
         }
         Sample::Cause(cause) => palette.mark(*cause, Fate::Delivered, x, y),
         Sample::Fate(fate) => Palette::neutral_mark(*fate, x, y),
+        Sample::Piece => Palette::neutral_numbered_mark(1, x, y),
     };
     mark + "\n"
 }

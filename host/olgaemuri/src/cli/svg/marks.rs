@@ -1,9 +1,11 @@
 //! Marks of events: a colour and a shape for each cause, so that either tells them apart; filled when delivered, hollow when
-//! scheduled, small and crossed out when withdrawn. The end of observation is a bar.
+//! scheduled, small and crossed out when withdrawn; with the number of the piece in which a breakdown falls, where its cause's hazard
+//! has pieces. The end of observation is a bar.
 
-use super::xml::{escaped, place};
+use super::xml::{escaped, place, text};
+use crate::cli::csv::piece_cell;
 use crate::cli::events::{Event, Fate};
-use crate::cli::wording::rounded;
+use crate::cli::wording::{piece_words, rounded};
 use olgaemuri::NO_CAUSE;
 use olgaemuri::text::{Names, float_text};
 
@@ -70,13 +72,16 @@ impl Palette {
         }
     }
 
+    /// The place of a cause's shape; causes that share a colour, the ninth and the first, have different shapes.
+    fn shape(&self, cause: u32) -> usize {
+        let rank = self.rank(cause);
+        (rank + rank / COLOURS.len()) % (SHAPES.len() + 1)
+    }
+
     /// The outline of a mark.
     fn outline(&self, cause: u32, x: f64, y: f64, radius: f64) -> String {
         let bar: &[(f64, f64)] = &[(-0.35, -1.35), (0.35, -1.35), (0.35, 1.35), (-0.35, 1.35)];
-        let rank = self.rank(cause);
-        // causes that share a colour, the ninth and the first, have different shapes
-        let shape = (rank + rank / COLOURS.len()) % (SHAPES.len() + 1);
-        let corners = match shape {
+        let corners = match self.shape(cause) {
             _ if cause == NO_CAUSE => bar,
             0 => return circle(x, y, radius),
             shape => SHAPES[shape - 1],
@@ -99,10 +104,45 @@ impl Palette {
         )
     }
 
+    /// The mark of an event with the number of its piece; a withdrawn one is too small for it.
+    pub fn numbered_mark(&self, cause: u32, fate: Fate, number: u8, x: f64, y: f64) -> String {
+        if fate == Fate::Withdrawn {
+            return self.mark(cause, fate, x, y);
+        }
+        // where a triangle has the most room
+        let shift = match self.shape(cause) {
+            2 => 1.5,
+            4 => -1.5,
+            _ => 0.0,
+        };
+        let outline = self.outline(cause, x, y, NUMBERED);
+        painted(&outline, self.colour(cause), fate, x, y) + &digit(number, fate, x, y + shift)
+    }
+
+    /// A mark for the legend that has a number and no cause.
+    pub fn neutral_numbered_mark(number: u8, x: f64, y: f64) -> String {
+        let fate = Fate::Delivered;
+        painted(&circle(x, y, NUMBERED), GREY, fate, x, y) + &digit(number, fate, x, y)
+    }
+
     /// A mark for the legend that has no cause.
     pub fn neutral_mark(fate: Fate, x: f64, y: f64) -> String {
         painted(&circle(x, y, radius(fate)), GREY, fate, x, y)
     }
+}
+
+/// The radius of a mark with a number.
+const NUMBERED: f64 = 8.5;
+
+/// The number of a piece in the middle of a mark.
+fn digit(number: u8, fate: Fate, x: f64, y: f64) -> String {
+    let class = if fate == Fate::Delivered {
+        "piece"
+    } else {
+        "piece-due"
+    };
+    let digit = text(class, x, y + 3.6, &number.to_string());
+    digit.trim_end().to_string()
 }
 
 fn radius(fate: Fate) -> f64 {
@@ -146,9 +186,13 @@ fn title(event: &Event, names: &Names) -> String {
         0 => String::new(),
         priority => format!(", priority {priority}"),
     };
+    let struck = event
+        .struck
+        .map(|piece| format!(", {}", piece_words(&piece)));
     format!(
-        "{machine}: {what} at {time}, tick {}{priority}; {state}, as scheduled at {scheduled}",
-        event.ticks
+        "{machine}: {what} at {time}, tick {}{priority}{}; {state}, as scheduled at {scheduled}",
+        event.ticks,
+        struck.unwrap_or_default()
     )
 }
 
@@ -156,7 +200,7 @@ fn title(event: &Event, names: &Names) -> String {
 pub fn event_mark(event: &Event, names: &Names, mark: &str) -> String {
     format!(
         "<g class=\"event\" data-machine=\"{}\" data-cause=\"{}\" data-censored=\"{}\" data-time=\"{}\" data-ticks=\"{}\" \
-         data-state=\"{}\" data-priority=\"{}\"><title>{}</title>{mark}</g>\n",
+         data-state=\"{}\" data-priority=\"{}\" data-piece=\"{}\"><title>{}</title>{mark}</g>\n",
         event.machine,
         event.cause,
         event.censored,
@@ -164,6 +208,7 @@ pub fn event_mark(event: &Event, names: &Names, mark: &str) -> String {
         event.ticks,
         event.fate.word(),
         event.priority,
+        piece_cell(event.piece()),
         escaped(&title(event, names)),
     )
 }

@@ -3,7 +3,7 @@
 
 pub mod axis;
 mod legend;
-mod marks;
+pub mod marks;
 mod spans;
 mod timeline;
 pub mod xml;

@@ -179,7 +179,11 @@ impl<'a> Timeline<'a> {
         } else {
             centre + 4.0
         };
-        let mut mark = self.palette.mark(event.cause, event.fate, x, y);
+        let (cause, fate) = (event.cause, event.fate);
+        let mut mark = match event.struck {
+            Some(piece) => self.palette.numbered_mark(cause, fate, piece.number, x, y),
+            None => self.palette.mark(cause, fate, x, y),
+        };
         if self.axis.is_beyond(event.time) {
             let words = format!("{} \u{2192}", rounded(event.time));
             mark += text("beyond", x - 10.0, y + 4.0, &words).trim_end();

@@ -1,25 +1,25 @@
 //! A sweep's rows: the breakdowns of each run as CSV. A run without any has a row for itself, so that every run is seen.
 
 use super::summary::Refusals;
-use crate::cli::csv::{event_cells, quoted};
+use crate::cli::csv::{event_cells, piece_cell, quoted};
 use crate::cli::events::Event;
 use olgaemuri::text::Names;
 
-pub const HEAD: &str =
-    "stream,machine,machine_name,cause,cause_name,censored,scheduled_at,time,ticks,state,refusals";
+pub const HEAD: &str = "stream,machine,machine_name,cause,cause_name,censored,scheduled_at,time,ticks,state,refusals,piece";
 
 /// Cells of a row.
-pub const CELLS: usize = 11;
+pub const CELLS: usize = 12;
 
 /// The rows of a run.
 pub fn rows(stream: u64, breakdowns: &[Event], refusals: &Refusals, names: &Names) -> String {
     let refusals = refusals_cell(refusals);
     if breakdowns.is_empty() {
-        return format!("{stream}{}{refusals}\n", ",".repeat(CELLS - 1));
+        return format!("{stream}{}{refusals},\n", ",".repeat(CELLS - 2));
     }
     let row = |event: &Event| {
         let cells = event_cells(stream, event, names).map(|cell| quoted(&cell));
-        format!("{},{refusals}\n", cells.join(","))
+        let piece = piece_cell(event.piece());
+        format!("{},{refusals},{piece}\n", cells.join(","))
     };
     breakdowns.iter().map(row).collect()
 }
@@ -61,12 +61,16 @@ pub fn read_row(cells: &[String]) -> Result<Row, String> {
         _,
         _,
         refusals,
+        piece,
     ] = cells
     else {
         return Err(format!("expected {CELLS} cells, as in `{HEAD}`"));
     };
     if cells.len() != CELLS {
         return Err(format!("expected {CELLS} cells, not {}", cells.len()));
+    }
+    if !piece.is_empty() {
+        read::<u8>("piece", piece)?;
     }
     let breakdown = if machine.is_empty() {
         None
@@ -126,6 +130,7 @@ mod tests {
             fate: Fate::Delivered,
             priority: 0,
             place: None,
+            struck: None,
         }
     }
 
@@ -141,7 +146,7 @@ mod tests {
             &vec![(9, 1), (15, 2)],
             &Names::default(),
         );
-        let row = "5,3,machine 3,7,cause 7,0,1,0.30000000000000004,12,delivered,9:1 15:2\n";
+        let row = "5,3,machine 3,7,cause 7,0,1,0.30000000000000004,12,delivered,9:1 15:2,0\n";
         assert_eq!(written, row.repeat(2));
         let breakdown = Breakdown {
             key: (3, 7),
@@ -170,30 +175,31 @@ mod tests {
     #[test]
     fn wrong_cells_are_told() {
         for (row, told) in [
-            ("5,3", "expected 11 cells, as in `stream,machine"),
+            ("5,3", "expected 12 cells, as in `stream,machine"),
+            ("5,3,a,7,b,0,1,2,12,delivered,", "expected 12 cells, not 11"),
             (
-                "5,3,a,7,b,0,1,2,12,delivered,,",
-                "expected 11 cells, not 12",
-            ),
-            (
-                "x,3,a,7,b,0,1,2,12,delivered,",
+                "x,3,a,7,b,0,1,2,12,delivered,,",
                 "expected the number of a stream, not `x`",
             ),
             (
-                "5,300,a,7,b,0,1,2,12,delivered,",
+                "5,300,a,7,b,0,1,2,12,delivered,,",
                 "expected the number of a machine, not `300`",
             ),
             (
-                "5,3,a,7,b,0,1,-2,12,delivered,",
+                "5,3,a,7,b,0,1,-2,12,delivered,,",
                 "expected a time, not `-2`",
             ),
             (
-                "5,3,a,7,b,0,1,NaN,12,delivered,",
+                "5,3,a,7,b,0,1,NaN,12,delivered,,",
                 "expected a time, not `NaN`",
             ),
             (
-                "5,3,a,7,b,0,1,2,12,delivered,15",
+                "5,3,a,7,b,0,1,2,12,delivered,15,",
                 "expected refusals such as",
+            ),
+            (
+                "5,3,a,7,b,0,1,2,12,delivered,,-1",
+                "expected the number of a piece, not `-1`",
             ),
         ] {
             let error = read_row(&cells(row)).unwrap_err();

@@ -1,9 +1,9 @@
 //! An engine with its buffers, and the commands of document 01's rows.
 #![allow(dead_code)]
 
-use kairo_ecs_des::SurvivalClock;
 use kairo_ecs_rng::CauseId;
 use reference::answer::Answer;
+use reference::clock::Clock;
 use reference::command::{Command, Create, Reschedule, Set};
 use reference::dump::dump_state;
 use reference::execute::execute;
@@ -56,7 +56,7 @@ impl Engine {
         }
     }
 
-    pub fn clock(&mut self, name: usize) -> &mut SurvivalClock {
+    pub fn clock(&mut self, name: usize) -> &mut Clock {
         self.state.clocks[name]
             .as_mut()
             .expect("a clock that is present")
