@@ -104,7 +104,9 @@ module _ (w : WordRows) (f : FloatRows) (sized : Sized w f) (event : ScheduledEv
 
   row-coded : codedSchedule b ≡ true → codedSchedule scheduleRow ≡ true
   unfolding codedSchedule
-  row-coded h = rw (flag-coded (event .present), flag-coded (winner .present), lt-ltb _ _ u32, flag-coded active, lt-ltb _ _ byte) (spares-coded b h)
+  row-coded h =
+      rw (flag-coded (event .present), flag-coded (winner .present), lt-ltb _ _ u32, flag-coded active, lt-ltb _ _ byte)
+      (spares-coded b h)
 
   times-coded : codedTimes ts ≡ true → codedTimes timesRow ≡ true
   unfolding codedTimes

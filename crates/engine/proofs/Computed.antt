@@ -7,7 +7,8 @@ use Rattle.hazards.specs.FirstPlace.{firstOf}
 use Rattle.hazards.specs.Roots.{fieldsMultiple, multiple, squareAbove, rootPattern, nearestRoot}
 use Rattle.hazards.specs.Rates.{weibullHazard, weibullCumulative, weibullWait}
 use Rattle.hazards.specs.Rates.{piecesBy, firstAfter, usedPairs, piecewiseHazard, hazardOfRate, hazardAt, piecewiseCumulative}
-use Rattle.hazards.specs.Rates.{cumulativeOfRate, cumulativeHazard, endsIn, waitFrom, constantWait, waitOfRate, invertCumulativeHazard, ownRate}
+use Rattle.hazards.specs.Rates.{cumulativeOfRate, cumulativeHazard, endsIn, waitFrom, constantWait, waitOfRate, invertCumulativeHazard}
+use Rattle.hazards.specs.Rates.{ownRate}
 use Rattle.hazards.specs.Checks.{rangeFault, ascending, intervalsFault, choiceFault, hazardFaults}
 use Rattle.hazards.specs.Draws.{drawAt}
 use Rattle.hazards.specs.Answers.{headBytes, answerBytes}

@@ -1,16 +1,18 @@
--- The piece that an inversion gives is the one whose rate it uses, and 0 where no piece is used.
+-- The piece that an inversion gives is the one whose rate it uses, no other is, and 0 where no piece is used.
 use mathlib.Core.Path.{_≡_, refl, sym, ap, _∙_}
 use mathlib.Core.Bool.{Bool, true, false, cond, _&&_, true≢false}
 use mathlib.Core.List.{List, [], _∷_}
 use Prim.Native.Nat.{ℕ, zero, suc, _+_, _-_, _≤_, _<_}
 use native.Mathlib.Nat.{add-zero, zero-add}
 use native.Mathlib.Omega.{arith}
+use borrow.Author.Tests.{ltb-true, ltb-false}
+use lib.Dec.{ltb}
 use lib.ListN.{length, drop, length-drop}
 use lib.Ieee.{Float, binary64, add, sub, mul, div, lt, le}
 use Rattle.hazards.specs.Floats.{z, notBelowZero, isFiniteWait}
 use Rattle.hazards.specs.Rates.{Piece, firstAfter, usedPairs, usesPairs, endsIn, waitThrough, waitFrom, constantWait, weibullWait}
 use Rattle.hazards.specs.Rates.{waitOfRate, invertCumulativeHazard}
-use Rattle.hazards.specs.PieceUsed.{rateOf, endOf, EndsIn, PieceUsed, NoPiece, PieceZero}
+use Rattle.hazards.specs.PieceUsed.{rateOf, endOf, capacityFrom, leftAt, holdsAt, EndsIn, PieceUsed, OnePiece, NoPiece, PieceZero}
 use Rattle.hazards.specs.declared.rates.HazardRate.{HazardRate}
 use Rattle.hazards.specs.declared.rates.HazardRate.the-variants.{Zero, Constant, Gompertz, Piecewise, Weibull}
 use Rattle.hazards.specs.declared.rates.Intervals.{Intervals}
@@ -34,7 +36,7 @@ isAfter Never = false
 
 -- ---- from a place of the curve on: the pieces qs, of which the first has index i and begins at cur
 
-record EndsFrom (i : ℕ) (qs : List Piece) (trailing start cur wait : Float) (piece : ℕ) : Type 0 where
+record EndsFrom (i : ℕ) (qs : List Piece) (trailing start cur w wait : Float) (piece : ℕ) : Type 0 where
   place : ℕ
   at : Float
   left : Float
@@ -43,7 +45,9 @@ record EndsFrom (i : ℕ) (qs : List Piece) (trailing start cur wait : Float) (p
   positive : lt z (rateOf qs trailing place) ≡ true
   first : place ≡ 0 → at ≡ cur
   later : (j : ℕ) → place ≡ suc j → at ≡ endOf qs j
-  holds : place < length qs → le left (mul binary64 (rateOf qs trailing place) (sub binary64 (endOf qs place) at)) ≡ true
+  left-of : left ≡ leftAt qs cur w place
+  holds : place < length qs → holdsAt qs cur w place ≡ true
+  passed : (j : ℕ) → j < place → holdsAt qs cur w j ≡ false
   waits : wait ≡ sub binary64 (add binary64 at (div binary64 left (rateOf qs trailing place))) start
 
 not-le-zero : (x : Float) → le (notBelowZero x) z ≡ false → lt z (notBelowZero x) ≡ true
@@ -57,6 +61,14 @@ unfolding endOf
 later-of p ps place at first later zero q = first q
 later-of p ps place at first later (suc j) q = later j q
 
+-- the pairs passed, with one more before the others
+passed-of : (p : Piece) (ps : List Piece) (cur w : Float) (place : ℕ) → holdsAt (p ∷ ps) cur w 0 ≡ false
+    → ((j : ℕ) → j < place → holdsAt ps (p .end) (sub binary64 w (capacityFrom p cur)) j ≡ false)
+    → (j : ℕ) → j < suc place → holdsAt (p ∷ ps) cur w j ≡ false
+unfolding holdsAt
+passed-of p ps cur w place first others zero l = first
+passed-of p ps cur w place first others (suc j) l = others j (omega (arith, l))
+
 module _ (trailing start : Float) {wait : Float} {piece : ℕ} (finite : isFiniteWait wait ≡ true) where
   -- the wait through a piece has that piece
   through : (i : ℕ) (cur rate w : Float) → waitThrough i start cur rate w ≡ After wait piece
@@ -67,8 +79,8 @@ module _ (trailing start : Float) {wait : Float} {piece : ℕ} (finite : isFinit
       (sym (ap pieceIn e) ∙ rw (← t, finite), t)
 
   ends-from : (i : ℕ) (qs : List Piece) (cur w : Float) → waitFrom i qs trailing start cur w ≡ After wait piece
-      → EndsFrom i qs trailing start cur wait piece
-  unfolding waitFrom rateOf endOf
+      → EndsFrom i qs trailing start cur w wait piece
+  unfolding waitFrom rateOf endOf leftAt holdsAt
   ends-from i [] cur w e =
       let rate = notBelowZero trailing in
       by-test (le rate z)
@@ -84,7 +96,9 @@ module _ (trailing start : Float) {wait : Float} {piece : ℕ} (finite : isFinit
         positive = not-le-zero trailing l;
         first = λ q. refl;
         later = λ j q. absurd (omega (arith, q));
+        left-of = refl;
         holds = λ l. absurd (omega (arith, l));
+        passed = λ j l. absurd (omega (arith, l));
         waits = t .1;
       })
   ends-from i (p ∷ ps) cur w e =
@@ -103,7 +117,9 @@ module _ (trailing start : Float) {wait : Float} {piece : ℕ} (finite : isFinit
         positive = b .0;
         first = λ q. refl;
         later = λ j q. absurd (omega (arith, q));
-        holds = λ l. b .1;
+        left-of = refl;
+        holds = λ k. l;
+        passed = λ j k. absurd (omega (arith, k));
         waits = t .1;
       })
       (λ (l : (lt z rate && le w capacity) ≡ false).
@@ -117,7 +133,9 @@ module _ (trailing start : Float) {wait : Float} {piece : ℕ} (finite : isFinit
         positive = r .positive;
         first = λ q. absurd (omega (arith, q));
         later = λ j q. later-of p ps (r .place) (r .at) (r .first) (r .later) j (omega (arith, q));
-        holds = λ l. r .holds (omega (arith, l));
+        left-of = r .left-of;
+        holds = λ k. r .holds (omega (arith, k));
+        passed = passed-of p ps cur w (r .place) l (r .passed);
         waits = r .waits;
       })
 
@@ -141,14 +159,15 @@ first-within t [] = omega arith
 first-within t (p ∷ ps) =
     by-test (le (p .end) t) (λ e. rw e (omega (arith, first-within t ps))) (λ e. rw e (omega arith))
 
-module _ (ps : List Piece) (trailing start : Float) {wait : Float} {piece : ℕ} where
-  ends-in : EndsFrom (firstAfter start ps) (drop (firstAfter start ps) ps) trailing start start wait piece
-      → EndsIn ps trailing start wait piece
+module _ (ps : List Piece) (trailing start w : Float) {wait : Float} {piece : ℕ} where
+  ends-in : EndsFrom (firstAfter start ps) (drop (firstAfter start ps) ps) trailing start start w wait piece
+      → EndsIn ps trailing start w wait piece
   ends-in r =
       let i = firstAfter start ps in
       let n = length-drop i ps in
       let rate : rateOf (drop i ps) trailing (r .place) ≡ rateOf ps trailing piece =
       rate-dropped i ps trailing (r .place) ∙ ap (rateOf ps trailing) (sym (r .number)) in
+      let k : r .place ≡ piece - i = omega (arith, r .number) in
       record {
         cur = r .at;
         left = r .left;
@@ -160,8 +179,9 @@ module _ (ps : List Piece) (trailing start : Float) {wait : Float} {piece : ℕ}
             r .later (j - i) (omega (arith, e, l, r .number))
             ∙ end-dropped i ps (j - i)
             ∙ ap (endOf ps) (omega (arith, l));
-        holds = λ l.
-            rw (← rate, r .number, ← end-dropped i ps (r .place)) (r .holds (omega (arith, l, r .number, n)));
+        left-of = r .left-of ∙ ap (leftAt (drop i ps) start w) k;
+        holds = λ l. sym (ap (holdsAt (drop i ps) start w) k) ∙ r .holds (omega (arith, l, r .number, n));
+        passed = λ j l. r .passed j (omega (arith, l, k));
         waits = rw (← rate) (r .waits);
       }
 
@@ -170,8 +190,24 @@ unfolding invertCumulativeHazard waitOfRate
 piece-used trailing p start w wait piece e above finite =
     let from = notBelowZero start in
     let ps = usedPairs p in
-    ends-in ps trailing from
+    ends-in ps trailing from w
     (ends-from trailing from finite (firstAfter from ps) (drop (firstAfter from ps) ps) from w (rw above at e))
+
+-- ---- one piece alone: a pair that holds what is left is passed by no later piece
+
+not-before : (ps : List Piece) (trailing start w : Float) {wait wait′ : Float} {piece piece′ : ℕ}
+    → EndsIn ps trailing start w wait piece → EndsIn ps trailing start w wait′ piece′ → piece < piece′ → ⊥
+not-before ps trailing start w {piece = piece} a b l =
+    let i = firstAfter start ps in
+    true≢false
+    (sym (a .holds (omega (arith, l, b .within))) ∙ b .passed (piece - i) (omega (arith, l, a .after-start, b .after-start)))
+
+pub one-piece : OnePiece
+one-piece ps trailing start w wait wait′ piece piece′ a b =
+    by-test (ltb piece piece′) (λ l. absurd (not-before ps trailing start w a b (ltb-true piece piece′ l)))
+    (λ n.
+    by-test (ltb piece′ piece) (λ l. absurd (not-before ps trailing start w b a (ltb-true piece′ piece l)))
+    (λ m. omega (arith, ltb-false piece piece′ n, ltb-false piece′ piece m)))
 
 -- ---- no piece
 

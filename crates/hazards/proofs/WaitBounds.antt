@@ -11,7 +11,8 @@ use lib.Dec.{T, le→leb, nltb→le}
 use lib.Ieee.{Float, nan, inf, fin, binary64, up, down, add, sub, mul, div, lt, le, fits}
 use lib.Ieee.Fits.{and-l, cond-fits, sub-fits, div-fits}
 use Rattle.hazards.specs.Floats.{z, notBelowZero, inRange}
-use Rattle.hazards.specs.Rates.{Piece, usedPairs, firstAfter, endsIn, waitThrough, waitFrom, constantWait, waitOfRate, invertCumulativeHazard}
+use Rattle.hazards.specs.Rates.{Piece, usedPairs, firstAfter, endsIn, waitThrough, waitFrom, constantWait, waitOfRate}
+use Rattle.hazards.specs.Rates.{invertCumulativeHazard}
 use Rattle.hazards.specs.Rates.{weibullWait, ownRate}
 use Rattle.hazards.specs.declared.rates.HazardRate.{HazardRate}
 use Rattle.hazards.specs.declared.rates.HazardRate.the-variants.{Zero, Constant, Gompertz, Piecewise, Weibull}
@@ -38,14 +39,13 @@ piecewise-held : (i : ℕ) (ps : List Piece) (trailing start cur w : Float) → 
 unfolding waitFrom endsIn
 piecewise-held i [] trailing start cur w =
     let rate = notBelowZero trailing in
-    either-held (le rate z) Never (waitThrough i start cur rate w) tt (sub-fits binary64 (add binary64 cur (div binary64 w rate)) start)
+    either-held (le rate z) Never _ tt (sub-fits binary64 (add binary64 cur (div binary64 w rate)) start)
 piecewise-held i (p ∷ ps) trailing start cur w =
     let rate = notBelowZero (p .rate) in
     let capacity = mul binary64 rate (sub binary64 (p .end) cur) in
-    either-held (lt z rate && le w capacity) (waitThrough i start cur rate w)
-    (waitFrom (suc i) ps trailing start (p .end) (sub binary64 w capacity))
+    either-held (lt z rate && le w capacity) _ _
     (sub-fits binary64 (add binary64 cur (div binary64 w rate)) start)
-    (piecewise-held (suc i) ps trailing start (p .end) (sub binary64 w capacity))
+    (piecewise-held _ ps trailing start (p .end) (sub binary64 w capacity))
 
 constant-held : (rate w : Float) → Held (constantWait rate w)
 unfolding constantWait
@@ -122,17 +122,16 @@ module _ (b : ℕ) (stays : T (lands b b)) {a : ℕ} (start : Float) (sf : T (fi
     piecewise-not-below i cur w none v c o =
         let rate = notBelowZero trailing in
         let u = rate-upto trailing within in
-        either-not-below (le rate z) Never (waitThrough i start cur rate w) (λ t. tt)
-        (λ n. through-not-below i u (not-le-lt (zero-upto 0) u n) v c o)
+        either-not-below (le rate z) Never _ (λ t. tt)
+        (λ n. through-not-below _ u (not-le-lt (zero-upto 0) u n) v c o)
     piecewise-not-below i cur w (next {p} {ps} l m r f) v c o =
         let rate = notBelowZero (p .rate) in
         let capacity = mul binary64 rate (sub binary64 (p .end) cur) in
         let span = sub-upto (2 ^ 43) m c (lt-le cur (p .end) l) span-lands in
-        either-not-below (lt z rate && le w capacity) (waitThrough i start cur rate w)
-        (waitFrom (suc i) ps trailing start (p .end) (sub binary64 w capacity))
-        (λ t. through-not-below i r (and-l (lt z rate) (le w capacity) t) v c o)
+        either-not-below (lt z rate && le w capacity) _ _
+        (λ t. through-not-below _ r (and-l (lt z rate) (le w capacity) t) v c o)
         (λ n.
-        piecewise-not-below (suc i) (p .end) (sub binary64 w capacity) f
+        piecewise-not-below _ (p .end) (sub binary64 w capacity) f
         (left-upto r v (mul-upto (2 ^ 91) r span capacity-lands) (λ q. mul-upto 0 q span nothing-lands) n)
         m (le-trans-upto su c m o (lt-le cur (p .end) l)))
 

@@ -182,7 +182,7 @@ worked-bytes = (refl, refl)
 -- ---- the theorems, applied
 
 -- the wait for 4.0 ends in piece 2, the trailing rate, which begins at 5.0
-pub used : EndsIn (usedPairs (pairs half)) half (notBelowZero z) six 2
+pub used : EndsIn (usedPairs (pairs half)) half (notBelowZero z) four six 2
 unfolding computed
 used = piece-used half (pairs half) z four six 2 refl refl refl
 

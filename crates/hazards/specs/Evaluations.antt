@@ -27,7 +27,7 @@ withoutValue n = record { number = n; found = false; value = z }
 abbrev pub withoutWait : ℕ → Inversion
 withoutWait n = record { number = n; found = false; wait = z; piece = 0 }
 
--- the piece as it is: an answer has 255 for a higher one
+-- the piece as it is: an answer has 255 for one above that
 abbrev pub inverted : Wait → Inversion
 inverted (After wait piece) = record { number = 0; found = true; wait = wait; piece = piece }
 inverted Never = withoutWait 0

@@ -75,9 +75,9 @@ module _ (causes : List CompetingCause) (n : ℕ) (s : SampleSettings) (stream :
         → lt (add binary64 (s .«current_age») (c .time)) (s .«censor_age») ≡ false
 
   -- "An uncensored winner has no rival candidate that is earlier, or as early and preferred by the tie choice, and isn't after a censor age
-  -- above the current one." It is a candidate, and its cause, wait and piece are answered. Earlier and as early are said of the waits, "isn't
-  -- after" of the wait and the rounded difference of the ages: these the Rust compares. The sum of age and wait, exact or rounded, may be
-  -- above the censor age by that rounding (docs/DIFFERENCES.md).
+  -- above the current one." It is a candidate, and its cause, wait and piece are answered. Earlier and as early are said of the waits,
+  -- "isn't after" of the wait and the rounded difference of the ages: these the Rust compares. The sum of age and wait, exact or rounded,
+  -- may be above the censor age by that rounding (docs/DIFFERENCES.md).
   pub record Winner (w : Candidate) : Type 0 where
     pub is-candidate : IsCandidate w
     pub answered : sampled .answer ≡ eventOf (w .«cause_id») (w .time) false (w .piece)

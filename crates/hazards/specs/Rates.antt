@@ -149,7 +149,7 @@ abbrev pub waitThrough : ℕ → Float → Float → Float → Float → Wait
 waitThrough piece start cur rate w = endsIn piece (sub binary64 (add binary64 cur (div binary64 w rate)) start)
 
 -- w is the hazard still to accumulate from cur on, which lies in the first of these pieces or at its beginning. The first has index i,
--- and so the trailing rate, which follows the last, has the number of all pieces
+-- and so the trailing rate, which follows the last, has the number of pairs
 unfoldable pub waitFrom : ℕ → List Piece → Float → Float → Float → Float → Wait
 waitFrom i [] trailing start cur w =
     let rate = notBelowZero trailing in

@@ -51,10 +51,10 @@ fn without_wait(number: u8) -> Inversion
     }
 }
 
-fn inverted(wait: Wait) -> Inversion
-    ensures { λ r. ⌜ r ≡ inverted wait ⌝ }
+fn inverted(found: Wait) -> Inversion
+    ensures { λ r. ⌜ r ≡ inverted found ⌝ }
 {
-    match wait {
+    match found {
         Wait::After(wait, piece) => Inversion {
             number: 0,
             found: true,

@@ -9,7 +9,8 @@ ghost use Rattle.hazards.specs.Floats.{z};
 ghost use Rattle.hazards.specs.Rates.{rateOfKind, kindNumber, ownRate};
 ghost use Rattle.hazards.specs.Rates.{intervalsFrom, usedPairs, usesPairs, piecewiseHazard, piecewiseCumulative, firstAfter};
 ghost use Rattle.hazards.specs.Rates.{weibullHazard, weibullCumulative, weibullWait};
-ghost use Rattle.hazards.specs.Rates.{endsIn, waitFrom, piecewiseWait, constantWait, hazardAt, cumulativeHazard, invertCumulativeHazard};
+ghost use Rattle.hazards.specs.Rates.{endsIn, waitFrom, piecewiseWait, constantWait, hazardAt, cumulativeHazard};
+ghost use Rattle.hazards.specs.Rates.{invertCumulativeHazard};
 use crate::floats::is_finite_wait;
 use crate::floats::not_below_zero;
 use crate::roots::nearest_root;
@@ -251,7 +252,7 @@ fn ends_in(piece: usize, wait: f64) -> Wait
     }
 }
 
-// The wait at the trailing rate, from cur_t on; `piece` is the number of all pieces.
+// The wait at the trailing rate, from cur_t on; `piece` is the number of pairs.
 fn trailing_wait(piece: usize, trailing: f64, start: f64, cur_t: f64, w: f64) -> Wait
     ensures { λ r. ⌜ r ≡ waitFrom piece [] trailing start «cur_t» w ⌝ }
 {

@@ -4,7 +4,7 @@
 // no order is left out. Change 11, "What rate would fail on that day?": that one answer alone is right, and that the rates meant are those
 // with which a cause waits so long.
 ghost use Rattle.hazards.specs.ListOrder.{AnyOrder, EveryOrder, CensoredAnswer, UncensoredWinner, EmptyList, NoEvent};
-ghost use Rattle.hazards.specs.PieceUsed.{PieceUsed, PieceZero};
+ghost use Rattle.hazards.specs.PieceUsed.{PieceUsed, OnePiece, PieceZero};
 ghost use Rattle.hazards.specs.RateForWait.{OneAnswer, ConstantHazard};
 ghost use Rattle.hazards.specs.Roots.{OneNearest};
 
@@ -16,6 +16,11 @@ pub fn one_nearest_root()
 // The piece number of a piecewise hazard's finite wait is the index of the pair used, or the number of pairs for the trailing rate.
 pub fn piece_used()
     ensures { λ _. ⌜ PieceUsed ⌝ }
+{}
+
+// Of one w from one start on no two pieces are the one used.
+pub fn one_piece()
+    ensures { λ _. ⌜ OnePiece ⌝ }
 {}
 
 // It is 0 for all other kinds, for a w at most 0 and where there is no finite wait.

@@ -120,7 +120,8 @@ module _ (w : WordRows) (f : FloatRows) (j : ℕ) where
 -- a clock's own rows, by the numbers that the code gives for the fields that are coded
 pub own-there : (w : WordRows) (f : FloatRows) (policy tie piece generation cause : ℕ)
     → policy ≡ policyNumber (policyOf (byteFrom (getD (getD w 0 []) 5 0))) → tie ≡ tieNumber (tieBreakerOf (byteFrom (getD (getD w 0 []) 6 0)))
-    → piece ≡ byteFrom (getD (getD w 1 []) 5 0) → generation ≡ u32From (getD (getD w 0 []) 4 0) → cause ≡ u32From (getD (getD w 1 []) 3 0) → getD (getD w 0 []) 0 0 ≡ 1
+    → piece ≡ byteFrom (getD (getD w 1 []) 5 0) → generation ≡ u32From (getD (getD w 0 []) 4 0)
+    → cause ≡ u32From (getD (getD w 1 []) 3 0) → getD (getD w 0 []) 0 0 ≡ 1
     → record {
       found = true;
       «has_entity» = eqb (getD (getD w 0 []) 2 0) 1;

@@ -64,10 +64,12 @@ same-length-2 c = search needs
 
 returns : tie.Need-returns
 returns c =
-    let m = c .before .before .before .before .before .before .before in
+    let t = c .before .before .before in
+    let m = t .before .before .before .before in
     let a = m .args in
-    rw (c .before .flag-word3 .ensures, c .before .before .before .flag-word2 .ensures, c .before .before .before .before .flag-word .ensures)
-    (schedule-put (a .words .now) (a .floats .now) (m .pre) (a .event) (a .winner) (a .active) (a .last-update) (omega arith) (omega (arith, m .good)))
+    rw (c .before .flag-word3 .ensures, t .flag-word2 .ensures, t .before .flag-word .ensures)
+    (schedule-put (a .words .now) (a .floats .now) (m .pre) (a .event) (a .winner) (a .active) (a .last-update) (omega arith)
+    (omega (arith, m .good)))
 
 pub put-schedule-spec : {M : Type 1} → statement M
 put-schedule-spec =

@@ -22,7 +22,8 @@ returns c =
     let s = c .before .before in
     let a = s .before .before .args in
     let f = fieldsFrom (a .kind) (a .first) (a .count) (a .ends .now) (a .rates .now) in
-    refused f (s .evaluation-refusal .ensures) (s .before .in-range .ensures) withoutValue _ (c .before .if1 .taken) (c .without-value .ensures)
+    refused f (s .evaluation-refusal .ensures) (s .before .in-range .ensures) withoutValue _ (c .before .if1 .taken)
+    (c .without-value .ensures)
 
 rate-of-kind-requires : tie.Need-rate-of-kind-requires
 rate-of-kind-requires c κs = search needs

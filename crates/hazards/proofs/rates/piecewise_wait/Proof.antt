@@ -58,7 +58,8 @@ returns c =
     let p = intervalsFrom (a .ends .now) (a .rates .now) (a .count) in
     let next = pieces-next (pairAt p) (l .before .before .at-most-eight .result) (l .loop .i) (omega arith) in
     c .ends-in .ensures
-    ∙ sym (wait-here (l .loop .i) (a .trailing) (a .start) (l .loop .cur-t) (l .loop .remaining-w) next (c .before .before .before .not-below-zero .ensures)
+    ∙ sym (wait-here (l .loop .i) (a .trailing) (a .start) (l .loop .cur-t) (l .loop .remaining-w) next
+    (c .before .before .before .not-below-zero .ensures)
     (sym (c .before .before .within-capacity .ensures) ∙ c .before .if1 .taken))
     ∙ l .loop .inv
 
@@ -74,7 +75,8 @@ loop-again c =
     let a = l .before .before .before .args in
     let p = intervalsFrom (a .ends .now) (a .rates .now) (a .count) in
     let next = pieces-next (pairAt p) (l .before .before .at-most-eight .result) (l .loop .i) (omega arith) in
-    sym (wait-later (l .loop .i) (a .trailing) (a .start) (l .loop .cur-t) (l .loop .remaining-w) next (c .before .before .not-below-zero .ensures)
+    sym (wait-later (l .loop .i) (a .trailing) (a .start) (l .loop .cur-t) (l .loop .remaining-w) next
+    (c .before .before .not-below-zero .ensures)
     (sym (c .before .within-capacity .ensures) ∙ c .if1 .left))
     ∙ l .loop .inv
 
