@@ -112,6 +112,26 @@ static void others(struct engine *e)
     print(e, "refused", give(e, command, olgaemuri_put_pause(command, 1, 20.0)));
 }
 
+/* A state from before there were pieces holds 0 with a winner of piece 2, which PAUSE leaves: UNDO is refused by 13 until the next event is
+   scheduled, or this one is delivered. */
+static void before(struct engine *e)
+{
+    uint8_t command[OLGAEMURI_SET_BYTES];
+    begin(e, curve(), 2.5);
+    reschedule(e, NULL);
+    give(e, command, olgaemuri_put_pause(command, 0, 0.0));
+    e->state.words[1][5] = 0;
+    print(e, "from before", give(e, command, olgaemuri_put_undo(command)));
+    print(e, "resumed", give(e, command, olgaemuri_put_resume(command, 0, 0.0, NULL, 0)));
+    print(e, "undone", give(e, command, olgaemuri_put_undo(command)));
+    begin(e, curve(), 2.5);
+    reschedule(e, NULL);
+    e->state.words[1][5] = 0;
+    print(e, "from before", give(e, command, olgaemuri_put_undo(command)));
+    print(e, "delivered", give(e, command, olgaemuri_put_deliver(command)));
+    print(e, "undone", give(e, command, olgaemuri_put_undo(command)));
+}
+
 int main(void)
 {
     static struct engine e;
@@ -119,5 +139,6 @@ int main(void)
     eight(&e);
     kept(&e);
     others(&e);
+    before(&e);
     return 0;
 }

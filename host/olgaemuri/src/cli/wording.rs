@@ -195,7 +195,9 @@ fn event_words(row: &Row, names: &Names) -> String {
         .clock
         .map_or(String::new(), |machine| names.machine(machine));
     let (after, ticks) = (rounded(answer.delta), answer.ticks);
+    // a breakdown at once, with nothing left of its threshold, is told without the piece 0 of its answer
     let struck = row.step.struck();
+    let struck = struck.filter(|piece| piece.number > 0 || answer.delta > 0.0);
     let struck = struck.map_or(String::new(), |piece| {
         format!(", in {}", piece_words(&piece))
     });

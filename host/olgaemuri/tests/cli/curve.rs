@@ -101,6 +101,106 @@ fn the_age_counts_from_the_resume() {
     );
 }
 
+/// P with nothing left of its threshold at the resume.
+fn used_up() -> String {
+    session("2.5").replace("restart", "retain") + "pause machine=0 now=7\nresume machine=0 now=7\n"
+}
+
+/// One that comes at once, delivered, and then one in piece 2.
+fn used_up_and_more() -> String {
+    used_up()
+        + "deliver\nset machine=0 cause=1 now=8 hazard=piecewise pieces=2:1,5:0 then=0.5\nreschedule machine=0 now=8\n"
+}
+
+/// A threshold that is reached already uses no piece: in no form piece 0 counts the breakdown.
+#[test]
+fn breakdowns_at_once_count_for_no_piece() {
+    let none = ["0", "1", "2"].map(|piece| [piece, "0", "0"]);
+    for (more, at_once) in [("", ["", "0", "1"]), ("deliver\n", ["", "1", "0"])] {
+        let expected = [&none[..], &[at_once]].concat();
+        assert_eq!(counts(&(used_up() + more)), expected, "{more}");
+    }
+    let csv = shown(&used_up_and_more(), &["0", "1", "--csv"]);
+    assert!(csv.ends_with("\n1,2,5,,0.5,0,1\n1,,0,0,,1,0\n"), "{csv}");
+    let told = parse(&shown(&used_up_and_more(), &["0", "1", "--json"])).unwrap();
+    let curve = &told.get("curves").array()[0];
+    let states = ["delivered", "scheduled"];
+    let at_once = states.map(|state| curve.get("at_once").get(state).number());
+    assert_eq!(at_once, [1.0, 0.0]);
+    assert_eq!(numbers(curve, "pieces", "delivered"), [0.0, 0.0, 0.0]);
+    assert_eq!(numbers(curve, "pieces", "scheduled"), [0.0, 0.0, 1.0]);
+    // the engine's own numbers
+    assert_eq!(numbers(curve, "breakdowns", "piece"), [0.0, 2.0]);
+    assert_eq!(numbers(curve, "breakdowns", "age"), [0.0, 6.0]);
+}
+
+#[test]
+fn breakdowns_at_once_stand_apart_in_the_table() {
+    let text = shown(&used_up_and_more(), &["0", "1"]);
+    let note = "\n\nAt once: at age 0, with piece 0 in the engine's answer. Nothing was left of the\n\
+                threshold, or the wait rounds to 0; so these breakdowns count for no piece.\n";
+    for lines in [
+        "\n      0     0   2     1           0\n",
+        "\n      2     5  on   0.5           1\nat once     0   0                 1\n\n",
+        "\n 1  at once    0             7   7     7  delivered\n",
+        note,
+    ] {
+        assert!(text.contains(lines), "{text}");
+    }
+    let without = shown(&session("2.5"), &["0", "1"]).to_lowercase();
+    assert!(!without.contains("at once"), "{without}");
+}
+
+/// The mark stands at age 0 of the axis, not on the curve, and the count beside the pieces.
+#[test]
+fn breakdowns_at_once_shade_no_piece() {
+    let picture = drawn(&used_up_and_more(), &["0", "1"]);
+    assert_eq!(texts(&picture, "number"), ["0", "1"]);
+    assert_eq!(texts(&picture, "number-struck"), ["2"]);
+    assert_eq!(
+        texts(&picture, "count"),
+        ["no breakdown", "no breakdown", "1 breakdown", "1 breakdown"]
+    );
+    assert_eq!(texts(&picture, "rate"), ["1", "0", "0.5", "at once"]);
+    assert_eq!(texts(&picture, "label"), ["6"]);
+    let (marks, axis) = (picture.with_class("at-once"), picture.with_class("axis")[0]);
+    assert_eq!((marks.len(), picture.with_class("strike").len()), (1, 1));
+    let mark = marks[0].child("g").children.first().unwrap();
+    let at = ["cx", "cy"].map(|name| place(mark, name));
+    assert_eq!(at, ["x1", "y1"].map(|name| place(axis, name)));
+    let words = "breakdown 1: age 0, at once; delivered at 7, tick 7, scheduled at 7";
+    assert_eq!(marks[0].child("title").text, words);
+    let notes = |picture: &Element| {
+        let notes = texts(picture, "sub").into_iter();
+        notes.filter(|text| text.starts_with("At once: ")).count()
+    };
+    assert_eq!(notes(&picture), 1);
+    assert_eq!(notes(&drawn(&session("2.5"), &["0", "1"])), 0);
+}
+
+/// Ages are rounded: at a late time they may be 0, before the beginning of the piece or past its end.
+#[test]
+fn ages_at_a_late_time() {
+    // the f64 at 10^12 are 2^-13 apart
+    for (pieces, threshold, piece, age) in [
+        ("2:1", "1e-5", "", 0.0),
+        ("1e-5:0,2:1", "1e-5", "1", 0.0),
+        ("1e-4:1,2:0", "1e-4", "0", 0.0001220703125),
+    ] {
+        let session = format!(
+            "thresholds {threshold}\ncreate machine=0 policy=restart\n\
+             set machine=0 cause=1 now=1e12 hazard=piecewise pieces={pieces} then=0.5\nreschedule machine=0 now=1e12\n"
+        );
+        let told = parse(&shown(&session, &["0", "1", "--json"])).unwrap();
+        let curve = &told.get("curves").array()[0];
+        assert_eq!(numbers(curve, "breakdowns", "age"), [age]);
+        let counted = counts(&session).into_iter().filter(|row| row[2] == "1");
+        let counted: Vec<String> = counted.map(|[piece, ..]| piece).collect();
+        assert_eq!(counted, [piece], "{pieces}");
+        check_mark(&session, pieces.split(',').count() + 1);
+    }
+}
+
 /// A cause that is set to P, then to a constant rate, then to P again, each time with a breakdown.
 fn several() -> String {
     session("1")
@@ -221,8 +321,14 @@ fn the_picture_numbers_the_pieces_and_shades_those_that_struck() {
         let x = place(strike.with_class("drop")[0], "x1");
         let (left, right) = (place(curves[piece], "x1"), place(curves[piece], "x2"));
         assert!((left..=right).contains(&x), "{strike:?}");
-        assert!(!strike.child("title").text.is_empty());
     }
+    let titles = picture.with_class("strike").into_iter();
+    let titles: Vec<&str> = titles
+        .map(|strike| strike.child("title").text.as_str())
+        .collect();
+    let first = "breakdown 1: age 15, piece 0; delivered at 15, tick 900, scheduled at 0";
+    let last = "breakdown 5: age 8.3333, piece 0; due at 613.3333, tick 36800, scheduled at 605";
+    assert_eq!((titles[0], titles[4], titles.len()), (first, last, 5));
 }
 
 /// Ends of very different lengths.
@@ -237,16 +343,24 @@ const ENDS: [&str; 8] = [
     "1e12",
 ];
 
-/// The mark of the one breakdown stands in the piece that the engine names, and every piece has room.
+/// The mark of the one breakdown stands in the piece that the engine names, unless it comes at once; every piece has room.
 fn check_mark(session: &str, pieces: usize) {
     let picture = drawn(session, &["0", "1"]);
-    let (curves, strikes) = (picture.with_class("curve"), picture.with_class("strike"));
-    assert_eq!((curves.len(), strikes.len()), (pieces, 1), "{session}");
-    let piece: usize = strikes[0].attributes["data-piece"].parse().unwrap();
-    let x = place(strikes[0].with_class("drop")[0], "x1");
+    let (curves, at_once) = (picture.with_class("curve"), picture.with_class("at-once"));
+    let strikes = picture.with_class("strike");
+    assert_eq!(curves.len(), pieces, "{session}");
+    assert_eq!(strikes.len() + at_once.len(), 1, "{session}");
     let borders = |curve: &&Element| (place(curve, "x1"), place(curve, "x2"));
-    let (left, right) = borders(&curves[piece]);
-    assert!((left..=right).contains(&x), "{session}");
+    for strike in strikes {
+        let piece: usize = strike.attributes["data-piece"].parse().unwrap();
+        let x = place(strike.with_class("drop")[0], "x1");
+        let (left, right) = borders(&curves[piece]);
+        assert!((left..=right).contains(&x), "{session}");
+    }
+    for strike in at_once {
+        let [piece, age] = ["data-piece", "data-age"].map(|name| &strike.attributes[name]);
+        assert_eq!((piece.as_str(), age.as_str()), ("0", "0"), "{session}");
+    }
     let mut widths = curves.iter().map(borders).map(|(left, right)| right - left);
     assert!(widths.all(|width| width >= 99.0), "{session}");
 }

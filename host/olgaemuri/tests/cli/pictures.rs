@@ -177,6 +177,15 @@ fn random_session(random: &mut u64) -> String {
     lines.join("\n")
 }
 
+/// A cause whose threshold of 2.5 is used up at 7, in a pause.
+const AT_ONCE: &str = "thresholds 2.5
+create machine=0 policy=retain scale=1
+set machine=0 cause=1 now=0 hazard=piecewise pieces=2:1,5:0 then=0.5
+reschedule machine=0 now=0
+pause machine=0 now=7
+resume machine=0 now=7
+";
+
 /// A mark says its piece when it is pointed at, and has its number where the hazard has pieces; so has the legend.
 #[test]
 fn pieces_are_drawn() {
@@ -201,6 +210,15 @@ fn pieces_are_drawn() {
     assert_eq!(words("piece-due"), ["0"]);
     let legend = "number: piece of the cause's rate curve, from 0";
     assert_eq!(words("legend").last().map(String::as_str), Some(legend));
+    // one with nothing left of its threshold says no piece
+    let (_, at_once) = run(AT_ONCE.as_bytes(), "at-once");
+    let title = "machine 0: cause 1 at 7, tick 7; scheduled, as scheduled at 7";
+    let events = at_once.with_class("event").into_iter();
+    assert!(
+        events
+            .map(|event| &event.child("title").text)
+            .any(|told| told == title)
+    );
     let (_, without) = run(&example("guide-rails.session"), "no-pieces");
     assert_eq!(texts(&without, "piece"), []);
     assert!(

@@ -78,7 +78,8 @@ impl Axes {
         (span.from, span.to)
     }
 
-    /// The place of an age of a piece. By rounding a breakdown may lie just past the piece's end; it is drawn within it.
+    /// The place of an age of a piece. Ages are rounded, the more the later the session's time, and so may lie before the piece's
+    /// beginning or past its end; such a breakdown stands at that border.
     pub fn x(&self, piece: u8, age: f64) -> f64 {
         let span = self.span(piece);
         let share = (age.clamp(span.from, span.to) - span.from) / (span.to - span.from);
@@ -140,6 +141,41 @@ mod tests {
     fn pieces_with_room_are_to_scale() {
         let (widths, is_to_scale) = widths(&[20.0, 80.0, 100.0], 200.0, 1000.0);
         assert_eq!((widths, is_to_scale), (vec![100.0, 400.0, 500.0], true));
+    }
+
+    #[test]
+    fn ages_outside_stand_at_the_border() {
+        let band = |number, from, to| Band {
+            number,
+            from,
+            to,
+            rate: Some(1.0),
+        };
+        let curve = Curve {
+            hazard: Hazard::Zero,
+            set_at: Vec::new(),
+            bands: vec![band(0, 0.0, Some(4.0)), band(1, 4.0, None)],
+            strikes: Vec::new(),
+        };
+        let frame = Frame {
+            left: 50.0,
+            width: 1000.0,
+            top: 0.0,
+            height: 100.0,
+        };
+        // the second piece is drawn up to the age 5
+        let axes = Axes::new(&curve, frame);
+        for (piece, age, x) in [
+            (0, 0.0, 50.0),
+            (0, 2.0, 450.0),
+            (0, 4.5, 850.0),
+            (1, 0.0, 850.0),
+            (1, 3.9, 850.0),
+            (1, 4.5, 950.0),
+            (1, 6.0, 1050.0),
+        ] {
+            assert_eq!(axes.x(piece, age), x, "age {age} of piece {piece}");
+        }
     }
 
     #[test]

@@ -140,6 +140,11 @@ impl Curves {
         format!("{}: {}", self.machine_name, self.cause_name)
     }
 
+    /// Whether a breakdown came at once.
+    pub fn has_at_once(&self) -> bool {
+        self.list.iter().any(|curve| curve.at_once() > 0)
+    }
+
     /// How many breakdowns there are.
     pub fn summary(&self) -> String {
         let strikes = || self.list.iter().flat_map(|curve| &curve.strikes);
@@ -155,6 +160,14 @@ impl Curves {
     }
 }
 
+impl Strike {
+    /// Whether it is at age 0 with piece 0 in the engine's answer: nothing was left of the threshold, or the wait rounds to 0. The
+    /// answer tells no more. It counts for no piece, since a reader would take it for one that fell in the first.
+    pub fn is_at_once(&self) -> bool {
+        self.age == 0.0 && self.piece == 0
+    }
+}
+
 impl Curve {
     /// The curve of a hazard that has not been set yet.
     fn of(hazard: &Hazard) -> Self {
@@ -166,16 +179,27 @@ impl Curve {
         }
     }
 
-    /// How many breakdowns a piece has that came to this.
+    /// How many breakdowns a piece has that came to this. Those at once are none of them.
     pub fn count(&self, band: &Band, fate: Fate) -> usize {
-        let is_counted =
-            |strike: &&Strike| strike.piece == band.number && strike.event.fate == fate;
-        self.strikes.iter().filter(is_counted).count()
+        let strikes = self.strikes.iter().filter(|strike| !strike.is_at_once());
+        let strikes = strikes.filter(|strike| strike.piece == band.number);
+        strikes.filter(|strike| strike.event.fate == fate).count()
     }
 
     /// How many breakdowns a piece has.
     pub fn struck(&self, band: &Band) -> usize {
         self.count(band, Fate::Delivered) + self.count(band, Fate::Pending)
+    }
+
+    /// How many breakdowns came at once and to this.
+    pub fn count_at_once(&self, fate: Fate) -> usize {
+        let strikes = self.strikes.iter().filter(|strike| strike.is_at_once());
+        strikes.filter(|strike| strike.event.fate == fate).count()
+    }
+
+    /// How many breakdowns came at once.
+    pub fn at_once(&self) -> usize {
+        self.count_at_once(Fate::Delivered) + self.count_at_once(Fate::Pending)
     }
 
     /// The rate at an age of a piece.

@@ -2,7 +2,7 @@
 
 use super::axes::{Axes, Frame};
 use super::curves::{Band, Curve, Curves, Strike};
-use super::shown::{AGES, rate_words};
+use super::shown::{AGES, AT_ONCE, rate_words};
 use crate::cli::events::Fate;
 use crate::cli::svg::marks::Palette;
 use crate::cli::svg::xml::{escaped, line, place, rectangle, text};
@@ -101,7 +101,7 @@ impl<'a> Panel<'a> {
             .chain(backs)
             .chain(heads)
             .chain(rates)
-            .chain([self.age_axis()])
+            .chain([self.age_axis(), self.at_once()])
             .chain(lines)
             .chain(strikes)
             .chain([self.labels()]);
@@ -148,6 +148,18 @@ impl<'a> Panel<'a> {
         .concat()
     }
 
+    /// How many breakdowns came at once, beside the pieces, none of which counts them.
+    fn at_once(&self) -> String {
+        let words = counted(self.curve.at_once(), "breakdown");
+        match self.curve.at_once() {
+            0 => String::new(),
+            _ => {
+                text("rate", LEFT / 2.0, self.top + 44.0, "at once")
+                    + &text("count", LEFT / 2.0, self.top + 59.0, &words)
+            }
+        }
+    }
+
     fn rate_mark(&self, rate: f64) -> String {
         let y = self.axes.y(rate);
         let grid = line("grid", (LEFT, y), (WIDTH - RIGHT, y));
@@ -182,8 +194,11 @@ impl<'a> Panel<'a> {
         }
     }
 
-    /// Where a breakdown stands on the curve.
+    /// Where a breakdown stands: on the curve, or at age 0 of the axis where it came at once.
     fn place(&self, strike: &Strike) -> (f64, f64) {
+        if strike.is_at_once() {
+            return (LEFT, self.bottom());
+        }
         let piece = usize::from(strike.piece).min(self.curve.bands.len() - 1);
         let rate = self.curve.rate(&self.curve.bands[piece], strike.age);
         (self.axes.x(strike.piece, strike.age), self.axes.y(rate))
@@ -192,23 +207,16 @@ impl<'a> Panel<'a> {
     fn strike(&self, strike: &Strike) -> String {
         let ((x, y), event) = (self.place(strike), &strike.event);
         let mark = self.palette.mark(event.cause, event.fate, x, y);
-        let drop = line("drop", (x, y), (x, self.bottom()));
-        let title = format!(
-            "breakdown {}: age {}, piece {}; {} at {}, tick {}, as scheduled at {}",
-            strike.number,
-            rounded(strike.age),
-            strike.piece,
-            event.fate.word(),
-            rounded(event.time),
-            event.ticks,
-            rounded(event.scheduled_at)
-        );
+        let (class, drop) = match strike.is_at_once() {
+            true => ("at-once", String::new()),
+            false => ("strike", line("drop", (x, y), (x, self.bottom()))),
+        };
         format!(
-            "<g class=\"strike\" data-piece=\"{}\" data-age=\"{}\" data-state=\"{}\"><title>{}</title>{}{mark}</g>\n",
+            "<g class=\"{class}\" data-piece=\"{}\" data-age=\"{}\" data-state=\"{}\"><title>{}</title>{}{mark}</g>\n",
             strike.piece,
             float_text(strike.age),
             event.fate.word(),
-            escaped(&title),
+            escaped(&strike_words(strike)),
             drop.trim_end()
         )
     }
@@ -216,6 +224,7 @@ impl<'a> Panel<'a> {
     /// The ages of the breakdowns, above their marks, so far as there is room.
     fn labels(&self) -> String {
         let strikes = self.curve.strikes.iter();
+        let strikes = strikes.filter(|strike| !strike.is_at_once());
         let mut places: Vec<_> = strikes
             .map(|strike| (self.place(strike), strike.age))
             .collect();
@@ -229,6 +238,24 @@ impl<'a> Panel<'a> {
         }
         out
     }
+}
+
+/// What a mark says when it is pointed at.
+fn strike_words(strike: &Strike) -> String {
+    let (number, age, event) = (strike.number, rounded(strike.age), &strike.event);
+    let piece = match strike.is_at_once() {
+        true => "at once".to_string(),
+        false => format!("piece {}", strike.piece),
+    };
+    let comes = match event.fate {
+        Fate::Pending => "due",
+        fate => fate.word(),
+    };
+    let [time, scheduled] = [event.time, event.scheduled_at].map(rounded);
+    let tick = event.ticks;
+    format!(
+        "breakdown {number}: age {age}, {piece}; {comes} at {time}, tick {tick}, scheduled at {scheduled}"
+    )
 }
 
 /// The head of an arrow at the border: the last piece goes on.
@@ -245,12 +272,14 @@ fn arrow(x: f64, y: f64) -> String {
 fn legend_lines(curves: &Curves, top: f64, is_to_scale: bool) -> String {
     let y = top + 12.0;
     let mark = |fate, x| Palette::new(&[]).mark(curves.cause, fate, x, y - 4.5) + "\n";
-    let scale = if is_to_scale {
-        ""
-    } else {
-        " Ages are to scale within a piece, not from one piece to the next."
-    };
-    let (begins, at_once) = AGES.split_once(". ").unwrap_or((AGES, ""));
+    let scale = "Ages are to scale within a piece, not from one piece to the next.";
+    let notes = [
+        Some(AGES),
+        curves.has_at_once().then_some(AT_ONCE),
+        (!is_to_scale).then_some(scale),
+    ];
+    let notes = notes.into_iter().flatten().zip(0..);
+    let note = |(words, line)| text("sub", 24.0, y + 26.0 + 18.0 * f64::from(line), words);
     [
         mark(Fate::Delivered, 36.0),
         text("legend", 56.0, y, "breakdown delivered"),
@@ -258,8 +287,7 @@ fn legend_lines(curves: &Curves, top: f64, is_to_scale: bool) -> String {
         text("legend", 256.0, y, "breakdown scheduled"),
         rectangle("struck", 436.0, y - 12.0, 24.0, 15.0),
         text("legend", 470.0, y, "piece in which breakdowns fall"),
-        text("sub", 24.0, y + 26.0, &format!("{begins}.")),
-        text("sub", 24.0, y + 44.0, &format!("{at_once}{scale}")),
+        notes.map(note).collect(),
     ]
     .concat()
 }

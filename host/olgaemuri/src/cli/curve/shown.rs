@@ -11,7 +11,11 @@ use std::io::{self, Write};
 
 /// What an age is, for those who look at one.
 pub const AGES: &str = "Ages count from the `reschedule` or `resume` that scheduled the breakdown: there the curve begins anew, with \
-    what is left of the threshold. A cause that has none left breaks down at once, at age 0 and in piece 0.";
+    what is left of the threshold.";
+
+/// What `at once` is, where a breakdown is so.
+pub const AT_ONCE: &str = "At once: at age 0, with piece 0 in the engine's answer. Nothing was left of the threshold, or the wait \
+    rounds to 0; so these breakdowns count for no piece.";
 
 const PIECES: [Column; 5] = [
     Column::Right("piece"),
@@ -36,20 +40,33 @@ pub fn write_table(curves: &Curves, most: Option<usize>, out: &mut dyn Write) ->
     let head = format!("{}. {}.", curves.title(), curves.summary());
     write_wrapped(&head, most, out)?;
     for curve in &curves.list {
-        let head = format!("{}, {}:", curve.hazard, curve.set_words());
-        writeln!(out)?;
-        write_wrapped(&head, most, out)?;
-        writeln!(out)?;
-        let pieces = || curve.bands.iter().map(|band| piece_cells(curve, band));
-        write_aligned(&PIECES, pieces, most, out)?;
-        if !curve.strikes.is_empty() {
-            writeln!(out)?;
-            let strikes = || curve.strikes.iter().map(strike_cells);
-            write_aligned(&BREAKDOWNS, strikes, most, out)?;
-        }
+        write_tables(curve, most, out)?;
     }
+    let at_once = curves.has_at_once().then_some(AT_ONCE);
+    for words in [AGES].into_iter().chain(at_once) {
+        writeln!(out)?;
+        write_wrapped(words, most.or(Some(80)), out)?;
+    }
+    Ok(())
+}
+
+/// The pieces of a curve, and its breakdowns.
+fn write_tables(curve: &Curve, most: Option<usize>, out: &mut dyn Write) -> io::Result<()> {
+    let head = format!("{}, {}:", curve.hazard, curve.set_words());
     writeln!(out)?;
-    write_wrapped(AGES, most.or(Some(80)), out)
+    write_wrapped(&head, most, out)?;
+    writeln!(out)?;
+    let pieces = || {
+        let pieces = curve.bands.iter().map(|band| piece_cells(curve, band));
+        pieces.chain(at_once_cells(curve))
+    };
+    write_aligned(&PIECES, pieces, most, out)?;
+    if !curve.strikes.is_empty() {
+        writeln!(out)?;
+        let strikes = || curve.strikes.iter().map(strike_cells);
+        write_aligned(&BREAKDOWNS, strikes, most, out)?;
+    }
+    Ok(())
 }
 
 fn write_wrapped(words: &str, most: Option<usize>, out: &mut dyn Write) -> io::Result<()> {
@@ -68,6 +85,12 @@ fn piece_cells(curve: &Curve, band: &Band) -> Vec<String> {
     ]
 }
 
+/// The breakdowns at once as a last line, if there are any.
+fn at_once_cells(curve: &Curve) -> Option<Vec<String>> {
+    let cells = ["at once", "0", "0", "", &curve.at_once().to_string()].map(str::to_string);
+    (curve.at_once() > 0).then(|| cells.to_vec())
+}
+
 /// The rate of a piece, or how fast it grows.
 pub fn rate_words(curve: &Curve, band: &Band) -> String {
     match band.rate {
@@ -78,9 +101,13 @@ pub fn rate_words(curve: &Curve, band: &Band) -> String {
 
 fn strike_cells(strike: &Strike) -> Vec<String> {
     let event = &strike.event;
+    let piece = match strike.is_at_once() {
+        true => "at once".to_string(),
+        false => strike.piece.to_string(),
+    };
     vec![
         strike.number.to_string(),
-        strike.piece.to_string(),
+        piece,
         rounded(strike.age),
         rounded(event.scheduled_at),
         rounded(event.time),
@@ -89,24 +116,36 @@ fn strike_cells(strike: &Strike) -> Vec<String> {
     ]
 }
 
-/// Writes a line for each piece of each curve.
+/// Writes a line for each piece of each curve, and one for breakdowns at once where there are any.
 pub fn write_csv(curves: &Curves, out: &mut dyn Write) -> io::Result<()> {
     writeln!(out, "curve,piece,from,to,rate,delivered,scheduled")?;
-    for (curve, number) in curves.list.iter().zip(1..) {
-        for band in &curve.bands {
-            let cells = [
-                number.to_string(),
-                band.number.to_string(),
-                float_text(band.from),
-                band.to.map_or(String::new(), float_text),
-                band.rate.map_or(String::new(), float_text),
-                curve.count(band, Fate::Delivered).to_string(),
-                curve.count(band, Fate::Pending).to_string(),
-            ];
-            writeln!(out, "{}", cells.join(","))?;
-        }
-    }
-    Ok(())
+    let mut curves = curves.list.iter().zip(1..);
+    curves.try_for_each(|(curve, number)| write_rows(curve, number, out))
+}
+
+fn write_rows(curve: &Curve, number: usize, out: &mut dyn Write) -> io::Result<()> {
+    let pieces = curve.bands.iter().map(|band| piece_row(curve, band));
+    let mut rows = pieces.chain(at_once_row(curve));
+    rows.try_for_each(|row| writeln!(out, "{number},{row}"))
+}
+
+fn piece_row(curve: &Curve, band: &Band) -> String {
+    let cells = [
+        band.number.to_string(),
+        float_text(band.from),
+        band.to.map_or(String::new(), float_text),
+        band.rate.map_or(String::new(), float_text),
+        curve.count(band, Fate::Delivered).to_string(),
+        curve.count(band, Fate::Pending).to_string(),
+    ];
+    cells.join(",")
+}
+
+/// From age 0 to age 0, without a piece and a rate.
+fn at_once_row(curve: &Curve) -> Option<String> {
+    let [delivered, scheduled] =
+        [Fate::Delivered, Fate::Pending].map(|fate| curve.count_at_once(fate));
+    (curve.at_once() > 0).then(|| format!(",0,0,,{delivered},{scheduled}"))
 }
 
 /// Writes one object, a curve after another.
@@ -137,6 +176,7 @@ fn write_curve(curve: &Curve, out: &mut dyn Write) -> io::Result<()> {
     writeln!(out, "      \"set_at\": [{}],", set_at.join(", "))?;
     write_array("pieces", pieces, out)?;
     writeln!(out, ",")?;
+    writeln!(out, "      \"at_once\": {},", at_once_object(curve))?;
     write_array("breakdowns", strikes, out)?;
     write!(out, "\n    }}")
 }
@@ -163,6 +203,14 @@ fn piece_object(curve: &Curve, band: &Band) -> String {
         ("from", number(band.from)),
         ("to", maybe(band.to, number)),
         ("rate", maybe(band.rate, number)),
+        ("delivered", count(Fate::Delivered)),
+        ("scheduled", count(Fate::Pending)),
+    ])
+}
+
+fn at_once_object(curve: &Curve) -> String {
+    let count = |fate| curve.count_at_once(fate).to_string();
+    object(&[
         ("delivered", count(Fate::Delivered)),
         ("scheduled", count(Fate::Pending)),
     ])

@@ -186,8 +186,10 @@ fn title(event: &Event, names: &Names) -> String {
         0 => String::new(),
         priority => format!(", priority {priority}"),
     };
+    // a breakdown at once, with nothing left of its threshold, is told without the piece 0 of its answer
     let struck = event
         .struck
+        .filter(|piece| piece.number > 0 || event.time > event.scheduled_at)
         .map(|piece| format!(", {}", piece_words(&piece)));
     format!(
         "{machine}: {what} at {time}, tick {}{priority}{}; {state}, as scheduled at {scheduled}",
