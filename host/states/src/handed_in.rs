@@ -72,7 +72,11 @@ fn base(layout: &Layout, stream: &[u8]) -> Result<Both, String> {
         scale: 10.0,
         ..Create::default()
     });
-    for command in [create, set(1.0, 0.0), Command::Reschedule(at(0.0))] {
+    for command in [
+        create,
+        set(Hazard::single_rate(WEIBULL, 1.0), 0.0),
+        Command::Reschedule(at(0.0)),
+    ] {
         let answer = both.give(layout, stream, &command.to_bytes());
         let said = |words| format!("chosen state 0: {words}");
         if answer.map_err(said)?[0] != 0 {
@@ -93,16 +97,17 @@ fn changed(layout: &Layout, base: &Both, change: Change) -> Result<Both, String>
     Ok(Both::with(layout, state, &base.journal))
 }
 
-fn set(scale: f64, now: f64) -> Command {
+/// SET of cause 1 of the first clock.
+pub fn set(hazard: Hazard, now: f64) -> Command {
     Command::Set(Set {
         cause: 1,
-        hazard: Hazard::single_rate(WEIBULL, scale),
+        hazard,
         now,
         ..Set::default()
     })
 }
 
-fn at(now: f64) -> Reschedule {
+pub fn at(now: f64) -> Reschedule {
     Reschedule {
         now,
         ..Reschedule::default()
@@ -122,7 +127,11 @@ fn lists() -> [Vec<Command>; 6] {
         vec![Command::Reschedule(at(0.0)), Command::Deliver],
         vec![Command::Reschedule(censored), Command::Deliver],
         vec![pause(1.0), Command::Resume(at(2.0))],
-        vec![set(3.0, 1.0), Command::Reschedule(at(1.0)), remove],
+        vec![
+            set(Hazard::single_rate(WEIBULL, 3.0), 1.0),
+            Command::Reschedule(at(1.0)),
+            remove,
+        ],
         vec![Command::Resume(at(LIMIT)), pause(LIMIT), remove],
         vec![Command::Undo, Command::Undo],
     ]

@@ -2,14 +2,14 @@
 //! uncensored winner, a censored one and none; and channels whose inversion finds no piece or another one.
 
 use crate::both::Both;
-use crate::handed_in;
+use crate::handed_in::{self, at, set};
 use crate::layout::{Layout, Part};
 use crate::reading::{self, Reading};
 use crate::rows::Rows;
 use crate::tally::{Refusals, Tally};
 use crate::tampered::Tries;
 use cases::random::Random;
-use reference::command::{Command, Create, Reschedule, Set};
+use reference::command::{Command, Create, Reschedule};
 use reference::hazard::{CONSTANT, Hazard};
 
 const JOURNAL: usize = 1000;
@@ -149,22 +149,6 @@ fn changed(layout: &Layout, base: &Both, change: &[Change]) -> Result<Rows, Stri
         rows.put(field.place, *bits);
     }
     Ok(rows)
-}
-
-fn set(hazard: Hazard, now: f64) -> Command {
-    Command::Set(Set {
-        cause: 1,
-        hazard,
-        now,
-        ..Set::default()
-    })
-}
-
-fn at(now: f64) -> Reschedule {
-    Reschedule {
-        now,
-        ..Reschedule::default()
-    }
 }
 
 fn censored(now: f64, censor: f64) -> Reschedule {
