@@ -102,7 +102,6 @@ fn put_schedule(out: &mut [u8], b: &[u64; 8], times: &[f64; 8]) {
     put_f64(out, 1406, times[WINNER_TIME]);
     put_u8(out, 1414, byte_from(b[ACTIVE]));
     put_f64(out, 1415, times[LAST_UPDATE]);
-    put_u8(out, 1423, byte_from(b[WINNER_PIECE]));
 }
 
 pub fn put_clock<'o, 'a>(out: &'o mut [u8], words: &'a [[u64; 8]], floats: &'a [[f64; 8]])
@@ -112,4 +111,5 @@ pub fn put_clock<'o, 'a>(out: &'o mut [u8], words: &'a [[u64; 8]], floats: &'a [
     put_u8(out, 31, byte_from(words[SETTINGS][COUNT]));
     put_channels(out, words, floats);
     put_schedule(out, &words[SCHEDULE], &floats[TIMES]);
+    put_u8(out, 1423, byte_from(words[SCHEDULE][WINNER_PIECE]));
 }

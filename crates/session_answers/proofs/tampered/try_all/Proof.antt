@@ -1,4 +1,4 @@
--- `try_all` is safe and ends: the cases are numbered up to 93.
+-- `try_all` is safe and ends: the cases are numbered up to 94.
 use Prim.Native.Nat.{_≤_, _-_}
 use borrow.Author.Needs.{needs}
 use native.Mathlib.Omega.{arith}
@@ -7,10 +7,10 @@ use Rattle.session_answers.proofs.tampered.try_all.Tie as tie
 
 abbrev Inv-loop : tie.InvT-loop
 Inv-loop verdicts₀ case₀ verdicts case =
-    case ≤ 93
+    case ≤ 94
 
 abbrev μ-loop : tie.MeasureT-loop
-μ-loop verdicts₀ case₀ verdicts case = 93 - case
+μ-loop verdicts₀ case₀ verdicts case = 94 - case
 
 try-untampered-requires : tie.Need-try-untampered-requires Inv-loop μ-loop
 try-untampered-requires c κs = search needs
