@@ -23,6 +23,8 @@ RENAMED = {
     'crates/hazards/proofs/AnswerBytes.antt': {'piece_bytes': 'piece_bytes_lem'},
     'crates/engine/proofs/ReplayParts.antt': {'holdsAt': 'HoldsAt'},
 }
+# Names of the library that a lemma of ours has too: they stay.
+OF_LIBRARY = {'not-false', 'pow-suc'}
 # Words of the library that stand in names of lemmas.
 LIBRARY = set('length append map filter take drop min max add sub mul div mod lt le eq get_or get set slice_set nth cons nil sort '
               'all any sum fold foldl bits of_bits to_bits'.split())
@@ -68,7 +70,7 @@ def mapping():
     words = words_of_functions()
     taken = {snake(name) for name in names}
     changes = {}
-    for name in names:
+    for name in names - OF_LIBRARY:
         new = snake(name)
         if '-' in new and not any(part in words or part[:1].isupper() for part in new.split('-')):
             joined = new.replace('-', '_')

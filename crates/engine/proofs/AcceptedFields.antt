@@ -4,7 +4,7 @@ use mathlib.Core.Bool.{false, true≢false}
 use mathlib.Core.List.{List}
 use Prim.Native.Nat.{ℕ, ◌<◌}
 use native.Mathlib.Omega.{arith}
-use borrow.Author.Tests.{ltb-false, not_false}
+use borrow.Author.Tests.{ltb-false, not-false}
 use lib.Dec.{T}
 use Rattle.hazards.specs.Floats.{in_range, is_time}
 use Rattle.hazards.specs.Fields.{field_at, f64_at}
@@ -59,7 +59,7 @@ module _ (c : List ℕ) where
         clock = cause_accepted rest.1;
         range = f.range;
         intervals = f.intervals;
-        now = rw (not_false (is_time (f64_at c commands.set_now_field)) (accepted now rest.0).range) tt;
+        now = rw (not-false (is_time (f64_at c commands.set_now_field)) (accepted now rest.0).range) tt;
       }
 
   -- ---- RESCHEDULE and RESUME
@@ -95,5 +95,5 @@ module _ (c : List ℕ) where
       let parts = joined_accepted (range_fault_unless (is_time (now_of c))) (clock_faults c) h in
       record {
         clock = clock_below parts.1;
-        now = rw (not_false (is_time (now_of c)) (accepted (range_fault_unless (is_time (now_of c))) parts.0).range) tt;
+        now = rw (not-false (is_time (now_of c)) (accepted (range_fault_unless (is_time (now_of c))) parts.0).range) tt;
       }

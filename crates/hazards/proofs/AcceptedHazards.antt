@@ -11,9 +11,9 @@ use Rattle.hazards.proofs.AcceptedFlags.{accepted}
 use Rattle.hazards.proofs.SoundPairs.{sound}
 
 -- ---- of a hazard
-pub not_false : (b : Bool) → not b ≡ false → T b
-not_false true e = tt
-not_false false e = absurd (true≢false e)
+pub not-false : (b : Bool) → not b ≡ false → T b
+not-false true e = tt
+not-false false e = absurd (true≢false e)
 
 pub faultless_sound : (h : HazardRate) (p : Intervals) → range_fault h p ≡ false → intervals_fault h p ≡ false → T (sound h p)
 unfolding sound

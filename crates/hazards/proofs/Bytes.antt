@@ -4,7 +4,7 @@ use mathlib.Core.Path.{◌≡◌, refl, sym, ◌∙◌, ap, subst}
 use mathlib.Core.Bool.{Bool, true, false}
 use mathlib.Core.List.{List, [], ◌∷◌, ◌++◌, append_assoc}
 use Prim.Native.Nat.{ℕ, zero, suc, ◌+◌, ◌-◌, ◌*◌, ◌/◌, ◌%◌, ◌^◌, ◌<◌, ◌≤◌}
-use native.Mathlib.Nat.{sub_self, pow_suc, pow-le-pow_right, lt_of_lt_of_le, div-lt_iff_lt-mul, one-le-pow, zero-add, suc-add}
+use native.Mathlib.Nat.{sub_self, pow-suc, pow-le-pow_right, lt_of_lt_of_le, div-lt_iff_lt-mul, one-le-pow, zero-add, suc-add}
 use native.Mathlib.Omega.{arith}
 use lib.Dec.{T, leb, lit<}
 use lib.Ieee.{Float, binary64, of_bits, to_bits, fits}
@@ -31,7 +31,7 @@ read_step n k s at p h l =
     rw (e, drop-cons s (at + (k - 1)) 0 (omega arith), f)
 
 pub grow : (m x b : ℕ) → x < 256 ^ m → b < 256 → 256 * x + b < 256 ^ suc m
-grow m x b h k = rw (pow_suc 256 m) (omega arith)
+grow m x b h k = rw (pow-suc 256 m) (omega arith)
 
 pub under : (m x : ℕ) → m ≤ 7 → x < 256 ^ m → x < 2 ^ 56
 under m x h k = lt_of_lt_of_le k (pow-le-pow_right (lit< tt) h)
@@ -63,7 +63,7 @@ pub little_endian-bytes_of : (n x : ℕ) → x < 256 ^ n → little_endian (byte
 unfolding little_endian bytes_of
 little_endian-bytes_of zero x h = omega arith
 little_endian-bytes_of (suc n) x h =
-    let small : x / 256 < 256 ^ n = (div-lt_iff_lt-mul (lit< tt)).1 (subst (λ (y : ℕ). x < y) (pow_suc 256 n) h) in
+    let small : x / 256 < 256 ^ n = (div-lt_iff_lt-mul (lit< tt)).1 (subst (λ (y : ℕ). x < y) (pow-suc 256 n) h) in
     rw (little_endian-bytes_of n (x / 256) small) (omega arith)
 
 -- bytes stand for less than 256 to the power of their count
@@ -72,7 +72,7 @@ unfolding little_endian
 little_endian-below [] h = lit< tt
 little_endian-below (b ∷ s) h =
     let rest = little_endian-below s (λ i. h (suc i)) in
-    rw (pow_suc 256 (length s)) (omega (arith, h 0))
+    rw (pow-suc 256 (length s)) (omega (arith, h 0))
 
 -- ---- whether a field lies whole, tested without a sum
 module _ (at width n : ℕ) (h : at ≤ n) where

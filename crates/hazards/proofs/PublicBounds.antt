@@ -35,7 +35,7 @@ use Rattle.hazards.specs.declared.ties.TieBreaker.{TieBreaker}
 use Rattle.hazards.specs.declared.sampler.CompetingCause.{CompetingCause}
 use Rattle.hazards.specs.declared.sampler.SampleSettings.{SampleSettings}
 use Rattle.hazards.proofs.AcceptedFlags.{accepted, joined_accepted}
-use Rattle.hazards.proofs.AcceptedHazards.{not_false, accepted_sound}
+use Rattle.hazards.proofs.AcceptedHazards.{not-false, accepted_sound}
 use Rattle.hazards.proofs.Cases.{by_test}
 use Rattle.hazards.proofs.HazardBounds.{hazard_upto, cumulative_upto}
 use Rattle.hazards.proofs.Limits.{limit_upto, rate_upto, positive_rate_upto, time_upto, time_stays, times}
@@ -65,7 +65,7 @@ module _ (f : HazardFields) (ok : Bool) (h : evaluation_refusal f ok ≡ 0) wher
   hazard_accepted = accepted_sound f (joined_accepted (hazard_faults f) (range_fault_unless ok) h).0
 
   limits_accepted : T ok
-  limits_accepted = not_false ok (accepted (range_fault_unless ok) (joined_accepted (hazard_faults f) (range_fault_unless ok) h).1).range
+  limits_accepted = not-false ok (accepted (range_fault_unless ok) (joined_accepted (hazard_faults f) (range_fault_unless ok) h).1).range
 
 pub evaluated_hazard_upto : (f : HazardFields) (t : Float) → Upto (2 ^ 121) (evaluated_hazard_at f t).value
 unfolding evaluated_hazard_at
@@ -180,7 +180,7 @@ pub ages_accepted : (causes : List CompetingCause) (n : ℕ) (s : SampleSettings
     → T (is_time s.current_age && is_time s.censor_age)
 unfolding settings_faults
 ages_accepted causes n s h =
-    not_false (is_time s.current_age && is_time s.censor_age)
+    not-false (is_time s.current_age && is_time s.censor_age)
     (accepted (settings_faults s) (joined_accepted (settings_faults s) (faults_of_all (take n causes)) h).0).range
 
 pub sampled_delta_finite : (causes : List CompetingCause) (n : ℕ) (s : SampleSettings) (stream : List ℕ) (position : ℕ)

@@ -5,7 +5,7 @@ use mathlib.Core.Bool.{Bool, false, ◌&&◌}
 use Prim.Native.Nat.{ℕ, zero, suc, ◌+◌, ◌*◌, ◌/◌, ◌%◌, ◌^◌, ◌≤◌, ◌<◌}
 use native.Mathlib.Nat.{le_trans, le_of_eq, lt_of_lt_of_le, lt_of_le_of_lt, not-le_of_lt, lt_of_not-le, le_of_suc-le-suc, mod-lt}
 use native.Mathlib.Nat.{mul_assoc, one-mul, suc-mul, mul-suc, mul-mul-mul_comm, mul-le-mul_right, mul-lt-mul_of_pos_right}
-use native.Mathlib.Nat.{pow-zero, pow_suc, pow-le-pow_left, div-add-mod', zero-lt-suc}
+use native.Mathlib.Nat.{pow-zero, pow-suc, pow-le-pow_left, div-add-mod', zero-lt-suc}
 use native.Mathlib.Omega.{arith}
 use lib.Dec.{T, leb, ltb, leb→le, ltb→lt, lit≤, lit<}
 use lib.ListN.{length, get_or}
@@ -60,13 +60,13 @@ table_rule = record { entries = many; each = λ j h. greatest_root j (get_or tab
 mul-pow : (a b n : ℕ) → (a * b) ^ n ≡ a ^ n * b ^ n
 mul-pow a b zero = pow-zero (a * b) ∙ sym (ap (λ (x : ℕ). x * b ^ 0) (pow-zero a) ∙ one-mul (b ^ 0) ∙ pow-zero b)
 mul-pow a b (suc n) =
-    pow_suc (a * b) n ∙ ap (λ (x : ℕ). x * (a * b)) (mul-pow a b n) ∙ mul-mul-mul_comm (a ^ n) (b ^ n) a b
-    ∙ sym (ap (λ (x : ℕ). x * b ^ suc n) (pow_suc a n) ∙ ap (λ (x : ℕ). a ^ n * a * x) (pow_suc b n))
+    pow-suc (a * b) n ∙ ap (λ (x : ℕ). x * (a * b)) (mul-pow a b n) ∙ mul-mul-mul_comm (a ^ n) (b ^ n) a b
+    ∙ sym (ap (λ (x : ℕ). x * b ^ suc n) (pow-suc a n) ∙ ap (λ (x : ℕ). a ^ n * a * x) (pow-suc b n))
 
 pow_pow : (b k n : ℕ) → (b ^ k) ^ n ≡ b ^ (k * n)
 pow_pow b k zero = pow-zero (b ^ k) ∙ sym (ap (λ (x : ℕ). b ^ x) (omega arith) ∙ pow-zero b)
 pow_pow b k (suc n) =
-    pow_suc (b ^ k) n ∙ ap (λ (x : ℕ). x * b ^ k) (pow_pow b k n) ∙ sym (pow-add b (k * n) k) ∙ ap (λ (x : ℕ). b ^ x) (sym (mul-suc k n))
+    pow-suc (b ^ k) n ∙ ap (λ (x : ℕ). x * b ^ k) (pow_pow b k n) ∙ sym (pow-add b (k * n) k) ∙ ap (λ (x : ℕ). b ^ x) (sym (mul-suc k n))
 
 -- the power that a step's factor is compared with, cut as the table cuts it
 cut : (n i : ℕ) → 2 ^ (31 * n + i % n) * (2 ^ (i / n)) ^ n ≡ 2 ^ (31 * n + i)

@@ -1,6 +1,6 @@
 -- `scheduling::censored_only` meets its contract: the three cases without a candidate.
 use mathlib.Core.Path.{sym, ◌∙◌}
-use borrow.Author.Tests.{not-true, not_false}
+use borrow.Author.Tests.{not-true, not-false}
 use Rattle.clocks.proofs.SchedulingCases.{no_candidate_no_censor, no_candidate_late, no_candidate_censored}
 use borrow.Author.Rules.{rules}
 use Rattle.clocks.proofs.scheduling.censored_only.Statement.{statement}
@@ -22,11 +22,11 @@ not-realized-requires-2 c κs = search rules
 returns-2 : tie.Need-returns-2
 returns-2 c =
     c.realized.ensures
-    ∙ sym (no_candidate_censored _ _ (not_false _ c.before.before.before.before.if1.false) c.before.before.if2.true)
+    ∙ sym (no_candidate_censored _ _ (not-false _ c.before.before.before.before.if1.false) c.before.before.if2.true)
 
 returns-3 : tie.Need-returns-3
 returns-3 c =
-    c.not-realized2.ensures ∙ sym (no_candidate_late _ _ (not_false _ c.before.before.before.if1.false) c.before.if2.false)
+    c.not-realized2.ensures ∙ sym (no_candidate_late _ _ (not-false _ c.before.before.before.if1.false) c.before.if2.false)
 
 pub censored-only-spec : {M : Type 1} → statement M
 censored-only-spec =

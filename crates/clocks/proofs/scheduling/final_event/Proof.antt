@@ -1,7 +1,7 @@
 -- `scheduling::final_event` meets its contract: no candidate, one after the censor time, and one that is not.
 use mathlib.Core.Path.{sym, ◌∙◌}
 use mathlib.Core.Logic.{⊎_elim}
-use borrow.Author.Tests.{not-true, not_false}
+use borrow.Author.Tests.{not-true, not-false}
 use Rattle.clocks.proofs.SchedulingCases.{found_no_censor, found_in_time, found_censored}
 use borrow.Author.Rules.{rules}
 use Rattle.clocks.proofs.scheduling.final_event.Statement.{statement}
@@ -47,7 +47,7 @@ returns-3 c =
     rw k.before.before.earliest.given.1
     (c.realized2.ensures
     ∙ rw c.before.not-below-zero2.ensures
-    (⊎_elim (λ w. sym (found_in_time _ _ _ w.0.taken (not_false _ w.3.left))) (λ w. sym (found_no_censor _ _ _ w.left))
+    (⊎_elim (λ w. sym (found_in_time _ _ _ w.0.taken (not-false _ w.3.left))) (λ w. sym (found_no_censor _ _ _ w.left))
     k.if1.branch))
 
 pub final-event-spec : {M : Type 1} → statement M

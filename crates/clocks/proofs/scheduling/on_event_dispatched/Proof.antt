@@ -1,6 +1,6 @@
 -- `scheduling::on_event_dispatched` meets its contract: without a winner, with a censored one and with another.
 use mathlib.Core.Path.{sym, ◌∙◌, ap}
-use borrow.Author.Tests.{not-true, not_false}
+use borrow.Author.Tests.{not-true, not-false}
 use Rattle.clocks.specs.Layout.{clock_of, clock_from}
 use Rattle.clocks.specs.Scheduling.{Dispatched}
 use Rattle.clocks.specs.declared.clocks.Winner.{Winner}
@@ -78,7 +78,7 @@ returns-2 c =
     let won = ap (λ (w : Winner). w.present) (sym read.winner-in.ensures) in
     let none = ap (λ (w : Winner). w.cause_id) (sym read.winner-in.ensures) in
     let e =
-    sym (dispatched_censored (clock_from a.words.now a.floats.now) (won ∙ not_false _ d.before.before.if1.false)
+    sym (dispatched_censored (clock_from a.words.now a.floats.now) (won ∙ not-false _ d.before.before.if1.false)
     (none ∙ c.before.if2.true)) in (
       leaves_as stored.put-schedule.ensures
           (rw (stored.before.before.not-scheduled.ensures, stored.before.no-winner.ensures) (ap (λ (r : Dispatched). r.clock) e)),
@@ -104,7 +104,7 @@ returns-3 c =
     let won = ap (λ (w : Winner). w.present) (sym read.winner-in.ensures) in
     let cause = ap (λ (w : Winner). w.cause_id) read.winner-in.ensures in
     let e =
-    sym (dispatched_one (clock_from a.words.now a.floats.now) (won ∙ not_false _ d.before.before.if1.false)
+    sym (dispatched_one (clock_from a.words.now a.floats.now) (won ∙ not-false _ d.before.before.if1.false)
     (λ n. c.before.if2.false (cause ∙ n))) in (
       leaves_as stored.put-schedule.ensures
           (rw (stored.before.before.not-scheduled.ensures, stored.before.no-winner.ensures) (ap (λ (r : Dispatched). r.clock) e)),

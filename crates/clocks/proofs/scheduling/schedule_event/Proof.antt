@@ -1,6 +1,6 @@
 -- `scheduling::schedule_event` meets its contract: without an event and with one.
 use mathlib.Core.Path.{sym, ap}
-use borrow.Author.Tests.{not-true, not_false}
+use borrow.Author.Tests.{not-true, not-false}
 use Rattle.clocks.specs.Layout.{clock_of, clock_from}
 use Rattle.clocks.specs.Scheduling.{Rescheduled}
 use Rattle.clocks.specs.RowsInternals.{queue_change}
@@ -78,7 +78,7 @@ returns-2 c =
     let asked = branch.before.before in
     let a = asked.before.before.before.before.args in
     let k = clock_from a.words.now a.floats.now in
-    let e = sym (scheduled_one k a.time a.event a.index (not_false _ branch.if1.false)) in (
+    let e = sym (scheduled_one k a.time a.event a.index (not-false _ branch.if1.false)) in (
       leaves_as stored.put-schedule2.ensures (ap (λ (r : Rescheduled). r.clock) e),
       rw (c.ticks-at.ensures, asked.event-in.ensures) (ap queue_change e),
     )

@@ -1,5 +1,5 @@
 -- `setting::set_again` meets its contract: the threshold is kept, or the draw is refused, or it is taken.
-use borrow.Author.Tests.{not-true, not_false}
+use borrow.Author.Tests.{not-true, not-false}
 use borrow.Author.Rules.{rules}
 use lib.Ieee.{of_bits}
 use Rattle.clocks.proofs.SettingInPlace.{kept_in_place, refused_in_place, drawn_in_place}
@@ -71,7 +71,7 @@ returns-2 c =
     l.channel-at.ensures
     (rw d.before.before.byte-from.ensures at d.before.policy-of.ensures)
     d.before.before.before.before.settled-hazard.ensures
-    d.draws-again.ensures _ (not_false _ c.before.before.before.if1.false) c.before.before.draw-from.ensures c.if2.true
+    d.draws-again.ensures _ (not-false _ c.before.before.before.if1.false) c.before.before.draw-from.ensures c.if2.true
 
 channel-of-requires-2 : tie.Need-channel-of-requires-2
 channel-of-requires-2 c κs = search rules
@@ -98,7 +98,7 @@ returns-3 c =
     (rw d.before.before.byte-from.ensures at d.before.policy-of.ensures)
     d.before.before.before.before.settled-hazard.ensures
     d.draws-again.ensures _ _ _ c.before.before.put-channel2.ensures _
-    (not_false _ t.before.before.before.if1.false) t.before.before.draw-from.ensures t.if2.false
+    (not-false _ t.before.before.before.if1.false) t.before.before.draw-from.ensures t.if2.false
     c.before.before.before.before.before.channel-of2.ensures
 
 pub set-again-spec : {M : Type 1} → statement M

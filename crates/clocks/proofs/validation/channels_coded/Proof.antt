@@ -3,7 +3,7 @@ use mathlib.Core.Path.{◌≡◌, sym, ◌∙◌}
 use mathlib.Core.Bool.{Bool, ◌&&◌}
 use mathlib.Core.List.{[]}
 use Prim.Native.Nat.{ℕ, ◌+◌, ◌*◌, ◌≤◌, ◌-◌}
-use borrow.Author.Tests.{not-true, not_false}
+use borrow.Author.Tests.{not-true, not-false}
 use lib.Dec.{eqb, ltb}
 use lib.ListN.{get_or}
 use Rattle.hazards.proofs.Cases.{both_true}
@@ -97,7 +97,7 @@ loop-again c =
     let a = l.before.args in
     let ws = get_or a.words.now (2 + l.loop.j) [] in
     let ns = get_or a.floats.now (1 + 3 * l.loop.j) [] in
-    let passes = sym e.before.kind_coded.ensures ∙ not_false _ e.if1.false in
+    let passes = sym e.before.kind_coded.ensures ∙ not-false _ e.if1.false in
     let both = both_true (ltb (get_or ws 2 0) kinds) (coded_numbers (get_or ws 2 0) ns) passes in (
       omega arith,
       every_step (coded_at a.words.now a.floats.now) l.loop.j

@@ -1,7 +1,7 @@
 -- `validation::kind_coded` meets its contract: a rate is tested where the kind is 0.
 use mathlib.Core.Path.{◌≡◌, sym, ◌∙◌}
 use mathlib.Core.Logic.{⊎_elim}
-use borrow.Author.Tests.{not-true, not_false, ne_eqb, lt-ltb, le-ltb}
+use borrow.Author.Tests.{not-true, not-false, ne_eqb, lt-ltb, le-ltb}
 use Rattle.clocks.specs.Layout.{spare_zero, coded_numbers}
 use borrow.Author.Rules.{rules}
 use Rattle.clocks.proofs.validation.kind_coded.Statement.{statement}
@@ -27,7 +27,7 @@ returns-2 c =
     rw (lt-ltb _ _ c.before.if3.true)
     (c.spare-zero.ensures
     ∙ ⊎_elim {C = spare_zero a.ns.now ≡ coded_numbers a.kind a.ns.now}
-    (λ w. rw (w.0.taken, sym w.2.ensures ∙ not_false _ w.3.left)) (λ w. rw (ne_eqb _ _ w.left)) c.before.before.if1.branch)
+    (λ w. rw (w.0.taken, sym w.2.ensures ∙ not-false _ w.3.left)) (λ w. rw (ne_eqb _ _ w.left)) c.before.before.if1.branch)
 
 returns-3 : tie.Need-returns-3
 returns-3 c = rw (le-ltb _ _ c.if3.false)

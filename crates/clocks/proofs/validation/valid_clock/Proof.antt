@@ -1,7 +1,7 @@
 -- `validation::valid_clock` meets its contract: at each turn the channels from j on, their causes from `least` on, pass where all do.
 use mathlib.Core.Path.{◌≡◌, refl, sym, ◌∙◌}
 use Prim.Native.Nat.{◌≤◌, ◌-◌}
-use borrow.Author.Tests.{not-true, not_false}
+use borrow.Author.Tests.{not-true, not-false}
 use lib.ListN.{drop}
 use Rattle.clocks.specs.Clocks.{used_channels}
 use Rattle.clocks.specs.Layout.{channel_from, clock_from}
@@ -64,7 +64,7 @@ loop-again c =
     let a = l.before.before.before.args in
     let next = channel_next a.words.now a.floats.now l.loop.j (omega arith) in
     let above = c.before.before.cause-above.ensures in
-    let passes = channels_next l.loop.least next c.before.valid-channel.ensures above (not_false _ c.if2.false) in
+    let passes = channels_next l.loop.least next c.before.valid-channel.ensures above (not-false _ c.if2.false) in
     (omega arith, sym passes ∙ l.loop.invariant.1)
 
 index-1-winner : tie.Need-bounds-1-winner invariant-loop decreases-loop

@@ -1,6 +1,6 @@
 -- `validation::valid_times` meets its contract: the winner's time is tested where there is a winner.
 use mathlib.Core.Path.{sym, ◌∙◌}
-use borrow.Author.Tests.{not-true, not_false}
+use borrow.Author.Tests.{not-true, not-false}
 use Rattle.clocks.proofs.ValidRows.{two_fail, two_pass}
 use borrow.Author.Rules.{rules}
 use Rattle.clocks.proofs.validation.valid_times.Statement.{statement}
@@ -31,7 +31,7 @@ returns-2 : tie.Need-returns-2
 returns-2 c =
     let b = c.before in
     let first = b.before.before.before.is_finite.ensures in
-    let pass = two_pass _ _ _ first b.before.is-finite2.ensures (not_false _ b.if1.false) in
+    let pass = two_pass _ _ _ first b.before.is-finite2.ensures (not-false _ b.if1.false) in
     let winner = b.before.before.before.before.before.args.winner in
     c.if2.true ∙ sym (pass ∙ rw (not-true winner c.if2.true))
 
@@ -39,9 +39,9 @@ returns-3 : tie.Need-returns-3
 returns-3 c =
     let b = c.before.before.before in
     let first = b.before.before.before.is_finite.ensures in
-    let pass = two_pass _ _ _ first b.before.is-finite2.ensures (not_false _ b.if1.false) in
+    let pass = two_pass _ _ _ first b.before.is-finite2.ensures (not-false _ b.if1.false) in
     let winner = b.before.before.before.before.before.args.winner in
-    c.is-finite3.ensures ∙ sym (pass ∙ rw (not_false winner c.before.before.if2.false))
+    c.is-finite3.ensures ∙ sym (pass ∙ rw (not-false winner c.before.before.if2.false))
 
 pub valid-times-spec : {M : Type 1} → statement M
 valid-times-spec =

@@ -4,7 +4,7 @@ use mathlib.Core.Bool.{Bool, true}
 use mathlib.Core.List.{[]}
 use Prim.Native.Nat.{ℕ, ◌≤◌, ◌-◌}
 use lib.ListN.{length, get_or}
-use borrow.Author.Tests.{not-true, not_false}
+use borrow.Author.Tests.{not-true, not-false}
 use Rattle.clocks.specs.Layout.{WordRows, every_below}
 use Rattle.clocks.proofs.EveryBelow.{every_none, every_more, every_fails}
 use Rattle.engine.specs.ComparisonInternals.{same_word_row, same_word_rows}
@@ -60,7 +60,7 @@ loop-again : tie.Need-loop-preserved invariant-loop decreases-loop
 loop-again c =
     let l = c.before.before.before.before.before in
     let a = l.before.args in
-    let same = sym c.before.same-word-row.ensures ∙ not_false _ c.if1.false in
+    let same = sym c.before.same-word-row.ensures ∙ not-false _ c.if1.false in
     (omega arith, every_more (same_at a.a.now a.b.now) l.loop.i l.loop.invariant.1 same)
 
 returns-2 : tie.Need-returns-2 invariant-loop decreases-loop

@@ -2,7 +2,7 @@
 use mathlib.Core.Path.{sym, subst}
 use native.Mathlib.Omega.{arith}
 use borrow.Author.Rules.{rules}
-use borrow.Author.Tests.{not-true, not_false}
+use borrow.Author.Tests.{not-true, not-false}
 use lib.ListN.{length, take}
 use lib.Seq.{length-take-le}
 use Prim.Native.Nat.{ℕ}
@@ -53,7 +53,7 @@ start c = c.before.before.before.before.before.before.before
 
 valid : (c : tie.Else1)
     → ValidRows (start c).args.stream.now (length (start c).args.journal.now) (start c).args.words.now (start c).args.floats.now
-valid c = valid_rows _ _ _ _ c.before.is-valid.ensures (not_false _ c.if1.false)
+valid c = valid_rows _ _ _ _ c.before.is-valid.ensures (not-false _ c.if1.false)
 
 front-refusal-requires : tie.Need-front-refusal-requires
 front-refusal-requires c κs = search rules

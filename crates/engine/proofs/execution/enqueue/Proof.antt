@@ -2,7 +2,7 @@
 use mathlib.Core.Path.{sym, ◌∙◌, ap₂}
 use Prim.Native.Nat.{ℕ}
 use lib.IntN.{ℤ}
-use borrow.Author.Tests.{not-true, not_false}
+use borrow.Author.Tests.{not-true, not-false}
 use Rattle.engine.specs.State.{with_request}
 use Rattle.engine.specs.Execution.{request_of}
 use Rattle.engine.specs.StateRows.{shared_of, shared_from}
@@ -54,7 +54,7 @@ returns-2 c =
     shared_as c.before.put_in.ensures
     (ap₂ (λ (k : ℕ) (z : ℤ). with_request p (record { clock = k; ticks = a.change.ticks; priority = z; index = p.request_count }))
     i.before.byte_at.ensures (number ∙ i.i32-at.ensures)
-    ∙ enqueue_one p (request_of p a.command.now a.change.ticks) {t = a.change.event.present} (not_false _ l.if1.false))
+    ∙ enqueue_one p (request_of p a.command.now a.change.ticks) {t = a.change.event.present} (not-false _ l.if1.false))
 
 pub enqueue-spec : {M : Type 1} → statement M
 enqueue-spec =

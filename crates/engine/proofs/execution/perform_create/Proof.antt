@@ -3,7 +3,7 @@ use mathlib.Core.Path.{◌≡◌, refl, sym, ◌∙◌, ap}
 use mathlib.Core.List.{[]}
 use Prim.Native.Nat.{ℕ, ◌*◌, ◌<◌, ◌^◌}
 use native.Mathlib.Omega.{arith}
-use borrow.Author.Tests.{eq-eqb, ne_eqb, not-true, not_false}
+use borrow.Author.Tests.{eq-eqb, ne_eqb, not-true, not-false}
 use lib.Dec.{eqb}
 use lib.ListN.{length, get_or}
 use Rattle.hazards.specs.Refusals.{number_of}
@@ -134,7 +134,7 @@ count-applied-requires c κs =
     let h : a.journal-length < 2 ^ 64 = omega (arith, m.well-formed.1.1.0.1) in (
       call.auto.0 ∙ m.requires.sized.words,
       applied_fits (length a.command.now) a.journal-length (ap (λ (p : SharedState). p.applied_length) call.ensures.1)
-          (sym y.before.has_room.ensures ∙ not_false _ y.if3.false) h,
+          (sym y.before.has_room.ensures ∙ not-false _ y.if3.false) h,
     )
 
 no-event-requires-4 : tie.Need-no-event-requires-4
@@ -174,7 +174,7 @@ returns-4 c =
     let l₂ = count.auto.0 ∙ l₁ in
     let then = shared_as count.ensures (ap (with_applied_bytes (length b)) call.ensures.1) in
     done_there w f (clock_of b) (perform_create n slot (shared_from w) b)
-    (create_done n slot (shared_from w) b e l.if1.false t (sym y.before.has_room.ensures ∙ not_false _ y.if3.false) refl
+    (create_done n slot (shared_from w) b e l.if1.false t (sym y.before.has_room.ensures ∙ not-false _ y.if3.false) refl
     c.no-event4.ensures)
     (ap (λ (r : Answer). r.number) c.no-event4.ensures)
     (shared_put call.new.0 count.new.0 call.new.1.0 l₁ l₂ p then

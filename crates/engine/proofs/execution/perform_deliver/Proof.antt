@@ -3,7 +3,7 @@ use mathlib.Core.Path.{◌≡◌, refl, sym, ◌∙◌, ap}
 use mathlib.Core.Bool.{false}
 use Prim.Native.Nat.{ℕ, ◌<◌, ◌^◌}
 use native.Mathlib.Omega.{arith}
-use borrow.Author.Tests.{not-true, not_false}
+use borrow.Author.Tests.{not-true, not-false}
 use lib.ListN.{length}
 use Rattle.hazards.specs.declared.answers.Answer.{Answer}
 use Rattle.clocks.specs.Scheduling as scheduling
@@ -65,7 +65,7 @@ returns-2 c =
     let k = clock_of_request (next_request (queued_requests (shared_from w))) in
     let slot = slot_at (state_from w f) k in
     refused_there w f k (perform_deliver n slot (shared_from w) b)
-    (deliver_full n slot (shared_from w) b q.next-request.result q.next-request.ensures (not_false _ i.if1.false)
+    (deliver_full n slot (shared_from w) b q.next-request.result q.next-request.ensures (not-false _ i.if1.false)
     (sym c.before.before.has_room.ensures ∙ not-true _ c.before.if2.true))
     (λ z. omega arith) c.no-event2.ensures
 
@@ -74,7 +74,7 @@ dispatch-in-requires c κs =
     let i = c.before.before.before.before.before.before in
     let q = i.before.before in
     let m = q.before.before.before in
-    let there = found q.next-request.result q.next-request.ensures (not_false _ i.if1.false) in
+    let there = found q.next-request.result q.next-request.ensures (not-false _ i.if1.false) in
     (m.requires.next q.next-request.result.request (sym there), m.requires.sized)
 
 take-out-requires : tie.Need-take-out-requires
@@ -91,7 +91,7 @@ count-applied-requires c κs =
     let length-of : SharedState → ℕ = λ p. p.applied_length in
     let same = ap length-of out.ensures.shared ∙ ap length-of call.ensures.0.shared in (
       out.auto.0 ∙ (call.auto.0 ∙ m.requires.sized.words),
-      applied_fits (length a.command.now) a.journal-length same (sym y.before.has_room.ensures ∙ not_false _ y.if2.false) h,
+      applied_fits (length a.command.now) a.journal-length same (sym y.before.has_room.ensures ∙ not-false _ y.if2.false) h,
     )
 
 event-answer-requires : tie.Need-event-answer-requires
@@ -122,7 +122,7 @@ returns-3 c =
     let p = shared_from w in
     let next = q.next-request.result in
     let r = next.request in
-    let yes = not_false _ i.if1.false in
+    let yes = not-false _ i.if1.false in
     let there = found next q.next-request.ensures yes in
     let same : r.clock ≡ k = ap clock_of_request there in
     let left : LeavesClock w f k call.new.0 call.new.1.0 (scheduling.on_event_dispatched slot.clock).clock =
@@ -136,7 +136,7 @@ returns-3 c =
     let then = shared_then took (shared_as count.ensures (ap (with_applied_bytes (length b)) took.shared)) in
     let event = call.ensures.1 ∙ ap (λ (j : ℕ). (scheduling.on_event_dispatched (slot_at (state_from w f) j).clock).event) same in
     done_there w f k (perform_deliver n slot p b)
-    (deliver_done n slot p b next q.next-request.ensures yes (sym y.before.has_room.ensures ∙ not_false _ y.if2.false) refl refl
+    (deliver_done n slot p b next q.next-request.ensures yes (sym y.before.has_room.ensures ∙ not-false _ y.if2.false) refl refl
     (c.event-answer.ensures ∙ ap (λ (e : RealizedEvent). event_answer e false r.ticks) event))
     (ap (λ (x : Answer). x.number) c.event-answer.ensures)
     (held_state w f k call.new.0 call.new.1.0 _ left count.new.0 l₁ l₃ (with_applied_bytes (length b) gone) then

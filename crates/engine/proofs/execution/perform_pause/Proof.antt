@@ -2,7 +2,7 @@
 use mathlib.Core.Path.{◌≡◌, refl, sym, ◌∙◌, ap, ap₂}
 use Prim.Native.Nat.{◌<◌, ◌^◌}
 use native.Mathlib.Omega.{arith}
-use borrow.Author.Tests.{not-true, not_false}
+use borrow.Author.Tests.{not-true, not-false}
 use lib.ListN.{length}
 use Rattle.hazards.specs.declared.answers.Answer.{Answer}
 use Rattle.clocks.specs.Scheduling as scheduling
@@ -115,7 +115,7 @@ count-applied-requires c κs =
           (ap (λ (p : SharedState). p.applied_length) out.ensures.0.shared
           ∙ (withdraw_applied (shared_from l.pause-in.new.0) l.pause-in.result
           ∙ ap (λ (p : SharedState). p.applied_length) l.pause-in.ensures.0.shared))
-          (sym q.before.has_room.ensures ∙ not_false _ q.if2.false) h,
+          (sym q.before.has_room.ensures ∙ not-false _ q.if2.false) h,
     )
 
 same-length-3 : tie.Need-same-length-3
@@ -142,7 +142,7 @@ returns-3 c =
     let here = slot_at (state_from w f) (clock_of b) in
     let r = scheduling.pause here.clock (now_of b) in
     let e = l.refusal-of.ensures f ∙ ap (refusal_of here.present) l.before.pause-faults.ensures in
-    let fit = sym q.before.has_room.ensures ∙ not_false _ q.if2.false in
+    let fit = sym q.before.has_room.ensures ∙ not-false _ q.if2.false in
     let left : LeavesClock w f (clock_of b) call.new.0 call.new.1.0 r.clock × (call.result ≡ r.withdrawn) =
     rw (g.f64-at.ensures, g.before.byte_at.ensures) at call.ensures in
     let answer = pause_answer out.result i.no-event3.ensures in

@@ -2,7 +2,7 @@
 use mathlib.Core.Path.{sym, ◌∙◌, ap}
 use Prim.Native.Nat.{◌<◌, ◌^◌}
 use native.Mathlib.Omega.{arith}
-use borrow.Author.Tests.{not-true, not_false}
+use borrow.Author.Tests.{not-true, not-false}
 use lib.ListN.{length}
 use Rattle.hazards.specs.Fields.{field_at}
 use Rattle.hazards.specs.declared.answers.Answer.{Answer}
@@ -103,7 +103,7 @@ count-applied-requires c κs =
       call.auto.0 ∙ m.requires.sized.words,
       applied_fits (length a.command.now) a.journal-length
           (ap (λ (p : SharedState). p.applied_length) call.ensures.shared)
-          (sym q.before.has_room.ensures ∙ not_false _ q.if2.false) h,
+          (sym q.before.has_room.ensures ∙ not-false _ q.if2.false) h,
     )
 
 no-event-requires-3 : tie.Need-no-event-requires-3
@@ -130,7 +130,7 @@ returns-3 c =
     let b = a.command.now in
     let here = slot_at (state_from w f) (clock_of b) in
     let e = l.refusal-of.ensures f ∙ ap (refusal_of here.present) l.before.cause-faults.ensures in
-    let fit = sym q.before.has_room.ensures ∙ not_false _ q.if2.false in
+    let fit = sym q.before.has_room.ensures ∙ not-false _ q.if2.false in
     let cause = field_at 4 b commands.cause_field in
     let left : LeavesClock w f (clock_of b) call.new.0 call.new.1.0 (remove_channel here.clock cause) =
     rw (g.u32-at.ensures, g.before.byte_at.ensures) at call.ensures in

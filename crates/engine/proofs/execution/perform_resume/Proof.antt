@@ -2,7 +2,7 @@
 use mathlib.Core.Path.{◌≡◌, sym, ◌∙◌, ap}
 use Prim.Native.Nat.{◌<◌, ◌^◌}
 use native.Mathlib.Omega.{arith}
-use borrow.Author.Tests.{not-true, not_false}
+use borrow.Author.Tests.{not-true, not-false}
 use lib.ListN.{length}
 use Rattle.clocks.specs.Scheduling as scheduling
 use Rattle.clocks.specs.RowsInternals.{queue_change}
@@ -102,7 +102,7 @@ requeue-requires c κs =
       rw call.ensures.0.shared m.requires.counts,
       applied_fits (length a.command.now) a.journal-length
           (ap (λ (p : SharedState). p.applied_length) call.ensures.0.shared)
-          (sym q.before.has_room.ensures ∙ not_false _ q.if2.false) h,
+          (sym q.before.has_room.ensures ∙ not-false _ q.if2.false) h,
     )
 
 same-length-3 : tie.Need-same-length-3
@@ -128,7 +128,7 @@ returns-3 c =
     let here = slot_at (state_from w f) (clock_of b) in
     let r = outcome w f n b scheduling.resume in
     let e = l.refusal-of.ensures f ∙ ap (refusal_of here.present) l.before.reschedule-faults.ensures in
-    let fit = sym q.before.has_room.ensures ∙ not_false _ q.if2.false in
+    let fit = sym q.before.has_room.ensures ∙ not-false _ q.if2.false in
     let left : LeavesClock w f (clock_of b) call.new.0 call.new.1.0 r.clock × (call.result ≡ queue_change r) =
     rw (g.censor-of.ensures, g.before.f64-at.ensures, g.before.before.byte_at.ensures) at call.ensures in
     let sized = call.auto.0 ∙ m.requires.sized.words in

@@ -3,7 +3,7 @@ use mathlib.Core.Path.{◌≡◌, sym, ◌∙◌, ap, ap₂}
 use mathlib.Core.Bool.{true, false}
 use Prim.Native.Nat.{◌<◌, ◌^◌}
 use native.Mathlib.Omega.{arith}
-use borrow.Author.Tests.{not-true, not_false}
+use borrow.Author.Tests.{not-true, not-false}
 use lib.ListN.{length}
 use Rattle.hazards.specs.Refusals.{too_many_causes}
 use Rattle.hazards.specs.declared.answers.Answer.{Answer}
@@ -126,7 +126,7 @@ returns-3 c =
     let does = set_on a.journal-length (shared_from w) b a.stream.now in
     let r = set_channel here.clock (setting_of b) a.stream.now (shared_from w).position in
     let taken : takes_cause here.clock (setting_of b).cause_id ≡ true =
-    sym (rw (q.before.before.before.set-command.ensures.1, t.before.byte_at.ensures) at (i.before.takes-cause.ensures f)) ∙ not_false _ i.if2.false in
+    sym (rw (q.before.before.before.set-command.ensures.1, t.before.byte_at.ensures) at (i.before.takes-cause.ensures f)) ∙ not-false _ i.if2.false in
     let other = taken_other here.clock (setting_of b) a.stream.now (shared_from w).position taken in
     refused_later w f b (set_faults b) does e q.if1.false journal_full (λ z. omega arith)
     (set_full a.journal-length (shared_from w) b r other (sym h.has_room.ensures ∙ not-true _ c.before.if3.true))
@@ -174,9 +174,9 @@ returns-4 c =
     let does = set_on a.journal-length (shared_from w) b a.stream.now in
     let r = set_channel here.clock (setting_of b) a.stream.now (shared_from w).position in
     let taken : takes_cause here.clock (setting_of b).cause_id ≡ true =
-    sym (rw (q.before.before.before.set-command.ensures.1, t.before.byte_at.ensures) at (i.before.takes-cause.ensures f)) ∙ not_false _ i.if2.false in
+    sym (rw (q.before.before.before.set-command.ensures.1, t.before.byte_at.ensures) at (i.before.takes-cause.ensures f)) ∙ not-false _ i.if2.false in
     let other = taken_other here.clock (setting_of b) a.stream.now (shared_from w).position taken in
-    let fit = sym g.before.has_room.ensures ∙ not_false _ g.if3.false in
+    let fit = sym g.before.has_room.ensures ∙ not-false _ g.if3.false in
     let call = l.set-in in
     let drawn : call.result ≡ channel_draw r = rw (q.before.before.before.set-command.ensures.1, t.before.byte_at.ensures) at call.ensures.1 in
     let number = ap (λ (x : ChannelDraw). x.number) drawn in
@@ -206,7 +206,7 @@ count-applied-requires c κs =
       applied_fits (length a.command.now) a.journal-length
           (ap (λ (p : SharedState). p.applied_length) put.ensures.shared
           ∙ ap (λ (p : SharedState). p.applied_length) call.ensures.0.shared)
-          (sym g.before.has_room.ensures ∙ not_false _ g.if3.false) h,
+          (sym g.before.has_room.ensures ∙ not-false _ g.if3.false) h,
     )
 
 no-event-requires-5 : tie.Need-no-event-requires-5
@@ -236,9 +236,9 @@ returns-5 c =
     let does = set_on a.journal-length (shared_from w) b a.stream.now in
     let r = set_channel here.clock (setting_of b) a.stream.now (shared_from w).position in
     let taken : takes_cause here.clock (setting_of b).cause_id ≡ true =
-    sym (rw (q.before.before.before.set-command.ensures.1, t.before.byte_at.ensures) at (i.before.takes-cause.ensures f)) ∙ not_false _ i.if2.false in
+    sym (rw (q.before.before.before.set-command.ensures.1, t.before.byte_at.ensures) at (i.before.takes-cause.ensures f)) ∙ not-false _ i.if2.false in
     let other = taken_other here.clock (setting_of b) a.stream.now (shared_from w).position taken in
-    let fit = sym g.before.has_room.ensures ∙ not_false _ g.if3.false in
+    let fit = sym g.before.has_room.ensures ∙ not-false _ g.if3.false in
     let call = l.set-in in
     let drawn : call.result ≡ channel_draw r = rw (q.before.before.before.set-command.ensures.1, t.before.byte_at.ensures) at call.ensures.1 in
     let number = ap (λ (x : ChannelDraw). x.number) drawn in

@@ -1,6 +1,6 @@
 -- `execution::withdraw` meets its contract: no event, none that is queued, and one that is taken out.
 use mathlib.Core.Path.{sym, ◌∙◌}
-use borrow.Author.Tests.{not-true, not_false}
+use borrow.Author.Tests.{not-true, not-false}
 use Rattle.engine.specs.StateRows.{shared_from}
 use Rattle.engine.proofs.ExecutionCases.{not-scheduled, scheduled, withdrawn_out, not_withdrawn}
 use Rattle.engine.proofs.CommandsInPlace.{shared_as}
@@ -28,7 +28,7 @@ returns-2 c =
     let a = q.before.before.args in
     let w = a.words.now in
     let e =
-    sym (not-true _ c.if2.true) ∙ (c.before.is-queued.ensures ∙ scheduled (shared_from w) a.event (not_false _ q.if1.false)) in
+    sym (not-true _ c.if2.true) ∙ (c.before.is-queued.ensures ∙ scheduled (shared_from w) a.event (not-false _ q.if1.false)) in
     (shared_none w (not_withdrawn (shared_from w) a.event (sym e)), e)
 
 take-out-requires : tie.Need-take-out-requires
@@ -44,7 +44,7 @@ returns-3 c =
     let a = q.before.before.args in
     let w = a.words.now in
     let e =
-    sym (not_false _ l.if2.false) ∙ (l.before.is-queued.ensures ∙ scheduled (shared_from w) a.event (not_false _ q.if1.false)) in
+    sym (not-false _ l.if2.false) ∙ (l.before.is-queued.ensures ∙ scheduled (shared_from w) a.event (not-false _ q.if1.false)) in
     (shared_as c.before.take_out.ensures (withdrawn_out (shared_from w) a.event (sym e)), e)
 
 pub withdraw-spec : {M : Type 1} → statement M

@@ -2,7 +2,7 @@
 use mathlib.Core.Path.{sym, ap, ◌∙◌}
 use native.Mathlib.Omega.{arith}
 use borrow.Author.Rules.{rules}
-use borrow.Author.Tests.{not-true, not_false}
+use borrow.Author.Tests.{not-true, not-false}
 use lib.Seq.{length-take-le}
 use Rattle.engine.specs.ReplayInternals.{ends}
 use Rattle.engine.specs.StateRows.{state_from}
@@ -100,7 +100,7 @@ before_last c =
     let was = (start r).pre.0 in
     record {
       last = last-place r;
-      state = is_there _ r.replay.result r.replay.ensures.0 (not_false _ m.before.before.if1.false);
+      state = is_there _ r.replay.result r.replay.ensures.0 (not-false _ m.before.before.if1.false);
       coded = r.replay.ensures.1;
       sized = record { words = r.replay.kept.0 ∙ was.words; floats = r.replay.kept.1.0 ∙ was.floats };
       whole = sym m.command-width.ensures ∙ c.if2.false;

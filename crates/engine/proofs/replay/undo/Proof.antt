@@ -4,7 +4,7 @@ use mathlib.Core.List.{[]}
 use Prim.Native.Nat.{ℕ, ◌≤◌}
 use native.Mathlib.Omega.{arith}
 use borrow.Author.Rules.{rules}
-use borrow.Author.Tests.{not-true, not_false}
+use borrow.Author.Tests.{not-true, not-false}
 use lib.ListN.{length, get_or}
 use lib.Seq.{length-take-le}
 use Rattle.engine.specs.StateRows.{shared_of, shared_from}
@@ -108,7 +108,7 @@ same-state-requires c κs =
     let last = r.replay-to-last in (
       record { words = last.kept.0; floats = last.kept.1.0 },
       (start r).pre.0,
-      (last.ensures.3 (not_false _ e.if2.false)).0,
+      (last.ensures.3 (not-false _ e.if2.false)).0,
       (start r).pre.1,
     )
 
@@ -138,7 +138,7 @@ returns-3 c =
     other_left a.stream.now (length a.journal.now) a.words.now a.floats.now a.journal.now _
     (applied_read a.words.now a.floats.now) last.result last.last.0 last.last.1.0 last.last.1.1.0
     last.last.1.1.1.0 last.ensures.0 r.before.before.before.before.before.before.if1.left
-    (not_false _ e.if2.left) other c.no-event3.result c.no-event3.ensures
+    (not-false _ e.if2.left) other c.no-event3.result c.no-event3.ensures
 
 -- ---- the last command is taken back in the rows of the replay, which are copied
 
@@ -224,12 +224,12 @@ returns-4 c =
     let r = replayed e in
     let a = (start r).args in
     let last = r.replay-to-last in
-    let yes = not_false _ e.if2.left in
+    let yes = not-false _ e.if2.left in
     let coded = last.ensures.3 yes in
     reverted_left a.stream.now (length a.journal.now) a.words.now a.floats.now a.journal.now _
     (applied_read a.words.now a.floats.now) last.result last.last.0 last.last.1.0 last.last.1.1.0
     last.last.1.1.1.0 last.ensures.0 r.before.before.before.before.before.before.if1.left yes
-    (sym compared.same-state.ensures ∙ not_false _ back.before.before.before.before.before.if3.false)
+    (sym compared.same-state.ensures ∙ not-false _ back.before.before.before.before.before.if3.false)
     c.no-event4.result c.no-event4.ensures back.put_back.new.0 back.put_back.new.1.0 back.put_back.ensures.0
     (back.put_back.ensures.1 coded.0 coded.1) words.copy-words.new.0 words.copy-words.ensures
     floats.copy-floats.new.0 floats.copy-floats.ensures _

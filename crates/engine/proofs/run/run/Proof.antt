@@ -2,7 +2,7 @@
 use mathlib.Core.Path.{◌≡◌, sym, ap, ◌∙◌}
 use Prim.Native.Nat.{ℕ}
 use borrow.Author.Rules.{rules}
-use borrow.Author.Tests.{not-true, not_false}
+use borrow.Author.Tests.{not-true, not-false}
 use lib.ListN.{length, replicate, length-replicate}
 use Rattle.engine.proofs.RunOpening.{journal_opened, usable_result, run_unusable, run_opens}
 use Rattle.engine.proofs.run.run.Statement.{statement}
@@ -40,7 +40,7 @@ run-commands-requires c κs =
     let a = (start m).args in (
       opened m ∙ ap (λ (k : ℕ). replicate k 0) (sym (same m)),
       usable_result a.commands.now a.stream.now a.journal.now a.answers.now a.result.now
-          (sym m.before.before.before.are-usable.ensures ∙ not_false _ m.before.before.if1.false),
+          (sym m.before.before.before.are-usable.ensures ∙ not-false _ m.before.before.if1.false),
     )
 
 same-length-2 : tie.Need-same-length-2
@@ -58,7 +58,7 @@ returns-2 c =
     let a = (start m).args in
     (rw (same m) at c.before.before.before.before.before.before.run-commands.ensures)
     ∙ run_opens a.commands.now a.stream.now a.journal.now a.answers.now a.result.now
-    (sym m.before.before.before.are-usable.ensures ∙ not_false _ m.before.before.if1.false)
+    (sym m.before.before.before.are-usable.ensures ∙ not-false _ m.before.before.if1.false)
 
 pub run_spec : {M : Type 1} → statement M
 run_spec =

@@ -2,7 +2,7 @@
 use mathlib.Core.Path.{◌≡◌, sym, ◌∙◌}
 use mathlib.Core.Bool.{Bool, true}
 use Prim.Native.Nat.{ℕ, ◌*◌, ◌≤◌, ◌-◌}
-use borrow.Author.Tests.{not-true, not_false}
+use borrow.Author.Tests.{not-true, not-false}
 use Rattle.clocks.specs.Layout.{WordRows, FloatRows, every_below, coded_clock}
 use Rattle.clocks.proofs.EveryBelow.{every_none, every_more, every_fails}
 use Rattle.engine.specs.StateRows.{part_at}
@@ -86,7 +86,7 @@ loop-again c =
     let l = c.before.before.before.before.before in
     let k = l.loop.k in
     let a = l.before.args in
-    let passes = rw (cut (10 * k) 10, cut (25 * k) 25) at (sym c.before.clock_coded.ensures ∙ not_false _ c.if1.false) in
+    let passes = rw (cut (10 * k) 10, cut (25 * k) 25) at (sym c.before.clock_coded.ensures ∙ not-false _ c.if1.false) in
     (omega arith, every_more (coded_at a.words.now a.floats.now) k l.loop.invariant.1 passes)
 
 returns-2 : tie.Need-returns-2 invariant-loop decreases-loop

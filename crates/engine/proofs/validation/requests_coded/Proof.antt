@@ -3,7 +3,7 @@ use mathlib.Core.Path.{◌≡◌, sym, ◌∙◌}
 use mathlib.Core.List.{[]}
 use mathlib.Core.Bool.{Bool, true}
 use Prim.Native.Nat.{ℕ, ◌+◌, ◌≤◌, ◌-◌}
-use borrow.Author.Tests.{not-true, not_false}
+use borrow.Author.Tests.{not-true, not-false}
 use lib.ListN.{get_or}
 use Rattle.clocks.specs.Layout.{WordRows, every_below}
 use Rattle.clocks.proofs.EveryBelow.{every_none, every_more, every_fails}
@@ -53,7 +53,7 @@ loop-less c = omega arith
 loop-again : tie.Need-loop-preserved invariant-loop decreases-loop
 loop-again c =
     let l = c.before.before.before.before in
-    let passes = sym c.before.request_coded.ensures ∙ not_false _ c.if1.false in
+    let passes = sym c.before.request_coded.ensures ∙ not-false _ c.if1.false in
     (omega arith, every_more (coded_at l.before.args.words.now) l.loop.i l.loop.invariant.1 passes)
 
 returns-2 : tie.Need-returns-2 invariant-loop decreases-loop

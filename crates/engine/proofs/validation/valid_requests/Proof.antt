@@ -1,7 +1,7 @@
 -- `validation::valid_requests` meets its contract: at each turn the requests from i on pass where all pass.
 use mathlib.Core.Path.{◌≡◌, refl, sym, ◌∙◌}
 use Prim.Native.Nat.{◌≤◌, ◌-◌}
-use borrow.Author.Tests.{not-true, not_false}
+use borrow.Author.Tests.{not-true, not-false}
 use lib.ListN.{take, drop}
 use Rattle.hazards.specs.Lists.{all}
 use Rattle.hazards.proofs.ListLaws.{slice_none, all-next, all-fails, all_none}
@@ -58,7 +58,7 @@ loop-again c =
     let next = queue_next w (queued_of w) l.loop.i (omega arith) (omega arith) in (
       omega arith,
       λ f.
-          let passes = sym (c.before.valid-request.ensures f) ∙ not_false _ c.if1.false in
+          let passes = sym (c.before.valid-request.ensures f) ∙ not-false _ c.if1.false in
           sym (all-next (valid_request (state_from w f)) next passes) ∙ l.loop.invariant.1 f,
     )
 

@@ -3,7 +3,7 @@ use mathlib.Core.Path.{◌≡◌, refl, sym, ◌∙◌}
 use mathlib.Core.Bool.{true}
 use mathlib.Core.Logic.{⊎_elim}
 use Prim.Native.Nat.{◌*◌, ◌≤◌, ◌-◌}
-use borrow.Author.Tests.{not-true, not_false}
+use borrow.Author.Tests.{not-true, not-false}
 use lib.ListN.{drop}
 use Rattle.hazards.specs.Lists.{all}
 use Rattle.hazards.proofs.ListLaws.{all-next, all-fails, all_none}
@@ -99,7 +99,7 @@ loop-again c =
     ⊎_elim {C = valid_slot (slot_from w f k) ≡ true}
     (λ v.
     slot_present w f k (there ∙ v.0.taken)
-    ∙ rw (cut (10 * k) 10, cut (25 * k) 25) at (sym v.3.ensures ∙ not_false _ v.4.left))
+    ∙ rw (cut (10 * k) 10, cut (25 * k) 25) at (sym v.3.ensures ∙ not-false _ v.4.left))
     (λ v. slot_absent w f k (there ∙ v.left)) c.if1.branch in
     (omega arith, sym (all-next valid_slot (slots_next w f k (omega arith)) passes) ∙ l.loop.invariant.1)
 

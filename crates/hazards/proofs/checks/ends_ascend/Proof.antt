@@ -4,7 +4,7 @@ use mathlib.Core.Path.{◌≡◌, sym, ◌∙◌}
 use Prim.Native.Nat.{◌-◌}
 use native.Mathlib.Omega.{arith}
 use borrow.Author.Rules.{rules}
-use borrow.Author.Tests.{not-true, not_false}
+use borrow.Author.Tests.{not-true, not-false}
 use lib.Ieee.{Float, of_bits}
 use Rattle.hazards.specs.Checks.{ascending}
 use Rattle.hazards.specs.Floats.{z}
@@ -63,7 +63,7 @@ loop-again c =
     λ rates.
     let f = pair_at (intervals_from a.ends.now rates a.count) in
     let next = pieces_next f l.before.at-most-eight.result l.loop.i (omega arith) in
-    sym (ascending_next l.loop.before next (sym c.before.ascends.ensures ∙ not_false _ c.if1.false))
+    sym (ascending_next l.loop.before next (sym c.before.ascends.ensures ∙ not-false _ c.if1.false))
     ∙ l.loop.invariant rates
 
 returns-2 : tie.Need-returns-2 invariant-loop decreases-loop

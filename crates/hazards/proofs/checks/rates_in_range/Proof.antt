@@ -4,7 +4,7 @@ use mathlib.Core.Path.{◌≡◌, sym, ◌∙◌}
 use Prim.Native.Nat.{◌-◌}
 use native.Mathlib.Omega.{arith}
 use borrow.Author.Rules.{rules}
-use borrow.Author.Tests.{not-true, not_false}
+use borrow.Author.Tests.{not-true, not-false}
 use lib.Ieee.{Float}
 use Rattle.hazards.specs.Floats.{in_range}
 use Rattle.hazards.specs.Lists.{all}
@@ -62,7 +62,7 @@ loop-again c =
     λ ends.
     let f = pair_at (intervals_from ends a.rates.now a.count) in
     let next = pieces_next f l.before.at-most-eight.result l.loop.i (omega arith) in
-    sym (all-next (λ q. in_range q.rate) next (sym c.before.in-range.ensures ∙ not_false _ c.if1.false))
+    sym (all-next (λ q. in_range q.rate) next (sym c.before.in-range.ensures ∙ not-false _ c.if1.false))
     ∙ l.loop.invariant ends
 
 returns-2 : tie.Need-returns-2 invariant-loop decreases-loop

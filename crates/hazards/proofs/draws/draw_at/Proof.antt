@@ -3,7 +3,7 @@ use mathlib.Core.Path.{◌≡◌, sym, ap, ◌∙◌}
 use mathlib.Core.Bool.{true, false}
 use native.Mathlib.Omega.{arith}
 use borrow.Author.Rules.{rules}
-use borrow.Author.Tests.{not-true, not_false}
+use borrow.Author.Tests.{not-true, not-false}
 use Rattle.hazards.specs.Floats.{is_threshold}
 use Rattle.hazards.specs.Draws.{threshold_at}
 use Rattle.hazards.proofs.DrawLaws.{draw_past, draw_used_up, draw_bad, draw_good}
@@ -54,7 +54,7 @@ returns-4 c =
     let t = c.before in
     let a = t.before.before.before.before.before.args in
     let e : is_threshold (threshold_at a.stream.now a.position) ≡ true =
-    ap is_threshold (sym t.before.f64-at.ensures) ∙ sym t.is-threshold.ensures ∙ not_false _ c.if3.false in
+    ap is_threshold (sym t.before.f64-at.ensures) ∙ sym t.is-threshold.ensures ∙ not-false _ c.if3.false in
     rw t.before.f64-at.ensures (sym (draw_good a.stream.now a.position (omega arith) e))
 
 pub draw-at-spec : {M : Type 1} → statement M

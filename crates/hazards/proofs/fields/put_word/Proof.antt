@@ -6,7 +6,7 @@ use native.Mathlib.Omega.{arith}
 use native.Mathlib.Nat.{sub-zero, add-zero}
 use lib.ListN.{length, take, drop, length-set}
 use borrow.Author.Rules.{rules}
-use borrow.Author.Tests.{not-true, not_false, leb-true}
+use borrow.Author.Tests.{not-true, not-false, leb-true}
 use Rattle.hazards.specs.Fields.{bytes_of}
 use Rattle.hazards.proofs.Bytes.{write_step, write_none, writes_whole, writes_cut}
 use Rattle.hazards.proofs.fields.put_word.Statement.{statement}
@@ -39,7 +39,7 @@ loop-holds c =
     let a = c.before.before.before.before.args in (
       omega arith,
       refl,
-      leb-true (a.at + a.width) (length a.bytes.now) (sym c.before.Lies-whole.ensures ∙ not_false _ c.if1.false),
+      leb-true (a.at + a.width) (length a.bytes.now) (sym c.before.Lies-whole.ensures ∙ not-false _ c.if1.false),
       rw (sub-zero, add-zero),
     )
 
@@ -76,7 +76,7 @@ returns-2 c =
     let l = c.before in
     let w = l.before.before in
     let a = w.before.before.before.args in
-    let whole = sym w.Lies-whole.ensures ∙ not_false _ l.before.if1.false in
+    let whole = sym w.Lies-whole.ensures ∙ not-false _ l.before.if1.false in
     sym (write_none a.width l.loop.written l.loop.bytes a.at l.loop.rest (omega arith) (omega arith)) ∙ l.loop.invariant.3
     ∙ sym (writes_whole a.width a.bytes.now a.at a.word whole)
 

@@ -6,7 +6,7 @@ use native.Mathlib.Nat.{sub-zero, sub_self, add-zero, one-le-pow}
 use lib.Dec.{lit<}
 use lib.ListN.{length, take, drop}
 use borrow.Author.Rules.{rules}
-use borrow.Author.Tests.{not-true, not_false, leb-true}
+use borrow.Author.Tests.{not-true, not-false, leb-true}
 use Rattle.hazards.specs.Fields.{little_endian}
 use Rattle.hazards.proofs.Bytes.{read_none, read_step, grow, under, reads_whole, reads_cut}
 use Rattle.hazards.proofs.fields.word_at.Statement.{statement}
@@ -36,7 +36,7 @@ loop-holds c =
       omega arith,
       sym (read_none a.width (drop (a.at + a.width) a.bytes.now)),
       rw sub_self (lit< tt),
-      leb-true (a.at + a.width) (length a.bytes.now) (sym c.before.Lies-whole.ensures ∙ not_false _ c.if1.false),
+      leb-true (a.at + a.width) (length a.bytes.now) (sym c.before.Lies-whole.ensures ∙ not-false _ c.if1.false),
     )
 
 sub-left : tie.Need-overflow-sub-left invariant-loop decreases-loop
@@ -82,7 +82,7 @@ returns-2 c =
     let w = l.before.before in
     let a = w.before.before.args in
     let none : l.loop.left ≡ 0 = omega arith in
-    let whole = sym w.Lies-whole.ensures ∙ not_false _ l.before.if1.false in (
+    let whole = sym w.Lies-whole.ensures ∙ not-false _ l.before.if1.false in (
       (rw (none, sub-zero, add-zero) at l.loop.invariant.1) ∙ sym (reads_whole a.width a.bytes.now a.at whole),
       rw (none, sub-zero) at l.loop.invariant.2,
     )

@@ -2,7 +2,7 @@
 use mathlib.Core.Path.{sym, ◌∙◌}
 use native.Mathlib.Omega.{arith}
 use borrow.Author.Rules.{rules}
-use borrow.Author.Tests.{not-true, not_false}
+use borrow.Author.Tests.{not-true, not-false}
 use denote.Floats.{passes}
 use Rattle.hazards.specs.RateForWait.Answers.{outside}
 use Rattle.hazards.proofs.RateForWait.{past_answers, exact_answers}
@@ -21,7 +21,7 @@ returns c =
     rw c.without-rate.ensures (outside (sym b.before.within-limits.ensures ∙ not-true _ b.if1.true))
 
 first-pattern-requires : tie.Need-first-pattern-requires
-first-pattern-requires c κs = sym c.before.within-limits.ensures ∙ not_false _ c.if1.false
+first-pattern-requires c κs = sym c.before.within-limits.ensures ∙ not-false _ c.if1.false
 
 without-rate-requires-2 : tie.Need-without-rate-requires-2
 without-rate-requires-2 c κs = search rules
@@ -29,7 +29,7 @@ without-rate-requires-2 c κs = search rules
 returns-2 : tie.Need-returns-2
 returns-2 c =
     let f = c.before.before in
-    let l = sym f.before.before.within-limits.ensures ∙ not_false _ f.before.if1.false in
+    let l = sym f.before.before.within-limits.ensures ∙ not-false _ f.before.if1.false in
     let a = f.before.before.before.args in
     rw c.without-rate2.ensures (past_answers a.threshold a.wait l f.first-pattern.ensures c.before.if2.true)
 
@@ -39,7 +39,7 @@ exact-rate-requires c κs = c.before.first-pattern.ensures.ends
 returns-3 : tie.Need-returns-3
 returns-3 c =
     let f = c.before.before in
-    let l = sym f.before.before.within-limits.ensures ∙ not_false _ f.before.if1.false in
+    let l = sym f.before.before.within-limits.ensures ∙ not-false _ f.before.if1.false in
     let s = f.before.before.before in
     let m = f.first-pattern.ensures in
     rw c.exact-rate.ensures

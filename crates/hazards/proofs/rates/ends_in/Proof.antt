@@ -1,6 +1,6 @@
 -- `rates::ends_in` meets its contract: a wait that is finite, and one that is not.
 use borrow.Author.Rules.{rules}
-use borrow.Author.Tests.{not-true, not_false}
+use borrow.Author.Tests.{not-true, not-false}
 use mathlib.Core.Path.{sym, ◌∙◌}
 use Rattle.hazards.specs.Rates.{ends_in}
 use Rattle.hazards.proofs.rates.ends_in.Statement.{statement}

@@ -5,7 +5,7 @@ use Prim.Native.Nat.{◌+◌, ◌-◌}
 use native.Mathlib.Nat.{zero-add}
 use native.Mathlib.Omega.{arith}
 use borrow.Author.Rules.{rules}
-use borrow.Author.Tests.{not-true, not_false}
+use borrow.Author.Tests.{not-true, not-false}
 use Rattle.hazards.specs.Rates.{intervals_from, pieces_by, pair_at, used_pairs, first_after}
 use Rattle.hazards.proofs.Pieces.{used_start, pieces_next, pieces_end}
 use Rattle.hazards.proofs.Turns.{after_here, after_past, after_none}
@@ -55,7 +55,7 @@ loop-again c =
     let a = l.before.before.args in
     let p = intervals_from a.ends.now a.rates.now a.count in
     let next = pieces_next (pair_at p) l.before.at-most-eight.result l.loop.i (omega arith) in
-    omega (arith, l.loop.invariant, after_past a.t next (not_false _ c.if1.false))
+    omega (arith, l.loop.invariant, after_past a.t next (not-false _ c.if1.false))
 
 returns-2 : tie.Need-returns-2 invariant-loop decreases-loop
 returns-2 c =
