@@ -11,7 +11,7 @@ use Rattle.hazards.specs.Lists.{all}
 use Rattle.hazards.specs.Rates.{Piece, used_pairs, uses_pairs, wait_of_rate, invert_cumulative_hazard}
 use Rattle.hazards.specs.Checks.{range_fault, pairs_from, zero_pair, ascending, unused_fault, pairs_fault, intervals_fault}
 use Rattle.hazards.specs.declared.rates.HazardRate.{HazardRate}
-use Rattle.hazards.specs.declared.rates.HazardRate.TheVariants.{Zero, Constant, Gompertz, Piecewise, Weibull, Doubling}
+use Rattle.hazards.specs.declared.rates.HazardRate.TheVariants.{Zero, Constant, Gompertz, Piecewise, Weibull}
 use Rattle.hazards.specs.declared.rates.Intervals.{Intervals}
 
 -- what is at most something is a number
@@ -62,7 +62,6 @@ single_range (Constant rate) p q e = refl
 single_range (Gompertz eta) p q e = refl
 single_range (Piecewise trailing) p q e = absurd (true≢false e)
 single_range (Weibull scale) p q e = refl
-single_range (Doubling first) p q e = absurd (true≢false e)
 
 pub single_intervals : (h : HazardRate) (p : Intervals) → uses_pairs h ≡ false → unused_fault p ≡ intervals_fault h p
 unfolding uses_pairs intervals_fault
@@ -71,7 +70,6 @@ single_intervals (Constant rate) p e = refl
 single_intervals (Gompertz eta) p e = refl
 single_intervals (Piecewise trailing) p e = absurd (true≢false e)
 single_intervals (Weibull scale) p e = refl
-single_intervals (Doubling first) p e = absurd (true≢false e)
 
 pub single_wait : (h : HazardRate) (p q : Intervals) (start w : Float) → uses_pairs h ≡ false
     → invert_cumulative_hazard h q start w ≡ invert_cumulative_hazard h p start w
@@ -81,4 +79,3 @@ single_wait (Constant rate) p q start w e = refl
 single_wait (Gompertz eta) p q start w e = refl
 single_wait (Piecewise trailing) p q start w e = absurd (true≢false e)
 single_wait (Weibull scale) p q start w e = refl
-single_wait (Doubling first) p q start w e = absurd (true≢false e)

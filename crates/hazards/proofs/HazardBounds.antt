@@ -5,24 +5,22 @@ use mathlib.Core.Bool.{false, not}
 use mathlib.Core.List.{List}
 use Prim.Native.Nat.{ℕ, ◌*◌, ◌^◌}
 use lib.IntN.{ℤ}
-use lib.Dec.{T, lit≤, lit<}
+use lib.Dec.{T, lit≤}
 use lib.Ieee.{Float, binary64, add, sub, mul, div, lt, le}
-use Rattle.hazards.specs.Floats.{z, two, not_below_zero, between_limits, in_range}
+use Rattle.hazards.specs.Floats.{z, two, not_below_zero, in_range}
 use Rattle.hazards.specs.Rates.{Piece, piecewise_hazard, weibull_hazard, hazard_of_rate, hazard_at, piecewise_cumulative, weibull_cumulative}
-use Rattle.hazards.specs.Rates.{cumulative_of_rate, cumulative_hazard, own_rate, doubling_time, doubling_hazard, doubling_cumulative}
-use Rattle.hazards.specs.Steps.{last_rate}
+use Rattle.hazards.specs.Rates.{cumulative_of_rate, cumulative_hazard, own_rate}
 use Rattle.hazards.specs.declared.rates.HazardRate.{HazardRate}
-use Rattle.hazards.specs.declared.rates.HazardRate.TheVariants.{Zero, Constant, Gompertz, Piecewise, Weibull, Doubling}
+use Rattle.hazards.specs.declared.rates.HazardRate.TheVariants.{Zero, Constant, Gompertz, Piecewise, Weibull}
 use Rattle.hazards.specs.declared.rates.Intervals.{Intervals}
 use Rattle.hazards.proofs.Bounds.{Upto, largest}
 use Rattle.hazards.proofs.Signs.{Signed}
 use Rattle.hazards.proofs.Upto.{for_fin, wider, zero_upto, either_upto}
-use Rattle.hazards.proofs.UptoOrder.{not-le, upto_le, zero-le-upto}
+use Rattle.hazards.proofs.UptoOrder.{lt-le, not-le, upto_le, zero-le-upto}
 use Rattle.hazards.proofs.UptoOperations.{add-upto, mul-upto, sub-upto, div-upto}
 use Rattle.hazards.proofs.UptoClamped.{clamped_difference_upto}
 use Rattle.hazards.proofs.Limits.{rate_upto, positive_rate_upto, time_stays, two_upto, slope_lands, Room, times}
-use Rattle.hazards.proofs.SoundPairs.{sound, Following, none, next, own_rate_sound, pairs_sound, steps_following, SoundScale, scale_sound}
-use Rattle.hazards.proofs.StepLaws.{is_true, step_rate_upto}
+use Rattle.hazards.proofs.SoundPairs.{sound, Following, none, next, own_rate_sound, pairs_sound, SoundScale, scale_sound}
 
 upto_signed : {b : ℕ} {x : Float} → Upto b x → Signed false x
 upto_signed u = for_fin (Signed false) (λ (m : ℕ) (e : ℤ). refl) u
@@ -37,23 +35,12 @@ scales_upto {a} room u s = div-upto (2 ^ 40) (a * 2 ^ 40) u s.bounded s.counts s
 
 -- ---- the hazard
 
-piecewise_hazard_upto : {before : Float} {ps : List Piece} (trailing t : Float) → Upto (2 ^ 48) (not_below_zero trailing) → Following before ps
+piecewise_hazard_upto : {before : Float} {ps : List Piece} (trailing t : Float) → T (in_range trailing) → Following before ps
     → Upto (2 ^ 48) (piecewise_hazard ps trailing t)
 unfolding piecewise_hazard
-piecewise_hazard_upto trailing t i none = i
+piecewise_hazard_upto trailing t i none = rate_within trailing i
 piecewise_hazard_upto trailing t i (next {p} l m r f) =
     either_upto (lt t p.end) (λ y. r) (λ n. piecewise_hazard_upto trailing t i f)
-
--- the last step's rate, which is the trailing one
-last_upto : (first : Float) → T (in_range first) → Upto (2 ^ 48) (not_below_zero (last_rate first))
-last_upto first i = step_rate_upto first 2047 i (lit< tt)
-
-doubling_hazard_upto : (first d t : Float) → T (in_range first) → Upto (2 ^ 48) (doubling_hazard first d t)
-unfolding doubling_hazard
-doubling_hazard_upto first d t i =
-    either_upto (between_limits d)
-    (λ y. piecewise_hazard_upto (last_rate first) t (last_upto first i) (steps_following first d i (is_true (between_limits d) y)))
-    (λ n. zero_upto (2 ^ 48))
 
 module _ {a c : ℕ} (room : Room a c) where
   weibull_hazard_upto : (scale t : Float) → (T (not (le scale z)) → SoundScale scale) → Upto a t
@@ -75,9 +62,8 @@ module _ {a c : ℕ} (room : Room a c) where
       wider (2 ^ 81 * a) room.rates
       (either_upto (le eta z) (λ y. zero_upto (2 ^ 48)) (λ n. wider (2 ^ 48) (lit≤ tt) (positive_rate_upto eta n i)))
   hazard_of_rate_upto (Piecewise trailing) p t s i u =
-      wider (2 ^ 81 * a) room.rates (piecewise_hazard_upto trailing t (rate_within trailing i) (pairs_sound trailing p s))
+      wider (2 ^ 81 * a) room.rates (piecewise_hazard_upto trailing t i (pairs_sound trailing p s))
   hazard_of_rate_upto (Weibull scale) p t s i u = weibull_hazard_upto scale (not_below_zero t) (scale_sound scale p s) u
-  hazard_of_rate_upto (Doubling first) p t s i u = wider (2 ^ 81 * a) room.rates (doubling_hazard_upto first (doubling_time p) t i)
 
   pub hazard_upto : (h : HazardRate) (p : Intervals) (t : Float) → T (sound h p) → Upto a (not_below_zero t)
       → Upto (2 ^ 81 * a) (hazard_at h p t)
@@ -93,27 +79,18 @@ module _ {a c : ℕ} (room : Room a c) where
   piece_upto u v w o i =
       add-upto c u (mul-upto (2 ^ 48 * a) i (sub-upto a w v o room.ages) room.products) room.pieces
 
-  module _ (trailing t : Float) (i : Upto (2 ^ 48) (not_below_zero trailing)) (w : Upto a t) where
+  module _ (trailing t : Float) (i : T (in_range trailing)) (w : Upto a t) where
     piecewise_cumulative_upto : {ps : List Piece} (cum cur : Float) → Following cur ps → Upto c cum → Upto a cur → T (le cur t)
         → Upto c (piecewise_cumulative ps trailing t cum cur)
     unfolding piecewise_cumulative
-    piecewise_cumulative_upto cum cur none u v o = piece_upto u v w o i
+    piecewise_cumulative_upto cum cur none u v o = piece_upto u v w o (rate_within trailing i)
     piecewise_cumulative_upto cum cur (next {p} l m r f) u v o =
         either_upto (le t p.end) (λ y. piece_upto u v w o r)
         (λ n.
         let before = not-le w m n in
         let e = upto_le p.end (upto_signed m) before w in
         piecewise_cumulative_upto (add binary64 cum (mul binary64 (not_below_zero p.rate) (sub binary64 p.end cur))) p.end f
-        (piece_upto u v e l r) e before)
-
-  doubling_cumulative_upto : (first d t : Float) → T (in_range first) → Upto a t → Upto c (doubling_cumulative first d t)
-  unfolding doubling_cumulative
-  doubling_cumulative_upto first d t i u =
-      either_upto (between_limits d)
-      (λ y.
-      piecewise_cumulative_upto (last_rate first) t (last_upto first i) u z z
-      (steps_following first d i (is_true (between_limits d) y)) (zero_upto c) (zero_upto a) (zero-le-upto u))
-      (λ n. zero_upto c)
+        (piece_upto u v e (lt-le cur p.end l) r) e before)
 
   -- a rate times a time
   product_upto : {rate t : Float} → Upto (2 ^ 48) rate → Upto a t → Upto c (mul binary64 rate t)
@@ -135,9 +112,8 @@ module _ {a c : ℕ} (room : Room a c) where
   cumulative_of_rate_upto (Gompertz eta) p t s i u =
       either_upto (le eta z) (λ y. zero_upto c) (λ n. product_upto (wider (2 ^ 48) (lit≤ tt) (positive_rate_upto eta n i)) u)
   cumulative_of_rate_upto (Piecewise trailing) p t s i u =
-      piecewise_cumulative_upto trailing t (rate_within trailing i) u z z (pairs_sound trailing p s) (zero_upto c) (zero_upto a) (zero-le-upto u)
+      piecewise_cumulative_upto trailing t i u z z (pairs_sound trailing p s) (zero_upto c) (zero_upto a) (zero-le-upto u)
   cumulative_of_rate_upto (Weibull scale) p t s i u = weibull_cumulative_upto scale t (scale_sound scale p s) u
-  cumulative_of_rate_upto (Doubling first) p t s i u = doubling_cumulative_upto first (doubling_time p) t i u
 
   -- a bounds a t above 0
   pub cumulative_upto : (h : HazardRate) (p : Intervals) (t : Float) → T (sound h p) → (T (not (le t z)) → Upto a t)

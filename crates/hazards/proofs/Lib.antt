@@ -12,10 +12,8 @@ pub mod CheckLaws
 pub mod ConstantWaits
 pub mod DrawLaws
 pub mod EvaluationLaws
-pub mod EveryEntry
 pub mod Exact
 pub mod FiniteOrder
-pub mod FirstPieces
 pub mod FloatRoots
 pub mod HazardBounds
 pub mod JoinedFaults
@@ -41,8 +39,6 @@ pub mod Signed
 pub mod SignedOperations
 pub mod Signs
 pub mod SoundPairs
-pub mod StepLaws
-pub mod TableRule
 pub mod Turns
 pub mod Upto
 pub mod UptoClamped

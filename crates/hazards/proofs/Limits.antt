@@ -78,19 +78,6 @@ pub nothing_lands : T (lands (0 * 2 ^ 43) 0)
 unfolding lands round
 nothing_lands = tt
 
--- D / 256, a whole number of steps of that width, and a starting rate times its factor
-pub width_lands : T (lands (2 ^ 32) (2 ^ 32))
-unfolding lands round
-width_lands = tt
-
-pub end_lands : T (lands (2048 * 2 ^ 32) (2 ^ 43))
-unfolding lands round
-end_lands = tt
-
-pub step_rate_lands : T (lands (2 ^ 40 * 2 ^ 8) (2 ^ 48))
-unfolding lands round
-step_rate_lands = tt
-
 -- 2 / scale
 pub slope_lands : T (lands (2 * 2 ^ 40) (2 ^ 41))
 unfolding lands round

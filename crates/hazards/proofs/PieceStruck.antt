@@ -9,13 +9,12 @@ use borrow.Author.Tests.{ltb-true, ltb-false}
 use lib.Dec.{ltb}
 use lib.ListN.{length, drop, length-drop}
 use lib.Ieee.{Float, binary64, add, sub, mul, div, lt, le}
-use Rattle.hazards.specs.Floats.{z, not_below_zero, between_limits, is_finite_wait}
+use Rattle.hazards.specs.Floats.{z, not_below_zero, is_finite_wait}
 use Rattle.hazards.specs.Rates.{Piece, first_after, used_pairs, uses_pairs, ends_in, wait_through, wait_from, constant_wait, weibull_wait}
-use Rattle.hazards.specs.Rates.{piecewise_wait, doubling_time, doubling_steps, doubling_wait, wait_of_rate, invert_cumulative_hazard}
-use Rattle.hazards.specs.Steps.{last_rate}
-use Rattle.hazards.specs.PieceUsed.{pieces_of, trailing_of, rate_of, end_of, capacity_from, left_at, holds_at, EndsIn, PieceUsed, OnePiece, NoPiece, PieceZero}
+use Rattle.hazards.specs.Rates.{wait_of_rate, invert_cumulative_hazard}
+use Rattle.hazards.specs.PieceUsed.{rate_of, end_of, capacity_from, left_at, holds_at, EndsIn, PieceUsed, OnePiece, NoPiece, PieceZero}
 use Rattle.hazards.specs.declared.rates.HazardRate.{HazardRate}
-use Rattle.hazards.specs.declared.rates.HazardRate.TheVariants.{Zero, Constant, Gompertz, Piecewise, Weibull, Doubling}
+use Rattle.hazards.specs.declared.rates.HazardRate.TheVariants.{Zero, Constant, Gompertz, Piecewise, Weibull}
 use Rattle.hazards.specs.declared.rates.Intervals.{Intervals}
 use Rattle.hazards.specs.declared.rates.Wait.{Wait}
 use Rattle.hazards.specs.declared.rates.Wait.TheVariants.{After, Never}
@@ -186,30 +185,13 @@ module _ (ps : List Piece) (trailing start w : Float) {wait : Float} {piece : �
         waits = rw (← rate) r.waits;
       }
 
--- any curve in pieces
-curve_used : (ps : List Piece) (trailing start w : Float) {wait : Float} {piece : ℕ} → piecewise_wait ps trailing start w ≡ After wait piece
-    → is_finite_wait wait ≡ true → EndsIn ps trailing start w wait piece
-curve_used ps trailing start w e finite =
-    ends-in ps trailing start w (ends_from trailing start finite (first_after start ps) (drop (first_after start ps) ps) start w e)
-
-doubling_used : (first d start w : Float) {wait : Float} {piece : ℕ} → doubling_wait first d start w ≡ After wait piece
-    → is_finite_wait wait ≡ true → EndsIn (doubling_steps first d) (last_rate first) start w wait piece
-unfolding doubling_wait
-doubling_used first d start w e finite =
-    by_test (between_limits d)
-    (λ (l : between_limits d ≡ true). curve_used (doubling_steps first d) (last_rate first) start w (rw l at e) finite)
-    (λ (l : between_limits d ≡ false). absurd (true≢false (sym (ap is_after (rw l at e)))))
-
 pub piece_used : PieceUsed
-unfolding invert_cumulative_hazard wait_of_rate uses_pairs pieces_of trailing_of
-piece_used Zero p start w wait piece u e above finite = absurd (true≢false (sym u))
-piece_used (Constant rate) p start w wait piece u e above finite = absurd (true≢false (sym u))
-piece_used (Gompertz eta) p start w wait piece u e above finite = absurd (true≢false (sym u))
-piece_used (Piecewise trailing) p start w wait piece u e above finite =
-    curve_used (used_pairs p) trailing (not_below_zero start) w (rw above at e) finite
-piece_used (Weibull scale) p start w wait piece u e above finite = absurd (true≢false (sym u))
-piece_used (Doubling first) p start w wait piece u e above finite =
-    doubling_used first (doubling_time p) (not_below_zero start) w (rw above at e) finite
+unfolding invert_cumulative_hazard wait_of_rate
+piece_used trailing p start w wait piece e above finite =
+    let from = not_below_zero start in
+    let ps = used_pairs p in
+    ends-in ps trailing from w
+    (ends_from trailing from finite (first_after from ps) (drop (first_after from ps) ps) from w (rw above at e))
 
 -- ---- one piece alone: a pair that holds what is left is passed by no later piece
 
@@ -252,7 +234,6 @@ rate_zeroed (Constant rate) p start w u = constant_zeroed (not_below_zero rate) 
 rate_zeroed (Gompertz eta) p start w u = constant_zeroed eta w
 rate_zeroed (Piecewise trailing) p start w u = absurd (true≢false u)
 rate_zeroed (Weibull scale) p start w u = weibull_zeroed scale start w
-rate_zeroed (Doubling first) p start w u = absurd (true≢false u)
 
 -- a wait's piece is 0 unless the wait is finite
 abbrev FiniteOnly : Wait → Type 0
@@ -276,14 +257,6 @@ piecewise_finite i (p ∷ ps) trailing start cur w =
     either_finite (lt z rate && le w capacity) (wait_through i start cur rate w) _ (through_finite i start cur rate w)
     (piecewise_finite (suc i) ps trailing start p.end (sub binary64 w capacity))
 
-doubling_finite : (first d start w : Float) → FiniteOnly (doubling_wait first d start w)
-unfolding doubling_wait
-doubling_finite first d start w =
-    let ps = doubling_steps first d in
-    let i = first_after start ps in
-    either_finite (between_limits d) (piecewise_wait ps (last_rate first) start w) Never
-    (piecewise_finite i (drop i ps) (last_rate first) start start w) (λ n. refl)
-
 rate_finite : (h : HazardRate) (p : Intervals) (start w : Float) → FiniteOnly (wait_of_rate h p start w)
 unfolding wait_of_rate
 rate_finite Zero p start w n = refl
@@ -293,7 +266,6 @@ rate_finite (Piecewise trailing) p start w n =
     let i = first_after start (used_pairs p) in
     piecewise_finite i (drop i (used_pairs p)) trailing start start w n
 rate_finite (Weibull scale) p start w n = weibull_zeroed scale start w
-rate_finite (Doubling first) p start w n = doubling_finite first (doubling_time p) start w n
 
 pub piece_zero : PieceZero
 unfolding invert_cumulative_hazard

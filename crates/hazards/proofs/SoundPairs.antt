@@ -1,27 +1,24 @@
--- Sound hazards, which refusals 5 and 6 let through. Their pieces: each end at least the one before it, ends to 2^43 and rates to 2^48, the
--- used pairs of kind 3 and the steps of kind 5 alike. A scale above 0: from 2^-40 to 2^40.
-use mathlib.Core.Path.{◌≡◌}
+-- Sound hazards, which refusals 5 and 6 let through. Their used pairs: each end above the one before it, ends to 2^43 and rates to 2^48,
+-- though document 01's end at 2^40 (document 02, change 9, asks for the room). A scale above 0: from 2^-40 to 2^40.
 use mathlib.Core.Bool.{Bool, true, false, not, cond, ◌&&◌, ◌||◌}
 use mathlib.Core.List.{List, [], ◌∷◌}
-use Prim.Native.Nat.{ℕ, zero, suc, ◌+◌, ◌*◌, ◌^◌, ◌≤◌, ◌<◌}
+use Prim.Native.Nat.{ℕ, suc, ◌+◌, ◌*◌, ◌^◌, ◌≤◌, ◌<◌}
 use native.Mathlib.Omega.{arith}
 use lib.Dec.{T, ltb, lit≤}
 use lib.ListN.{drop}
 use lib.Ieee.{Float, lt, le}
 use lib.Ieee.Fits.{and_l, and_r}
 use lib.Ieee.Positive.{num, den, den_pos}
-use Rattle.hazards.specs.Floats.{z, limit, inverse_limit, not_below_zero, between_limits, in_range}
+use Rattle.hazards.specs.Floats.{z, limit, inverse_limit, not_below_zero, in_range}
 use Rattle.hazards.specs.Lists.{all}
-use Rattle.hazards.specs.Rates.{Piece, pieces_by, first_after, used_pairs, own_rate, step_at, doubling_steps}
-use Rattle.hazards.specs.Steps.{steps, step_end}
+use Rattle.hazards.specs.Rates.{Piece, first_after, used_pairs, own_rate}
 use Rattle.hazards.specs.Checks.{range_fault, pairs_from, zero_pair, ascending, intervals_fault}
 use Rattle.hazards.specs.declared.rates.HazardRate.{HazardRate}
-use Rattle.hazards.specs.declared.rates.HazardRate.TheVariants.{Zero, Constant, Gompertz, Piecewise, Weibull, Doubling}
+use Rattle.hazards.specs.declared.rates.HazardRate.TheVariants.{Zero, Constant, Gompertz, Piecewise, Weibull}
 use Rattle.hazards.specs.declared.rates.Intervals.{Intervals}
 use Rattle.hazards.proofs.Bounds.{Upto}
 use Rattle.hazards.proofs.Upto.{wider, zero_upto}
-use Rattle.hazards.proofs.StepLaws.{end_upto, ends-le, step_rate_upto}
-use Rattle.hazards.proofs.UptoOrder.{le→cross, lt-le, not-le, not-le-lt, not-lt, above_upto, zero-le-upto}
+use Rattle.hazards.proofs.UptoOrder.{le→cross, not-le-lt, not-lt, above_upto}
 use Rattle.hazards.proofs.Limits.{limit_upto, inverse_limit_upto, rate_upto, positive_rate_upto}
 
 -- a hazard that 5 and 6 let through
@@ -48,7 +45,7 @@ not_other true b n t = n
 pub data Following : Float → List Piece → Type 0 where
   none : {before : Float} → Following before []
   next : {before : Float} {p : Piece} {ps : List Piece}
-      → T (le before p.end) → Upto (2 ^ 43) p.end → Upto (2 ^ 48) (not_below_zero p.rate) → Following p.end ps
+      → T (lt before p.end) → Upto (2 ^ 43) p.end → Upto (2 ^ 48) (not_below_zero p.rate) → Following p.end ps
       → Following before (p ∷ ps)
 
 pub following : {a : ℕ} (before : Float) (ps : List Piece) → Upto a before → T (all (λ q. in_range q.rate) ps) → T (ascending before ps)
@@ -63,7 +60,7 @@ following before (p ∷ ps) u r e =
     let l = all (λ q. in_range q.rate) ps in
     let f = and_r x (y && w) e in
     let end = above_upto p.end u (and_l x (y && w) e) (and_l y w f) limit_upto in
-    next (lt-le before p.end (and_l x (y && w) e)) (wider (2 ^ 43) (lit≤ tt) end) (wider (2 ^ 48) (lit≤ tt) (rate_upto p.rate (and_l k l r)))
+    next (and_l x (y && w) e) (wider (2 ^ 43) (lit≤ tt) end) (wider (2 ^ 48) (lit≤ tt) (rate_upto p.rate (and_l k l r)))
     (following p.end ps end (and_r k l r) (and_r y w f))
 
 in-range : (h : HazardRate) (p : Intervals) → T (not (range_fault h p)) → T (in_range (own_rate h))
@@ -75,7 +72,6 @@ in-range (Piecewise trailing) p t =
     let rates = all (λ q. in_range q.rate) (used_pairs p) in
     and_l (in_range trailing) rates (not_not (in_range trailing && rates) t)
 in-range (Weibull scale) p t = first_fails (in_range scale) (lt z scale && lt scale inverse_limit) t
-in-range (Doubling first) p t = not_not (in_range first) t
 
 pub own_rate_sound : (h : HazardRate) (p : Intervals) → T (sound h p) → T (in_range (own_rate h))
 unfolding sound
@@ -92,20 +88,6 @@ pairs_sound trailing p s =
     following z (used_pairs p) (zero_upto 0)
     (and_r (in_range trailing) rates (not_not (in_range trailing && rates) (and_l (not range) (not intervals) s)))
     (and_r zeros ends (neither (ltb 8 p.count) (zeros && ends) (and_r (not range) (not intervals) s)))
-
--- the steps of a rate that doubles, from the first of n on that i counts
-steps_from : (first d before : Float) (i n : ℕ) → T (in_range first) → between_limits d ≡ true → i + n ≤ steps
-    → T (le before (step_end d i)) → Following before (pieces_by (step_at first d) i n)
-unfolding pieces_by
-steps_from first d before i zero r h l o = none
-steps_from first d before i (suc n) r h l o =
-    next o (end_upto d h i (omega arith)) (step_rate_upto first i r (omega arith))
-    (steps_from first d (step_end d i) (suc i) n r h (omega arith) (ends-le d h i (suc i) (omega arith)))
-
-pub steps_following : (first d : Float) → T (in_range first) → between_limits d ≡ true → Following z (doubling_steps first d)
-unfolding doubling_steps
-steps_following first d r h =
-    steps_from first d z 0 steps r h (omega arith) (zero-le-upto (end_upto d h 0 (omega arith)))
 
 -- a scale above 0 that 5 lets through: at most 2^40, and at least 2^-40
 pub record SoundScale (scale : Float) : Type 0 where
@@ -130,7 +112,7 @@ pub after_following : {b : ℕ} {before t : Float} {ps : List Piece} → Upto b 
 unfolding first_after
 after_following v none = none
 after_following {before} {t} v (next {p} {ps} l m r f) =
-    go (le p.end t) (λ n. next (not-le m v n) m r f) (after_following v f)
+    go (le p.end t) (λ n. next (not-le-lt v m n) m r f) (after_following v f)
   where
     go : (b : Bool) → (T (not b) → Following t (p ∷ ps)) → Following t (drop (first_after t ps) ps)
         → Following t (drop (cond b (suc (first_after t ps)) 0) (p ∷ ps))

@@ -16,7 +16,7 @@ use Rattle.hazards.proofs.UptoOrder.{or_l, upto_le}
 use Rattle.hazards.proofs.UptoOperations.{round_signed, rounded_difference, sub_is, less_upto}
 
 -- ---- x.max(0.0)
-pub negative_clamped : (b : ℕ) (x : Float) → Signed true x → Upto b (not_below_zero x)
+negative_clamped : (b : ℕ) (x : Float) → Signed true x → Upto b (not_below_zero x)
 unfolding not_below_zero
 negative_clamped b nan s = absurd s
 negative_clamped b (inf true) s = unfold lt in zero_upto b

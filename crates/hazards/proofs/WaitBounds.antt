@@ -7,30 +7,28 @@ use Prim.Native.Nat.{ℕ, suc, ◌*◌, ◌^◌}
 use native.Mathlib.Nat.{le_trans, le_of_eq, mul-one}
 use lib.IntN.{ℤ}
 use lib.ListN.{drop}
-use lib.Dec.{T, le→leb, nltb→le, lit≤, lit<}
+use lib.Dec.{T, le→leb, nltb→le}
 use lib.Ieee.{Float, nan, inf, fin, binary64, up, down, add, sub, mul, div, lt, le, fits}
 use lib.Ieee.Fits.{and_l, cond-fits, sub-fits, div-fits}
-use Rattle.hazards.specs.Floats.{z, not_below_zero, between_limits, in_range}
+use Rattle.hazards.specs.Floats.{z, not_below_zero, in_range}
 use Rattle.hazards.specs.Rates.{Piece, used_pairs, first_after, ends_in, wait_through, wait_from, constant_wait, wait_of_rate}
 use Rattle.hazards.specs.Rates.{invert_cumulative_hazard}
-use Rattle.hazards.specs.Rates.{weibull_wait, own_rate, doubling_time, doubling_steps, doubling_wait, piecewise_wait}
-use Rattle.hazards.specs.Steps.{last_rate}
+use Rattle.hazards.specs.Rates.{weibull_wait, own_rate}
 use Rattle.hazards.specs.declared.rates.HazardRate.{HazardRate}
-use Rattle.hazards.specs.declared.rates.HazardRate.TheVariants.{Zero, Constant, Gompertz, Piecewise, Weibull, Doubling}
+use Rattle.hazards.specs.declared.rates.HazardRate.TheVariants.{Zero, Constant, Gompertz, Piecewise, Weibull}
 use Rattle.hazards.specs.declared.rates.Intervals.{Intervals}
 use Rattle.hazards.specs.declared.rates.Wait.{Wait}
 use Rattle.hazards.specs.declared.rates.Wait.TheVariants.{After, Never}
 use Rattle.hazards.proofs.Bounds.{Upto}
 use Rattle.hazards.proofs.Signs.{Signed, NotBelow, Held}
 use Rattle.hazards.proofs.Cases.{by_test}
-use Rattle.hazards.proofs.Upto.{for_fin, wider, zero_upto, lands}
-use Rattle.hazards.proofs.UptoOrder.{not-le, not-le-lt, nothing-le, le-refl-upto, le-trans-upto}
+use Rattle.hazards.proofs.Upto.{for_fin, zero_upto, lands}
+use Rattle.hazards.proofs.UptoOrder.{lt-le, not-le, not-le-lt, nothing-le, le-refl-upto, le-trans-upto}
 use Rattle.hazards.proofs.UptoOperations.{mul-upto, sub-upto}
 use Rattle.hazards.proofs.Exact.{sum-at-least}
 use Rattle.hazards.proofs.SignedOperations.{div-signed, add-signed, sub-signed}
 use Rattle.hazards.proofs.Limits.{rate_upto, positive_rate_upto, span_lands, capacity_lands, nothing_lands}
-use Rattle.hazards.proofs.SoundPairs.{sound, Following, none, next, own_rate_sound, pairs_sound, steps_following, after_following}
-use Rattle.hazards.proofs.StepLaws.{is_true, step_rate_upto}
+use Rattle.hazards.proofs.SoundPairs.{sound, Following, none, next, own_rate_sound, pairs_sound, after_following}
 
 -- ---- held: nothing is asked of the hazard
 either_held : (b : Bool) (x y : Wait) → Held x → Held y → Held (cond b x y)
@@ -66,14 +64,6 @@ unfolding weibull_wait
 weibull_held scale start w =
     either_held (le scale z) Never _ tt (clamped_held (sub binary64 _ start) (sub-fits binary64 _ start))
 
-doubling_held : (first d start w : Float) → Held (doubling_wait first d start w)
-unfolding doubling_wait
-doubling_held first d start w =
-    let ps = doubling_steps first d in
-    let i = first_after start ps in
-    either_held (between_limits d) (piecewise_wait ps (last_rate first) start w) Never
-    (piecewise_held i (drop i ps) (last_rate first) start start w) tt
-
 wait_of_rate_held : (h : HazardRate) (p : Intervals) (start w : Float) → Held (wait_of_rate h p start w)
 unfolding wait_of_rate
 wait_of_rate_held Zero p start w = tt
@@ -83,7 +73,6 @@ wait_of_rate_held (Piecewise trailing) p start w =
     let i = first_after start (used_pairs p) in
     piecewise_held i (drop i (used_pairs p)) trailing start start w
 wait_of_rate_held (Weibull scale) p start w = weibull_held scale start w
-wait_of_rate_held (Doubling first) p start w = doubling_held first (doubling_time p) start w
 
 pub invert_held : (h : HazardRate) (p : Intervals) (start w : Float) → Held (invert_cumulative_hazard h p start w)
 unfolding invert_cumulative_hazard
@@ -126,24 +115,25 @@ module _ (b : ℕ) (stays : T (lands b b)) {a : ℕ} (start : Float) (sf : T (fi
       go true f n = not-le v c n
       go false f n = nothing-le (nothing (f tt)) v
 
-  module _ (trailing : Float) (within : Upto (2 ^ 48) (not_below_zero trailing)) where
+  module _ (trailing : Float) (within : T (in_range trailing)) where
     piecewise_not_below : (i : ℕ) {k : ℕ} {ps : List Piece} (cur w : Float) → Following cur ps → Upto b w → Upto k cur → T (le start cur)
         → NotBelow (wait_from i ps trailing start cur w)
     unfolding wait_from
     piecewise_not_below i cur w none v c o =
         let rate = not_below_zero trailing in
+        let u = rate_upto trailing within in
         either_not_below (le rate z) Never _ (λ t. tt)
-        (λ n. through_not_below _ within (not-le-lt (zero_upto 0) within n) v c o)
+        (λ n. through_not_below _ u (not-le-lt (zero_upto 0) u n) v c o)
     piecewise_not_below i cur w (next {p} {ps} l m r f) v c o =
         let rate = not_below_zero p.rate in
         let capacity = mul binary64 rate (sub binary64 p.end cur) in
-        let span = sub-upto (2 ^ 43) m c l span_lands in
+        let span = sub-upto (2 ^ 43) m c (lt-le cur p.end l) span_lands in
         either_not_below (lt z rate && le w capacity) _ _
         (λ t. through_not_below _ r (and_l (lt z rate) (le w capacity) t) v c o)
         (λ n.
         piecewise_not_below _ p.end (sub binary64 w capacity) f
         (left_upto r v (mul-upto (2 ^ 91) r span capacity_lands) (λ q. mul-upto 0 q span nothing_lands) n)
-        m (le-trans-upto su c m o l))
+        m (le-trans-upto su c m o (lt-le cur p.end l)))
 
 constant_not_below : {b : ℕ} {w : Float} (rate : Float) → Upto b w → (T (not (le rate z)) → Upto (2 ^ 40) rate)
     → NotBelow (constant_wait rate w)
@@ -165,17 +155,6 @@ weibull_not_below : (scale start w : Float) → NotBelow (weibull_wait scale sta
 unfolding weibull_wait
 weibull_not_below scale start w = either_not_below (le scale z) Never _ (λ t. tt) (λ n. clamped_signed (sub binary64 _ start))
 
-doubling_not_below : {a : ℕ} (first d start : Float) {w : Float} (b : ℕ) → T (in_range first) → T (fits binary64 start) → Upto a start
-    → Upto b w → T (lands b b) → NotBelow (doubling_wait first d start w)
-unfolding doubling_wait
-doubling_not_below first d start {w} b i sf su v l =
-    let ps = doubling_steps first d in
-    either_not_below (between_limits d) (piecewise_wait ps (last_rate first) start w) Never
-    (λ t.
-    piecewise_not_below b l start sf su (last_rate first) (step_rate_upto first 2047 i (lit< tt)) (first_after start ps) start w
-    (after_following su (steps_following first d i (is_true (between_limits d) t))) v su (le-refl-upto su))
-    (λ n. tt)
-
 wait_of_rate_not_below : {a : ℕ} (h : HazardRate) (p : Intervals) (start : Float) {w : Float} (b : ℕ) → T (sound h p)
     → T (in_range (own_rate h)) → T (fits binary64 start) → Upto a start → Upto b w → T (lands b b) → NotBelow (wait_of_rate h p start w)
 unfolding wait_of_rate own_rate
@@ -184,9 +163,8 @@ wait_of_rate_not_below (Constant rate) p start b s i sf su v l = constant_not_be
 wait_of_rate_not_below (Gompertz eta) p start b s i sf su v l = constant_not_below eta v (λ n. positive_rate_upto eta n i)
 wait_of_rate_not_below (Piecewise trailing) p start {w} b s i sf su v l =
     let after = after_following su (pairs_sound trailing p s) in
-    piecewise_not_below b l start sf su trailing (wider (2 ^ 48) (lit≤ tt) (rate_upto trailing i)) (first_after start (used_pairs p)) start w after v su (le-refl-upto su)
+    piecewise_not_below b l start sf su trailing i (first_after start (used_pairs p)) start w after v su (le-refl-upto su)
 wait_of_rate_not_below (Weibull scale) p start {w} b s i sf su v l = weibull_not_below scale start w
-wait_of_rate_not_below (Doubling first) p start b s i sf su v l = doubling_not_below first (doubling_time p) start b i sf su v l
 
 -- b bounds a w above 0
 pub invert_not_below : {a : ℕ} (h : HazardRate) (p : Intervals) (start : Float) {w : Float} (b : ℕ) → T (sound h p)

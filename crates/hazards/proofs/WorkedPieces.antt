@@ -17,14 +17,14 @@ use Rattle.hazards.specs.Roots.{fields_multiple, multiple, square_above, root_pa
 use Rattle.hazards.specs.Refusals.{no_cause}
 use Rattle.hazards.specs.Answers.{no_event, event_of, head_bytes, answer_bytes}
 use Rattle.hazards.specs.Rates.{pieces_by, first_after, used_pairs, weibull_cumulative, weibull_wait, ends_in, wait_from, constant_wait}
-use Rattle.hazards.specs.Rates.{uses_pairs, wait_of_rate, invert_cumulative_hazard}
+use Rattle.hazards.specs.Rates.{wait_of_rate, invert_cumulative_hazard}
 use Rattle.hazards.specs.Checks.{range_fault, ascending, intervals_fault, choice_fault, hazard_faults}
 use Rattle.hazards.specs.Evaluations.{evaluated_inversion}
 use Rattle.hazards.specs.Draws.{draw_at}
 use Rattle.hazards.specs.Ties.{capped_piece, candidate_after, preferred, precedes, earlier, earliest}
 use Rattle.hazards.specs.Sampler.{faults_of_all, settings_faults, draws_refusal, sample_refusal, candidates, censored_at, sampled_event}
 use Rattle.hazards.specs.Sampler.{sample_next}
-use Rattle.hazards.specs.PieceUsed.{EndsIn, pieces_of, trailing_of, rate_of, end_of}
+use Rattle.hazards.specs.PieceUsed.{EndsIn, rate_of, end_of}
 use Rattle.hazards.specs.declared.answers.Answer.{Answer}
 use Rattle.hazards.specs.declared.checks.HazardFields.{HazardFields}
 use Rattle.hazards.specs.declared.evaluations.Inversion.{Inversion}
@@ -42,7 +42,7 @@ unfolding of_bits to_bits add sub mul div lt le not_below_zero zero_bits in_rang
     little_endian bytes_of field_at f64_at first_of fields_multiple multiple square_above root_pattern nearest_root pieces_by first_after used_pairs
     weibull_cumulative weibull_wait ends_in wait_from constant_wait wait_of_rate invert_cumulative_hazard range_fault ascending intervals_fault
     choice_fault hazard_faults evaluated_inversion draw_at head_bytes answer_bytes candidate_after preferred precedes earlier earliest faults_of_all
-    settings_faults draws_refusal sample_refusal candidates censored_at sampled_event sample_next rate_of end_of uses_pairs pieces_of trailing_of
+    settings_faults draws_refusal sample_refusal candidates censored_at sampled_event sample_next rate_of end_of
 computed = tt
 
 -- ---- the floats and the curves
@@ -184,7 +184,7 @@ worked_bytes = (refl, refl)
 -- the wait for 4.0 ends in piece 2, the trailing rate, which begins at 5.0
 pub used : EndsIn (used_pairs (pairs half)) half (not_below_zero z) four six 2
 unfolding computed
-used = piece_used (Piecewise half) (pairs half) z four six 2 refl refl refl refl
+used = piece_used half (pairs half) z four six 2 refl refl refl
 
 pub begins_at_five : used.cur ≡ whole 5
 unfolding computed

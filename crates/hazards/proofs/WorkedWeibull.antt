@@ -84,8 +84,8 @@ pub worked_unused : (number_with (whole 3) 1 z ≡ 6) × (number_with (whole 3) 
 unfolding computed
 worked_unused = (refl, refl, refl)
 
--- and there is no kind 6
-pub worked_no_kind : number 6 (whole 1) ≡ 4
+-- and there is no kind 5
+pub worked_no_kind : number 5 (whole 1) ≡ 4
 unfolding computed
 worked_no_kind = refl
 

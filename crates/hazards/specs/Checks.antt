@@ -1,15 +1,14 @@
--- Document 01, "A command comes in", and document 02, changes 4 and 9: what refusals 4 to 6 say of a hazard. 5 and 6 are stated of the hazard
+-- Document 01, "A command comes in", and document 02, change 4: what refusals 4 to 6 say of a hazard. 5 and 6 are stated of the hazard
 -- itself, so that they serve the fields of a command and a stored channel alike.
 use Rattle.std.specs.Prelude.{Bool, true, false, not, ◌&&◌, ◌||◌, List, [], ◌∷◌, ℕ, ◌-◌, eqb, ltb, Float}
-use Rattle.std.specs.Float.{nan}
 use Rattle.std.specs.Float.Ieee.{lt, le}
-use Rattle.hazards.specs.Floats.{z, limit, inverse_limit, zero_bits, between_limits, in_range}
+use Rattle.hazards.specs.Floats.{z, limit, inverse_limit, zero_bits, in_range}
 use Rattle.hazards.specs.Lists.{all}
-use Rattle.hazards.specs.Rates.{kinds, rate_of_kind, Piece, pieces_by, pair_at, used_pairs, doubling_time}
+use Rattle.hazards.specs.Rates.{kinds, rate_of_kind, Piece, pieces_by, pair_at, used_pairs}
 use Rattle.hazards.specs.declared.checks.HazardFields.{HazardFields}
 use Rattle.hazards.specs.declared.refusals.Faults.{Faults}
 use Rattle.hazards.specs.declared.rates.HazardRate.{HazardRate}
-use Rattle.hazards.specs.declared.rates.HazardRate.TheVariants.{Zero, Constant, Gompertz, Piecewise, Weibull, Doubling}
+use Rattle.hazards.specs.declared.rates.HazardRate.TheVariants.{Zero, Constant, Gompertz, Piecewise, Weibull}
 use Rattle.hazards.specs.declared.rates.Intervals.{Intervals}
 
 -- ---- refusals 5 and 6 of a hazard
@@ -25,7 +24,6 @@ range_fault (Constant rate) p = not (in_range rate)
 range_fault (Gompertz eta) p = not (in_range eta)
 range_fault (Piecewise trailing) p = not (in_range trailing && all (λ q. in_range q.rate) (used_pairs p))
 range_fault (Weibull scale) p = scale_fault scale
-range_fault (Doubling first) p = not (in_range first)
 
 -- the eight pairs from index i on
 abbrev pub pairs_from : Intervals → ℕ → List Piece
@@ -47,12 +45,6 @@ unused_fault p = not (eqb p.count 0 && all zero_pair (pairs_from p 0))
 abbrev pub pairs_fault : Intervals → Bool
 pairs_fault p = ltb 8 p.count || not (all zero_pair (pairs_from p p.count) && ascending z (used_pairs p))
 
--- "D not from 2^-40 to 2^40, another count or other rate bits", or pairs from the second on not zero
-abbrev pub doubling_fault : Intervals → Bool
-doubling_fault p =
-    not (eqb p.count 1
-    && (between_limits (doubling_time p) && (zero_bits (pair_at p 0).rate && all zero_pair (pairs_from p 1))))
-
 -- 6
 unfoldable pub intervals_fault : HazardRate → Intervals → Bool
 intervals_fault Zero p = unused_fault p
@@ -60,7 +52,6 @@ intervals_fault (Constant rate) p = unused_fault p
 intervals_fault (Gompertz eta) p = unused_fault p
 intervals_fault (Piecewise trailing) p = pairs_fault p
 intervals_fault (Weibull scale) p = unused_fault p
-intervals_fault (Doubling first) p = doubling_fault p
 
 -- ---- the fields of a hazard as in SET
 

@@ -36,10 +36,6 @@ not_below_zero x = cond (lt z x) x z
 unfoldable pub zero_bits : Float → Bool
 zero_bits x = eqb (to_bits binary64 x) 0
 
--- from 2^-40 to 2^40
-abbrev pub between_limits : Float → Bool
-between_limits x = le inverse_limit x && le x limit
-
 -- finite and of size at most 2^40
 unfoldable pub in_range : Float → Bool
 in_range x = le minus_limit x && le x limit

@@ -1,5 +1,5 @@
--- The definitions of the hazards crate, from floats, lists, roots and steps up to the sampler; what document 02 says of the piece that a
--- wait ends in and of the sampler's list of records; the rate for a wait.
+-- The definitions of the hazards crate, from floats, lists and roots up to the sampler; what document 02 says of the piece that a wait
+-- ends in and of the sampler's list of records; the rate for a wait.
 pub mod Floats
 pub mod Lists
 pub mod FirstPlace
@@ -8,7 +8,6 @@ pub mod Refusals
 pub mod Answers
 pub mod Roots
 pub mod RootsInternals
-pub mod Steps
 pub mod Rates
 pub mod Checks
 pub mod Evaluations

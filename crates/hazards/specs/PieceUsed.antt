@@ -1,33 +1,14 @@
 -- Change 6 of document 02, "Show which piece of the rate curve struck": what its sentence on the piece number says, apart from how the wait
--- is worked out (Rates). Change 9: the steps of kind 5 are such pieces, "the trailing piece being 2,048".
+-- is worked out (Rates).
 use Rattle.std.specs.Prelude.{◌≡◌, Bool, true, false, ◌&&◌, List, [], ◌∷◌, ℕ, zero, suc, ◌-◌, ◌≤◌, ◌<◌, length, drop, Float}
 use Rattle.std.specs.Float.{nan, binary64}
 use Rattle.std.specs.Float.Ieee.{add, sub, mul, div, lt, le}
 use Rattle.hazards.specs.Floats.{z, not_below_zero, is_finite_wait}
-use Rattle.hazards.specs.Rates.{Piece, first_after, used_pairs, uses_pairs, doubling_time, doubling_steps, invert_cumulative_hazard}
-use Rattle.hazards.specs.Steps.{last_rate}
+use Rattle.hazards.specs.Rates.{Piece, first_after, used_pairs, uses_pairs, invert_cumulative_hazard}
 use Rattle.hazards.specs.declared.rates.HazardRate.{HazardRate}
-use Rattle.hazards.specs.declared.rates.HazardRate.TheVariants.{Zero, Constant, Gompertz, Piecewise, Weibull, Doubling}
+use Rattle.hazards.specs.declared.rates.HazardRate.TheVariants.{Piecewise}
 use Rattle.hazards.specs.declared.rates.Intervals.{Intervals}
 use Rattle.hazards.specs.declared.rates.Wait.TheVariants.{After}
-
--- the pieces of a hazard's rate curve before its trailing rate: the used pairs of kind 3, the steps of kind 5
-unfoldable pub pieces_of : HazardRate → Intervals → List Piece
-pieces_of Zero p = []
-pieces_of (Constant rate) p = []
-pieces_of (Gompertz eta) p = []
-pieces_of (Piecewise trailing) p = used_pairs p
-pieces_of (Weibull scale) p = []
-pieces_of (Doubling first) p = doubling_steps first (doubling_time p)
-
--- the trailing rate: that of kind 3, the last step's of kind 5
-unfoldable pub trailing_of : HazardRate → Float
-trailing_of Zero = z
-trailing_of (Constant rate) = z
-trailing_of (Gompertz eta) = z
-trailing_of (Piecewise trailing) = trailing
-trailing_of (Weibull scale) = z
-trailing_of (Doubling first) = last_rate first
 
 -- the rate of piece i of a curve: of the pair with that index, and the trailing one past the last pair
 unfoldable pub rate_of : List Piece → Float → ℕ → Float
@@ -62,7 +43,7 @@ holds_at (p ∷ ps) cur w (suc k) = holds_at ps p.end (sub binary64 w (capacity_
 pub record EndsIn (ps : List Piece) (trailing start w wait : Float) (piece : ℕ) : Type 0 where
   pub cur : Float
   pub left : Float
-  -- the pair used, or the trailing rate, whose number is that of the pairs used (count, at most 8; 2,048 steps)
+  -- the pair used, or the trailing rate, whose number is that of the pairs used (count, at most 8)
   pub within : piece ≤ length ps
   pub positive : lt z (rate_of ps trailing piece) ≡ true
   -- not one that ends at or before the start
@@ -78,9 +59,9 @@ pub record EndsIn (ps : List Piece) (trailing start w wait : Float) (piece : ℕ
 
 -- "the index of the pair used, count for the trailing rate"
 abbrev pub PieceUsed : Type 0
-PieceUsed = (h : HazardRate) (p : Intervals) (start w wait : Float) (piece : ℕ) → uses_pairs h ≡ true
-    → invert_cumulative_hazard h p start w ≡ After wait piece → le w z ≡ false → is_finite_wait wait ≡ true
-    → EndsIn (pieces_of h p) (trailing_of h) (not_below_zero start) w wait piece
+PieceUsed = (trailing : Float) (p : Intervals) (start w wait : Float) (piece : ℕ)
+    → invert_cumulative_hazard (Piecewise trailing) p start w ≡ After wait piece → le w z ≡ false → is_finite_wait wait ≡ true
+    → EndsIn (used_pairs p) trailing (not_below_zero start) w wait piece
 
 -- that says which: of one w from one start on no two pieces are the one used
 abbrev pub OnePiece : Type 0

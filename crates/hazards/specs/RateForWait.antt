@@ -4,7 +4,7 @@
 use Rattle.std.specs.Prelude.{◌≡◌, ◌↔◌, Bool, true, false, ◌&&◌, ℕ, T, Float}
 use Rattle.std.specs.Float.{binary64}
 use Rattle.std.specs.Float.Ieee.{fits, div, lt, le}
-use Rattle.hazards.specs.Floats.{z, limit, most_threshold, between_limits, in_range}
+use Rattle.hazards.specs.Floats.{z, limit, inverse_limit, most_threshold, in_range}
 use Rattle.hazards.specs.Refusals.{outside_limits, no_rate}
 use Rattle.hazards.specs.Rates.{invert_cumulative_hazard}
 use Rattle.hazards.specs.declared.rates.HazardRate.TheVariants.{Constant}
@@ -14,7 +14,7 @@ use Rattle.hazards.specs.declared.rate_for_wait.RateForWait.{RateForWait}
 
 -- "a threshold w above 0 and at most 1,024 and a wait T from 2^-40 to 2^40"
 unfoldable pub within_limits : Float → Float → Bool
-within_limits w wait = (lt z w && le w most_threshold) && between_limits wait
+within_limits w wait = (lt z w && le w most_threshold) && (le inverse_limit wait && le wait limit)
 
 -- "positive f64 rate, at most 2^40, for which w / rate rounds to exactly T"
 pub record Gives (w wait rate : Float) : Type 0 where

@@ -1,31 +1,29 @@
 -- Document 01, "Hazard arithmetic": hazard_at, cumulative_hazard and invert_cumulative_hazard of competing_risks.rs, operation by
 -- operation at binary64, each rounded once. Gompertz is the one with b = 0: its hazard is eta at every time. Document 02, change 4: kind
--- 4, Weibull with shape 2; change 6: the piece that a wait ends in; change 9: kind 5, a rate that doubles.
+-- 4, Weibull with shape 2; change 6: the piece that a wait ends in.
 use Rattle.std.specs.Prelude.{Bool, true, false, cond, ◌&&◌, List, [], ◌∷◌, ℕ, zero, suc, min, eqb, get_or, drop, Float}
 use Rattle.std.specs.Float.{nan, binary64}
 use Rattle.std.specs.Float.Ieee.{add, sub, mul, div, lt, le}
-use Rattle.hazards.specs.Floats.{z, two, not_below_zero, between_limits, is_finite_wait}
+use Rattle.hazards.specs.Floats.{z, two, not_below_zero, is_finite_wait}
 use Rattle.hazards.specs.Roots.{nearest_root}
-use Rattle.hazards.specs.Steps.{steps, step_end, step_rate, last_rate}
 use Rattle.hazards.specs.declared.rates.HazardRate.{HazardRate}
-use Rattle.hazards.specs.declared.rates.HazardRate.TheVariants.{Zero, Constant, Gompertz, Piecewise, Weibull, Doubling}
+use Rattle.hazards.specs.declared.rates.HazardRate.TheVariants.{Zero, Constant, Gompertz, Piecewise, Weibull}
 use Rattle.hazards.specs.declared.rates.Intervals.{Intervals}
 use Rattle.hazards.specs.declared.rates.Wait.{Wait}
 use Rattle.hazards.specs.declared.rates.Wait.TheVariants.{After, Never}
 
--- ---- the kinds: 0 Zero, 1 Constant, 2 Gompertz, 3 PiecewiseConstant, 4 Weibull with shape 2, 5 Doubling
+-- ---- the kinds: 0 Zero, 1 Constant, 2 Gompertz, 3 PiecewiseConstant, 4 Weibull with shape 2
 
 -- how many there are
 abbrev pub kinds : ℕ
-kinds = 6
+kinds = 5
 
 -- the hazard of a kind and its first; a kind off the list is refused by 4 before this is asked
 abbrev pub rate_of_kind : ℕ → Float → HazardRate
 rate_of_kind kind first =
     cond (eqb kind 0) Zero
     (cond (eqb kind 1) (Constant first)
-    (cond (eqb kind 2) (Gompertz first)
-    (cond (eqb kind 3) (Piecewise first) (cond (eqb kind 4) (Weibull first) (Doubling first)))))
+    (cond (eqb kind 2) (Gompertz first) (cond (eqb kind 3) (Piecewise first) (Weibull first))))
 
 -- a hazard's kind
 abbrev pub kind_number : HazardRate → ℕ
@@ -34,7 +32,6 @@ kind_number (Constant rate) = 1
 kind_number (Gompertz eta) = 2
 kind_number (Piecewise trailing) = 3
 kind_number (Weibull scale) = 4
-kind_number (Doubling first) = 5
 
 -- the hazard's first: its own rate or scale, +0.0 for Zero
 unfoldable pub own_rate : HazardRate → Float
@@ -43,7 +40,6 @@ own_rate (Constant rate) = rate
 own_rate (Gompertz eta) = eta
 own_rate (Piecewise trailing) = trailing
 own_rate (Weibull scale) = scale
-own_rate (Doubling first) = first
 
 -- ---- a hazard curve in pieces
 
@@ -76,18 +72,13 @@ pair_at p i = record { end = get_or p.ends i nan; rate = get_or p.rates i nan }
 unfoldable pub used_pairs : Intervals → List Piece
 used_pairs p = pieces_by (pair_at p) 0 (min p.count 8)
 
--- "the one pair holding the doubling time D as end" of kind 5, which is no used pair
-abbrev pub doubling_time : Intervals → Float
-doubling_time p = get_or p.ends 0 nan
-
--- whether a hazard uses pairs at all: those of kind 3, and the one that holds the doubling time of kind 5
+-- whether a hazard uses pairs at all
 unfoldable pub uses_pairs : HazardRate → Bool
 uses_pairs Zero = false
 uses_pairs (Constant rate) = false
 uses_pairs (Gompertz eta) = false
 uses_pairs (Piecewise trailing) = true
 uses_pairs (Weibull scale) = false
-uses_pairs (Doubling first) = true
 
 -- ---- Weibull with shape 2, a hazard proportional to age: "with q = t / scale, … hazard is (2 / scale) times q and the cumulative is q
 -- times q", for t from +0.0 on; "a scale at most 0 is Zero"
@@ -106,14 +97,6 @@ weibull_wait scale start w =
     let s = nearest_root (add binary64 (weibull_cumulative scale start) w) in
     cond (le scale z) Never (After (not_below_zero (sub binary64 (mul binary64 scale s) start)) 0)
 
--- ---- a rate that doubles: "The curve has 2,048 equal steps of D / 256, then the last step's rate for good"
-
-abbrev pub step_at : Float → Float → ℕ → Piece
-step_at first d i = record { end = step_end d i; rate = step_rate first i }
-
-unfoldable pub doubling_steps : Float → Float → List Piece
-doubling_steps first d = pieces_by (step_at first d) 0 steps
-
 -- ---- hazard_at
 
 -- the rate of the first piece whose end is above t, else the trailing rate
@@ -121,18 +104,12 @@ unfoldable pub piecewise_hazard : List Piece → Float → Float → Float
 piecewise_hazard [] trailing t = not_below_zero trailing
 piecewise_hazard (p ∷ ps) trailing t = cond (lt t p.end) (not_below_zero p.rate) (piecewise_hazard ps trailing t)
 
--- "Evaluation, inversion and piece number follow the piecewise rules". A doubling time that 6 refuses stands for no curve: the hazard is
--- that of Zero
-unfoldable pub doubling_hazard : Float → Float → Float → Float
-doubling_hazard first d t = cond (between_limits d) (piecewise_hazard (doubling_steps first d) (last_rate first) t) z
-
 unfoldable pub hazard_of_rate : HazardRate → Intervals → Float → Float
 hazard_of_rate Zero p t = z
 hazard_of_rate (Constant rate) p t = not_below_zero rate
 hazard_of_rate (Gompertz eta) p t = cond (le eta z) z eta
 hazard_of_rate (Piecewise trailing) p t = piecewise_hazard (used_pairs p) trailing t
 hazard_of_rate (Weibull scale) p t = weibull_hazard scale (not_below_zero t)
-hazard_of_rate (Doubling first) p t = doubling_hazard first (doubling_time p) t
 
 unfoldable pub hazard_at : HazardRate → Intervals → Float → Float
 hazard_at h p t = cond (lt t z) z (hazard_of_rate h p t)
@@ -147,16 +124,12 @@ piecewise_cumulative (p ∷ ps) trailing t cum cur =
     cond (le t p.end) (add binary64 cum (mul binary64 rate (sub binary64 t cur)))
     (piecewise_cumulative ps trailing t (add binary64 cum (mul binary64 rate (sub binary64 p.end cur))) p.end)
 
-unfoldable pub doubling_cumulative : Float → Float → Float → Float
-doubling_cumulative first d t = cond (between_limits d) (piecewise_cumulative (doubling_steps first d) (last_rate first) t z z) z
-
 unfoldable pub cumulative_of_rate : HazardRate → Intervals → Float → Float
 cumulative_of_rate Zero p t = z
 cumulative_of_rate (Constant rate) p t = mul binary64 (not_below_zero rate) t
 cumulative_of_rate (Gompertz eta) p t = cond (le eta z) z (mul binary64 eta t)
 cumulative_of_rate (Piecewise trailing) p t = piecewise_cumulative (used_pairs p) trailing t z z
 cumulative_of_rate (Weibull scale) p t = weibull_cumulative scale t
-cumulative_of_rate (Doubling first) p t = doubling_cumulative first (doubling_time p) t
 
 unfoldable pub cumulative_hazard : HazardRate → Intervals → Float → Float
 cumulative_hazard h p t = cond (le t z) z (cumulative_of_rate h p t)
@@ -190,9 +163,6 @@ piecewise_wait ps trailing start w =
     let i = first_after start ps in
     wait_from i (drop i ps) trailing start start w
 
-unfoldable pub doubling_wait : Float → Float → Float → Float → Wait
-doubling_wait first d start w = cond (between_limits d) (piecewise_wait (doubling_steps first d) (last_rate first) start w) Never
-
 unfoldable pub constant_wait : Float → Float → Wait
 constant_wait rate w = cond (le rate z) Never (After (div binary64 w rate) 0)
 
@@ -202,7 +172,6 @@ wait_of_rate (Constant rate) p start w = constant_wait (not_below_zero rate) w
 wait_of_rate (Gompertz eta) p start w = constant_wait eta w
 wait_of_rate (Piecewise trailing) p start w = piecewise_wait (used_pairs p) trailing start w
 wait_of_rate (Weibull scale) p start w = weibull_wait scale start w
-wait_of_rate (Doubling first) p start w = doubling_wait first (doubling_time p) start w
 
 -- w at most 0 waits 0.0, even for Zero
 unfoldable pub invert_cumulative_hazard : HazardRate → Intervals → Float → Float → Wait

@@ -5,9 +5,9 @@ ghost use Rattle.hazards.specs.Floats.{z, limit, zero_bits, in_range};
 ghost use Rattle.hazards.specs.Lists.{all};
 ghost use Rattle.hazards.specs.Rates.{kinds, intervals_from, used_pairs};
 ghost use Rattle.hazards.specs.Checks.{scale_fault, range_fault, pairs_from, zero_pair, ascending, unused_fault, pairs_fault, intervals_fault, hazard_of};
-ghost use Rattle.hazards.specs.Checks.{doubling_fault, intervals_of, fields_from, hazard_faults};
+ghost use Rattle.hazards.specs.Checks.{intervals_of, fields_from, hazard_faults};
 
-use crate::floats::{INVERSE_LIMIT, LIMIT, between_limits, in_range, zero_bits};
+use crate::floats::{INVERSE_LIMIT, LIMIT, in_range, zero_bits};
 use crate::rates::{HazardRate, Intervals, KINDS, rate_of_kind};
 use crate::refusals::Faults;
 
@@ -113,7 +113,6 @@ pub fn range_fault(hazard: HazardRate, rates: &[f64; 8], count: usize) -> bool
         HazardRate::Gompertz(eta) => !in_range(eta),
         HazardRate::Piecewise(trailing) => piecewise_range_fault(trailing, rates, count),
         HazardRate::Weibull(scale) => scale_fault(scale),
-        HazardRate::Doubling(first) => !in_range(first),
     }
 }
 
@@ -138,17 +137,6 @@ fn pairs_fault<'a>(ends: &'a [f64; 8], rates: &'a [f64; 8], count: usize) -> boo
     !(zero & ascend)
 }
 
-// Refusal 6 of a hazard that doubles: D not from 2^-40 to 2^40, a count other than 1, or other bits not zero.
-fn doubling_fault<'a>(ends: &'a [f64; 8], rates: &'a [f64; 8], count: usize) -> bool
-    ensures { result ≡ doubling_fault (intervals_from ends.now rates.now count) }
-{
-    let one = count == 1;
-    let time = between_limits(ends[0]);
-    let no_rate = zero_bits(rates[0]);
-    let zero = unused_are_zero(ends, rates, 1);
-    !(one & (time & (no_rate & zero)))
-}
-
 // Refusal 6 of a hazard.
 pub fn intervals_fault<'a>(
     hazard: HazardRate,
@@ -164,7 +152,6 @@ pub fn intervals_fault<'a>(
         HazardRate::Gompertz(_) => unused_fault(ends, rates, count),
         HazardRate::Piecewise(_) => pairs_fault(ends, rates, count),
         HazardRate::Weibull(_) => unused_fault(ends, rates, count),
-        HazardRate::Doubling(_) => doubling_fault(ends, rates, count),
     }
 }
 

@@ -1,11 +1,11 @@
 // The tests on one float, and the floats that they are told by.
 ghost use Rattle.std.specs.Prelude.{◌≡◌};
-ghost use Rattle.hazards.specs.Floats.{not_below_zero, zero_bits, between_limits, in_range, is_time, is_threshold, is_finite_wait};
+ghost use Rattle.hazards.specs.Floats.{not_below_zero, zero_bits, in_range, is_time, is_threshold, is_finite_wait};
 
 // 2^40: the largest time, and the largest size of a rate or scale.
 pub const LIMIT: f64 = 1099511627776.0;
 
-// 2^-40: the smallest scale above 0, the shortest doubling time, and the shortest wait that a rate is found for.
+// 2^-40: the smallest scale above 0, and the shortest wait that a rate is found for.
 pub const INVERSE_LIMIT: f64 = 0.0000000000009094947017729282379150390625;
 
 // The largest threshold.
@@ -23,13 +23,6 @@ pub fn zero_bits(x: f64) -> bool
     ensures { result ≡ zero_bits x }
 {
     if x != x { false } else { f64::to_bits(x) == 0 }
-}
-
-// From 2^-40 to 2^40.
-pub fn between_limits(x: f64) -> bool
-    ensures { result ≡ between_limits x }
-{
-    x >= INVERSE_LIMIT && x <= LIMIT
 }
 
 // Finite and of size at most 2^40.

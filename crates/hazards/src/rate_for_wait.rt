@@ -5,7 +5,7 @@ ghost use Rattle.hazards.specs.RateForWait.{within_limits, answered, Answers};
 ghost use Rattle.hazards.specs.RateForWaitInternals.{past_limit, used_up_within, bracket_of, exact_rate};
 ghost use Rattle.hazards.specs.Floats.{z};
 
-use crate::floats::{MOST_THRESHOLD, between_limits};
+use crate::floats::{INVERSE_LIMIT, LIMIT, MOST_THRESHOLD};
 use crate::refusals::{NO_RATE, OUTSIDE_LIMITS};
 
 // The bit pattern of 2^40, the largest rate, and the one behind it.
@@ -31,7 +31,7 @@ fn within_limits(threshold: f64, wait: f64) -> bool
     ensures { result ≡ within_limits threshold wait }
 {
     let threshold_fits = (threshold > 0.0) & (threshold <= MOST_THRESHOLD);
-    let wait_fits = between_limits(wait);
+    let wait_fits = (wait >= INVERSE_LIMIT) & (wait <= LIMIT);
     threshold_fits & wait_fits
 }
 

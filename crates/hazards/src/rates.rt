@@ -1,20 +1,19 @@
 // Hazard rates of competing_risks.rs: the hazard, the cumulative hazard and its inverse, each float operation rounded once. Kind 4,
-// Weibull with shape 2, kind 5, a rate that doubles, and the piece that a wait ends in are document 02's.
+// Weibull with shape 2, and the piece that a wait ends in are document 02's.
 ghost use Rattle.std.specs.Prelude.{◌≡◌, ◌&&◌, min, []};
 ghost use Rattle.std.specs.Float.Ieee.{lt, le};
-ghost use Rattle.hazards.specs.Floats.{z, not_below_zero};
+ghost use Rattle.hazards.specs.Floats.{z};
 ghost use Rattle.hazards.specs.Rates.{rate_of_kind, kind_number, own_rate};
 ghost use Rattle.hazards.specs.Rates.{intervals_from, used_pairs, uses_pairs, piecewise_hazard, piecewise_cumulative, first_after};
 ghost use Rattle.hazards.specs.Rates.{weibull_hazard, weibull_cumulative, weibull_wait};
 ghost use Rattle.hazards.specs.Rates.{ends_in, wait_from, piecewise_wait, constant_wait, hazard_at, cumulative_hazard};
-ghost use Rattle.hazards.specs.Rates.{doubling_hazard, doubling_cumulative, doubling_wait, invert_cumulative_hazard};
+ghost use Rattle.hazards.specs.Rates.{invert_cumulative_hazard};
 
-use crate::floats::{between_limits, is_finite_wait, not_below_zero};
+use crate::floats::{is_finite_wait, not_below_zero};
 use crate::roots::nearest_root;
-use crate::steps::{STEPS, entries, step_after, step_end, step_rate};
 
 // A hazard with its first field: the rate of Constant, eta of Gompertz (with b = 0), the trailing rate of PiecewiseConstant, the scale of
-// Weibull (with shape 2), the starting rate of one that doubles, whose doubling time is the end of its one pair.
+// Weibull (with shape 2).
 #[derive(Drop)]
 pub enum HazardRate {
     Zero,
@@ -22,7 +21,6 @@ pub enum HazardRate {
     Gompertz(f64),
     Piecewise(f64),
     Weibull(f64),
-    Doubling(f64),
 }
 
 // The pairs of a piecewise hazard, of which the first `count` are used.
@@ -41,7 +39,7 @@ pub enum Wait {
 }
 
 // How many kinds there are.
-pub const KINDS: u64 = 6;
+pub const KINDS: u64 = 5;
 
 // The hazard of a kind and its first field; a kind off the list is refused by 4 before this is asked.
 pub fn rate_of_kind(kind: u8, first: f64) -> HazardRate
@@ -59,10 +57,7 @@ pub fn rate_of_kind(kind: u8, first: f64) -> HazardRate
     if kind == 3 {
         return HazardRate::Piecewise(first);
     }
-    if kind == 4 {
-        return HazardRate::Weibull(first);
-    }
-    HazardRate::Doubling(first)
+    HazardRate::Weibull(first)
 }
 
 // A hazard's kind.
@@ -75,7 +70,6 @@ pub fn kind_number(hazard: HazardRate) -> u8
         HazardRate::Gompertz(_) => 2,
         HazardRate::Piecewise(_) => 3,
         HazardRate::Weibull(_) => 4,
-        HazardRate::Doubling(_) => 5,
     }
 }
 
@@ -89,7 +83,6 @@ pub fn own_rate(hazard: HazardRate) -> f64
         HazardRate::Gompertz(eta) => eta,
         HazardRate::Piecewise(trailing) => trailing,
         HazardRate::Weibull(scale) => scale,
-        HazardRate::Doubling(first) => first,
     }
 }
 
@@ -103,7 +96,6 @@ pub(crate) fn uses_pairs(hazard: HazardRate) -> bool
         HazardRate::Gompertz(_) => false,
         HazardRate::Piecewise(_) => true,
         HazardRate::Weibull(_) => false,
-        HazardRate::Doubling(_) => true,
     }
 }
 
@@ -146,25 +138,6 @@ fn weibull_hazard(scale: f64, t: f64) -> f64
     }
 }
 
-// The last step where no step ends after a time.
-fn or_last(step: usize) -> usize
-    ensures { result ≡ min step 2047 }
-{
-    if step < STEPS - 1 { step } else { STEPS - 1 }
-}
-
-// The rate of the step that t lies in. A doubling time that is refused stands for no curve.
-fn doubling_hazard(first: f64, doubling_time: f64, t: f64) -> f64
-    ensures { result ≡ doubling_hazard first doubling_time t }
-{
-    if !between_limits(doubling_time) {
-        return 0.0;
-    }
-    let table = entries();
-    let step = or_last(step_after(doubling_time, t));
-    not_below_zero(step_rate(first, &table, step))
-}
-
 // The hazard at time t, 0 before time 0.
 pub fn hazard_at<'a>(
     hazard: HazardRate,
@@ -184,7 +157,6 @@ pub fn hazard_at<'a>(
         HazardRate::Gompertz(eta) => if eta <= 0.0 { 0.0 } else { eta },
         HazardRate::Piecewise(trailing) => piecewise_hazard(ends, rates, count, trailing, t),
         HazardRate::Weibull(scale) => weibull_hazard(scale, not_below_zero(t)),
-        HazardRate::Doubling(first) => doubling_hazard(first, ends[0], t),
     }
 }
 
@@ -226,30 +198,6 @@ fn weibull_cumulative(scale: f64, t: f64) -> f64
     q * q
 }
 
-// From step to step, as many as t is past.
-fn doubling_cumulative(first: f64, doubling_time: f64, t: f64) -> f64
-    ensures { result ≡ doubling_cumulative first doubling_time t }
-{
-    if !between_limits(doubling_time) {
-        return 0.0;
-    }
-    let table = entries();
-    let mut cum = 0.0;
-    let mut cur_t = 0.0;
-    let mut i: usize = 0;
-    while i < STEPS {
-        let end_t = step_end(doubling_time, i);
-        let rate = not_below_zero(step_rate(first, &table, i));
-        if t <= end_t {
-            return cum + rate * (t - cur_t);
-        }
-        cum = cum + rate * (end_t - cur_t);
-        cur_t = end_t;
-        i += 1;
-    }
-    cum + not_below_zero(step_rate(first, &table, STEPS - 1)) * (t - cur_t)
-}
-
 // The hazard accumulated from 0 to t.
 pub fn cumulative_hazard<'a>(
     hazard: HazardRate,
@@ -269,7 +217,6 @@ pub fn cumulative_hazard<'a>(
         HazardRate::Gompertz(eta) => if eta <= 0.0 { 0.0 } else { eta * t },
         HazardRate::Piecewise(trailing) => piecewise_cumulative(ends, rates, count, trailing, t),
         HazardRate::Weibull(scale) => weibull_cumulative(scale, t),
-        HazardRate::Doubling(first) => doubling_cumulative(first, ends[0], t),
     }
 }
 
@@ -346,38 +293,6 @@ fn piecewise_wait<'a>(
     trailing_wait(i, trailing, start, cur_t, remaining_w)
 }
 
-// From the step that the start lies in on, as many steps as it takes to accumulate w.
-fn doubling_wait(first: f64, doubling_time: f64, t_start: f64, w: f64) -> Wait
-    ensures { result ≡ doubling_wait first doubling_time (not_below_zero t_start) w }
-{
-    if !between_limits(doubling_time) {
-        return Wait::Never;
-    }
-    let start = not_below_zero(t_start);
-    let table = entries();
-    let mut i = step_after(doubling_time, start);
-    let mut cur_t = start;
-    let mut remaining_w = w;
-    while i < STEPS {
-        let end_t = step_end(doubling_time, i);
-        let rate = not_below_zero(step_rate(first, &table, i));
-        let capacity_w = rate * (end_t - cur_t);
-        if within_capacity(rate, remaining_w, capacity_w) {
-            return ends_in(i, cur_t + remaining_w / rate - start);
-        }
-        remaining_w = remaining_w - capacity_w;
-        cur_t = end_t;
-        i += 1;
-    }
-    trailing_wait(
-        i,
-        step_rate(first, &table, STEPS - 1),
-        start,
-        cur_t,
-        remaining_w,
-    )
-}
-
 // The wait until w has accumulated at one rate.
 pub(crate) fn constant_wait(rate: f64, w: f64) -> Wait
     ensures { result ≡ constant_wait rate w }
@@ -428,6 +343,5 @@ pub fn invert_cumulative_hazard<'a>(
             target_w,
         ),
         HazardRate::Weibull(scale) => weibull_wait(scale, not_below_zero(t_start), target_w),
-        HazardRate::Doubling(first) => doubling_wait(first, ends[0], t_start, target_w),
     }
 }

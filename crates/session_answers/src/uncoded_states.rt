@@ -11,10 +11,8 @@ pub const CASES: u64 = 37;
 
 const FIELD_CASES: u64 = 15;
 
-// The second channel's rows, and the last channel's: it is unused, its kind is 0.
+// The second channel's rows, and the last channel's numbers: its kind is 0.
 const CHANNEL: usize = CHANNELS + 1;
-
-const LAST_CHANNEL: usize = CHANNELS + 7;
 
 const CHANNEL_NUMBERS: usize = NUMBERS + CHANNEL_FLOATS;
 
@@ -33,7 +31,7 @@ fn of_field(case: u64) -> Change {
         4 => word(SCHEDULE, ACTIVE, 2),
         5 => word(SETTINGS, POLICY, 2),
         6 => word(SETTINGS, TIE, 3),
-        7 => word(LAST_CHANNEL, KIND, 6),
+        7 => word(CHANNEL, KIND, 4),
         8 => word(SETTINGS, GENERATION, 0x1_0000_0000),
         9 => word(SCHEDULE, WINNER_CAUSE, 0x1_0000_0000),
         10 => word(CHANNEL, CAUSE, 0x1_0000_0002),

@@ -5,7 +5,6 @@ use crate::formats::{self, EVALUATION_BYTES, POSITION_BYTES, SAMPLE_BYTES};
 use crate::numbers::{self, SIDES, Sides};
 use crate::probe::{self, Fields};
 use cases::chosen;
-use cases::doubling_tally::DoublingTally;
 use cases::evaluations::EvaluationCase;
 use cases::piece_tally::PieceTally;
 use cases::radicands::{self, radicand};
@@ -20,12 +19,11 @@ use std::fmt::{Display, Formatter, Result as Written};
 /// What stands in a buffer before a call, so that a byte left out is seen.
 const FILLED: u8 = 0xA5;
 
-/// What the random cases show of kind 4, of pieces and of kind 5.
+/// What the random cases show of kind 4 and of pieces.
 #[derive(Default)]
 pub struct Shown {
     weibull: WeibullTally,
     pieces: PieceTally,
-    doubling: DoublingTally,
 }
 
 impl Shown {
@@ -35,25 +33,21 @@ impl Shown {
         self.weibull.add_sample(sampled, &sample);
         self.pieces.add_evaluation(evaluated, &value);
         self.pieces.add_sample(&sample);
-        self.doubling.add_evaluation(evaluated, &value);
-        self.doubling.add_sample(sampled, &sample);
     }
 
     /// A sort that no case shows, in words.
     fn missing(&self) -> Option<String> {
-        let least = [
-            ("of kind 4", self.weibull.least()),
-            ("among", self.pieces.least()),
-            ("of kind 5", self.doubling.least()),
-        ];
-        let missing = least.into_iter().find(|(_, (count, _))| *count == 0);
-        missing.map(|(of, (_, sort))| format!("{of} {sort}"))
+        match (self.weibull.least(), self.pieces.least()) {
+            ((0, sort), _) => Some(format!("of kind 4 {sort}")),
+            (_, (0, sort)) => Some(format!("among {sort}")),
+            _ => None,
+        }
     }
 }
 
 impl Display for Shown {
     fn fmt(&self, f: &mut Formatter<'_>) -> Written {
-        write!(f, "{}; {}; {}", self.weibull, self.pieces, self.doubling)
+        write!(f, "{}; {}", self.weibull, self.pieces)
     }
 }
 

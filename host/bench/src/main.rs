@@ -1,5 +1,5 @@
-//! `bench` times the Rattle libraries against the unchanged Rust: evaluations, hazards that double, sampler, engine; the nearest root beside
-//! the processor's, and the rate for a wait beside a model.
+//! `bench` times the Rattle libraries against the unchanged Rust: evaluations, sampler, engine; the nearest root beside the processor's,
+//! and the rate for a wait beside a model.
 //! `bench --engine`: the engine alone. `bench --compare SEED COUNT` compares their answers on random cases, `bench --orders SEED COUNT` on
 //! lists of records in several orders, `bench --rates SEED COUNT` the rates for random thresholds and waits with the model's.
 
@@ -7,7 +7,6 @@
 
 mod compare;
 mod describe;
-mod doubling_report;
 mod engine_report;
 mod engine_workloads;
 mod execute_report;
@@ -32,7 +31,6 @@ fn main() -> ExitCode {
     match words.as_slice() {
         [] => {
             report::print();
-            doubling_report::print();
             root_report::print();
             rate_report::print();
             engine_report::print();

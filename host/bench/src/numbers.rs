@@ -94,11 +94,8 @@ pub struct Sides {
     fields: Fields,
 }
 
-/// Points, and a place for the value at each.
-pub type Side = fn(&Sides, &[(f64, f64)], &mut [f64]);
-
 /// Rust and Rattle checked, Rust and Rattle unchecked.
-pub const SIDES: [Side; 4] = [
+pub const SIDES: [fn(&Sides, &[(f64, f64)], &mut [f64]); 4] = [
     |s, points, out| each_point(CHECKED_RUST[s.operation], &s.hazard, points, out),
     |s, points, out| each_point(CHECKED_RATTLE[s.operation], &s.fields, points, out),
     |s, points, out| match &s.weibull {

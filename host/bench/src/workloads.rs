@@ -1,10 +1,8 @@
-//! What is timed: points and hazards for the evaluations, times and waits of a rate that doubles, causes and thresholds for the sampler,
-//! numbers for the root, pairs for the rate.
+//! What is timed: points and hazards for the evaluations, causes and thresholds for the sampler, numbers for the root, pairs for the rate.
 
 use cases::floats::{LARGEST_SUBNORMAL, SMALLEST, Style, positive, spread};
 use cases::radicands::below_short_square;
 use cases::random::Random;
-use reference::evaluation::{CUMULATIVE_HAZARD, HAZARD_AT, INVERT_CUMULATIVE_HAZARD};
 use reference::fields::LIMIT;
 use reference::hazard::{CONSTANT, GOMPERTZ, Hazard, WEIBULL};
 use reference::request::{Record, Request};
@@ -42,68 +40,6 @@ pub fn evaluations() -> [EvaluationWorkload; 4] {
 
 pub fn weibull() -> Hazard {
     Hazard::single_rate(WEIBULL, 3.0)
-}
-
-/// Steps of length 1/32.
-pub fn doubling() -> Hazard {
-    Hazard::doubling(0.3, 8.0)
-}
-
-/// So few, since each may take 2,048 steps.
-pub const DOUBLING_POINTS: usize = 256;
-
-pub struct DoublingWorkload {
-    pub operation: u8,
-    pub name: &'static str,
-    pub points: Vec<(f64, f64)>,
-}
-
-/// Each evaluation at times of each sort; inversions from 0 to them and from them.
-pub fn doublings() -> Vec<DoublingWorkload> {
-    let sorts = [
-        ("spread", 0.0, 64.0),
-        ("early", 0.0, 0.5),
-        ("past", 64.0, 128.0),
-    ];
-    let curve = doubling().build();
-    let mut all = Vec::new();
-    for operation in [HAZARD_AT, CUMULATIVE_HAZARD, INVERT_CUMULATIVE_HAZARD] {
-        for (name, from, to) in sorts {
-            let from_zero = |t: f64| (0.0, curve.cumulative_hazard(t));
-            let times = times_between(from, to);
-            let points = match operation {
-                INVERT_CUMULATIVE_HAZARD => times.into_iter().map(from_zero).collect(),
-                _ => times.into_iter().map(|t| (t, 0.0)).collect(),
-            };
-            all.push(DoublingWorkload {
-                operation,
-                name,
-                points,
-            });
-        }
-    }
-    for (name, (_, from, to)) in ["spread ages", "early ages", "past ages"]
-        .into_iter()
-        .zip(sorts)
-    {
-        let half_a_step = |t: f64| (t, curve.hazard_at(t) / 64.0);
-        all.push(DoublingWorkload {
-            operation: INVERT_CUMULATIVE_HAZARD,
-            name,
-            points: times_between(from, to)
-                .into_iter()
-                .map(half_a_step)
-                .collect(),
-        });
-    }
-    all
-}
-
-fn times_between(from: f64, to: f64) -> Vec<f64> {
-    let mut random = Random::new(SEED);
-    let part = || random.below(1 << 53) as f64 / (1u64 << 53) as f64;
-    let parts = std::iter::repeat_with(part).take(DOUBLING_POINTS);
-    parts.map(|part| from + part * (to - from)).collect()
 }
 
 /// Times and w of moderate size, reaching every piece.

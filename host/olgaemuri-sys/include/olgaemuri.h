@@ -102,16 +102,6 @@ enum olgaemuri_tie {
     OLGAEMURI_EXPLICIT_PRIORITY = 2 /* the higher priority, then the lower cause */
 };
 
-/* The kind of a hazard. */
-enum olgaemuri_kind {
-    OLGAEMURI_ZERO = 0,
-    OLGAEMURI_CONSTANT = 1,
-    OLGAEMURI_GOMPERTZ = 2,           /* with b = 0 */
-    OLGAEMURI_PIECEWISE_CONSTANT = 3,
-    OLGAEMURI_WEIBULL = 4,            /* with shape 2 */
-    OLGAEMURI_DOUBLING = 5            /* a rate that doubles */
-};
-
 /* The number of an answer and the number that a call returns, up to 18; then the numbers, beside 0, that olgaemuri_rate_for_wait
    returns. A refused command changes nothing. */
 enum olgaemuri_refusal {
@@ -122,8 +112,8 @@ enum olgaemuri_refusal {
     OLGAEMURI_INVALID_CHOICE = 4,    /* policy, tie, kind or has-byte off its list, or an unused entity, censor or first not zero */
     OLGAEMURI_OUT_OF_RANGE = 5,      /* a time not from +0.0 to 2^40, a rate or scale not finite or above 2^40 in size, or a
                                         Weibull scale above 0 and below 2^-40 */
-    OLGAEMURI_INVALID_PAIRS = 6,     /* count above 8, count or pairs not zero where unused, ends not above 0, at most 2^40 and
-                                        strictly ascending, or a doubling time not from 2^-40 to 2^40 */
+    OLGAEMURI_INVALID_PAIRS = 6,     /* count above 8, count or pairs not zero where unused, or ends not above 0, at most 2^40
+                                        and strictly ascending */
     OLGAEMURI_INVALID_NAME = 7,      /* clock above 15, or the cause is OLGAEMURI_NO_CAUSE */
     OLGAEMURI_CLOCK_PRESENT = 8,     /* CREATE of a clock that is present */
     OLGAEMURI_CLOCK_ABSENT = 9,      /* another command on a clock that is absent */
@@ -254,11 +244,11 @@ struct olgaemuri_cause {
     uint32_t cause;         /* its number */
     uint32_t priority;      /* in ties; the higher one wins */
     uint64_t pairs;         /* how many pairs of its hazard are used */
-    double rate;            /* the hazard's own: nothing, the rate, eta, the rate after the last pair, the scale, the starting rate */
+    double rate;            /* the hazard's own: nothing, the rate, eta, the rate after the last pair, the scale */
     double accumulated;     /* how much hazard is used up, counted up to the interval's start */
     double threshold;       /* how much may be used up before the event comes */
     double interval_start;  /* the time from which hazard is not counted yet */
-    double ends[OLGAEMURI_PAIRS];  /* of OLGAEMURI_DOUBLING the first is the doubling time */
+    double ends[OLGAEMURI_PAIRS];
     double rates[OLGAEMURI_PAIRS];
 };
 
@@ -299,9 +289,8 @@ struct olgaemuri_answer {
     uint64_t ticks_low;  /* its time in ticks, a number of 128 bits */
     uint64_t ticks_high;
     uint8_t piece;       /* the piece of the cause's rate curve in which it falls: the pair used, counted from 0, or the number of
-                            pairs for the rate after the last; of a rate that doubles the step, counted from 0, where 255 is step 255
-                            or any piece after it. 0 for other hazards, for a threshold that is used up already, and where the event
-                            is censored */
+                            pairs for the rate after the last. 0 for hazards without pairs, for a threshold that is used up already,
+                            and where the event is censored */
 };
 
 /* The owner of a clock in the simulator; the engine only keeps it. */
@@ -312,11 +301,10 @@ struct olgaemuri_entity {
 
 /* A hazard. Unused fields are zero; the functions below see to it. */
 struct olgaemuri_hazard {
-    uint8_t kind;                /* enum olgaemuri_kind */
-    double first;                /* nothing, the rate, eta, the rate after the last pair, the scale, the starting rate */
-    uint8_t count;               /* how many pairs are used; 1 of OLGAEMURI_DOUBLING */
-    double end[OLGAEMURI_PAIRS]; /* until when a rate holds, counted from the start of the interval; of OLGAEMURI_DOUBLING the first
-                                    is the doubling time */
+    uint8_t kind;                /* 0 Zero, 1 Constant, 2 Gompertz with b = 0, 3 PiecewiseConstant, 4 Weibull with shape 2 */
+    double first;                /* nothing, the rate, eta, the rate after the last pair, the scale */
+    uint8_t count;               /* how many pairs are used */
+    double end[OLGAEMURI_PAIRS]; /* until when a rate holds, counted from the start of the interval */
     double rate[OLGAEMURI_PAIRS];
 };
 
@@ -366,7 +354,7 @@ static inline struct olgaemuri_hazard olgaemuri_zero(void)
 static inline struct olgaemuri_hazard olgaemuri_constant(double rate)
 {
     struct olgaemuri_hazard hazard = olgaemuri_zero();
-    hazard.kind = OLGAEMURI_CONSTANT;
+    hazard.kind = 1;
     hazard.first = rate;
     return hazard;
 }
@@ -375,7 +363,7 @@ static inline struct olgaemuri_hazard olgaemuri_constant(double rate)
 static inline struct olgaemuri_hazard olgaemuri_gompertz(double eta)
 {
     struct olgaemuri_hazard hazard = olgaemuri_constant(eta);
-    hazard.kind = OLGAEMURI_GOMPERTZ;
+    hazard.kind = 2;
     return hazard;
 }
 
@@ -383,7 +371,7 @@ static inline struct olgaemuri_hazard olgaemuri_gompertz(double eta)
 static inline struct olgaemuri_hazard olgaemuri_piecewise(const double *end, const double *rate, uint8_t count, double trailing)
 {
     struct olgaemuri_hazard hazard = olgaemuri_constant(trailing);
-    hazard.kind = OLGAEMURI_PIECEWISE_CONSTANT;
+    hazard.kind = 3;
     hazard.count = count;
     for (size_t i = 0; i < count && i < OLGAEMURI_PAIRS; i++) {
         hazard.end[i] = end[i];
@@ -397,19 +385,7 @@ static inline struct olgaemuri_hazard olgaemuri_piecewise(const double *end, con
 static inline struct olgaemuri_hazard olgaemuri_weibull(double scale)
 {
     struct olgaemuri_hazard hazard = olgaemuri_constant(scale);
-    hazard.kind = OLGAEMURI_WEIBULL;
-    return hazard;
-}
-
-/* A rate that doubles again and again, for hydraulic seals and the like: it is `rate` at first and grows by 256 steps to each
-   `doubling_time`, counted from the start of the interval; after eight doubling times it stays as it is in the last of these 2,048 steps. A
-   rate at most 0 is as olgaemuri_zero(); a doubling time that is not from 2^-40 to 2^40 is refused by 6. */
-static inline struct olgaemuri_hazard olgaemuri_doubling(double rate, double doubling_time)
-{
-    struct olgaemuri_hazard hazard = olgaemuri_constant(rate);
-    hazard.kind = OLGAEMURI_DOUBLING;
-    hazard.count = 1;
-    hazard.end[0] = doubling_time;
+    hazard.kind = 4;
     return hazard;
 }
 

@@ -87,7 +87,7 @@ pub struct Clock {
 pub struct Cause {
     /// Whether there is one.
     pub found: bool,
-    /// Its hazard's kind: 0 Zero, 1 Constant, 2 Gompertz with b = 0, 3 PiecewiseConstant, 4 Weibull with shape 2, 5 Doubling.
+    /// Its hazard's kind: 0 Zero, 1 Constant, 2 Gompertz with b = 0, 3 PiecewiseConstant, 4 Weibull with shape 2.
     pub kind: u8,
     /// Its number.
     pub cause: u32,
@@ -95,7 +95,7 @@ pub struct Cause {
     pub priority: u32,
     /// How many pairs of its hazard are used.
     pub pairs: u64,
-    /// The hazard's own rate: nothing, the rate, eta, the rate after the last pair, the starting rate; of Weibull the scale.
+    /// The hazard's own rate: nothing, the rate, eta, the rate after the last pair; of Weibull the scale.
     pub rate: f64,
     /// How much hazard is used up, counted up to the interval's start.
     pub accumulated: f64,

@@ -6,13 +6,12 @@ use compiled::{below, output};
 use std::process::Command;
 
 /// The programs below tests/c, and what each prints.
-const PROGRAMS: [(&str, &str); 6] = [
+const PROGRAMS: [(&str, &str); 5] = [
     ("engine", include_str!("c/engine.stdout")),
     ("session", include_str!("c/session.stdout")),
     ("rate", include_str!("c/rate.stdout")),
     ("wear", include_str!("c/wear.stdout")),
     ("pieces", include_str!("c/pieces.stdout")),
-    ("doubling", include_str!("c/doubling.stdout")),
 ];
 
 /// Compiles and runs each program.

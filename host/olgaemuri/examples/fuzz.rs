@@ -38,8 +38,8 @@ fn main() -> ExitCode {
 const WORDS: &str = "create set remove reschedule pause resume deliver undo thresholds journal machine cause raw from \
     machine=0 machine=\"press\" cause=1 cause=\"seal\" now=1 now=-0 now=0x7ff8000000000000 censor=4 priority=-3 policy=retain \
     policy=restart tie=priority scale=10 process=7 entity=1:2 hazard=zero hazard=constant hazard=piecewise hazard=gompertz \
-    hazard=weibull hazard=doubling every=1000 rate=0.5 eta=1e-3 pieces=1:2,3:4 then=0.25 \"press\" \"seal\" 0 1 2.5 1e400 inf 09 ff \
-    # = \" \\ : , é 漢 \u{1b} \u{202e} \u{feff} \t";
+    hazard=weibull rate=0.5 eta=1e-3 pieces=1:2,3:4 then=0.25 \"press\" \"seal\" 0 1 2.5 1e400 inf 09 ff # = \" \\ : , é 漢 \
+    \u{1b} \u{202e} \u{feff} \t";
 
 /// A text of words of the format and others, with letters put in between, or a written session with some changed.
 fn text(random: &mut Random) -> String {

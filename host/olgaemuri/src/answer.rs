@@ -26,12 +26,10 @@ pub struct Answer {
     /// The event's time in ticks.
     pub ticks: u128,
     /// The piece of its cause's rate curve in which the event falls. For [`Hazard::PiecewiseConstant`] it is the place of the pair
-    /// used, counted from 0, or the number of pairs where it is the rate after the last; for [`Hazard::Doubling`] the step, where 255
-    /// stands for step 255 and for every piece after it. [`Hazard::pieces`] has them in this order. It is 0 for other hazards, for a
-    /// cause whose threshold is used up already, and for a censored event.
+    /// used, counted from 0, or the number of pairs where it is the rate after the last; [`Hazard::pieces`] has them in this order.
+    /// It is 0 for other hazards, for a cause whose threshold is used up already, and for a censored event.
     ///
     /// [`Hazard::PiecewiseConstant`]: crate::Hazard::PiecewiseConstant
-    /// [`Hazard::Doubling`]: crate::Hazard::Doubling
     /// [`Hazard::pieces`]: crate::Hazard::pieces
     pub piece: u8,
 }

@@ -119,7 +119,7 @@ impl Clock {
             .causes
             .iter()
             .find(|cause| cause.number == answer.cause);
-        let struck = cause.and_then(|cause| cause.hazard.struck(answer.piece, answer.delta));
+        let struck = cause.and_then(|cause| cause.hazard.pieces().nth(usize::from(answer.piece)));
         answer.event.then_some(Pending {
             clock: self.number,
             ticks: answer.ticks,

@@ -171,11 +171,10 @@ fn write_entity(out: &mut Writer, entity: Option<Entity>) {
 
 /// Kind, first, now, count and the eight places for pairs.
 fn write_hazard(out: &mut Writer, hazard: &Hazard, now: f64) {
-    let pairs = hazard.written_pairs();
-    let count = u8::try_from(pairs.len()).unwrap_or(u8::MAX);
+    let count = u8::try_from(hazard.pairs().len()).unwrap_or(u8::MAX);
     out.u8(hazard.kind()).f64(hazard.first()).f64(now).u8(count);
     let blank = [Pair::default(); MAX_PAIRS];
-    for pair in pairs.iter().chain(&blank).take(MAX_PAIRS) {
+    for pair in hazard.pairs().iter().chain(&blank).take(MAX_PAIRS) {
         out.f64(pair.end).f64(pair.rate);
     }
 }

@@ -26,7 +26,7 @@ pub struct Pending {
     pub delta: f64,
     /// The piece of its cause's rate curve in which it falls, as [`Answer::piece`] has it.
     pub piece: u8,
-    /// That piece, where the cause's hazard has pieces; by the age at which it comes where `piece` is 255 and may be a later one.
+    /// That piece, where the cause's hazard is piecewise constant.
     pub struck: Option<Piece>,
 }
 

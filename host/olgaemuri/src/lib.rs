@@ -36,7 +36,6 @@ mod philox;
 mod rate_for_wait;
 mod refusal;
 mod session;
-mod steps;
 pub mod text;
 mod thresholds;
 

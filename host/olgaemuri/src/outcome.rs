@@ -28,9 +28,8 @@ pub struct Step {
 }
 
 impl Step {
-    /// The piece of the rate curve in which the event falls that was scheduled or delivered, where its cause's hazard had pieces when it
-    /// was scheduled. Where the answer's piece is 255, which stands for later steps of [`Hazard::Doubling`](crate::Hazard::Doubling)
-    /// too, the age at which the event comes decides; times are rounded, so it may be off by the steps that the rounding spans.
+    /// The piece of the rate curve in which the event falls that was scheduled or delivered, where its cause's hazard was piecewise
+    /// constant when it was scheduled.
     #[must_use]
     pub fn struck(&self) -> Option<Piece> {
         self.struck.as_deref().copied()

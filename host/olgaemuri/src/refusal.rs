@@ -20,8 +20,7 @@ pub enum Refusal {
     /// 5: a time is not from +0.0 to 2^40, a rate or scale is not finite or above 2^40 in size, or a Weibull scale is above 0 and
     /// below 2^-40.
     OutOfRange = 5,
-    /// 6: more than eight pairs, pairs where none are used, ends that are not above 0, at most 2^40 and strictly ascending, or a doubling
-    /// time that is not from 2^-40 to 2^40.
+    /// 6: more than eight pairs, pairs where none are used, or ends that are not above 0, at most 2^40 and strictly ascending.
     InvalidPairs = 6,
     /// 7: the clock is above 15, or the cause is [`NO_CAUSE`](crate::NO_CAUSE).
     InvalidName = 7,
@@ -111,7 +110,7 @@ impl Refusal {
                  and below 2^-40"
             }
             Self::InvalidPairs => {
-                "the pairs are not valid (at most eight, with ends above 0 that ascend), or a doubling time is not from 2^-40 to 2^40"
+                "the pairs are not valid: at most eight, with ends above 0 that ascend"
             }
             Self::InvalidName => {
                 "the clock's number is above 15, or the cause is the one kept for censored events"

@@ -1,8 +1,6 @@
 //! The C header's numbers are the ones of this crate.
 
-use olgaemuri::{
-    ANSWER_BYTES, CLOCKS, Command, Hazard, MAX_PAIRS, Pair, Policy, Refusal, Tie, width,
-};
+use olgaemuri::{ANSWER_BYTES, CLOCKS, Command, MAX_PAIRS, Policy, Refusal, Tie, width};
 
 const HEADER: &str = include_str!("../../olgaemuri-sys/include/olgaemuri.h");
 
@@ -52,28 +50,6 @@ fn choices() {
             number(&upper_case(&format!("{tie:?}"))),
             usize::from(tie.number())
         );
-    }
-}
-
-#[test]
-fn kinds() {
-    let piecewise = Hazard::PiecewiseConstant {
-        pairs: Vec::<Pair>::new(),
-        trailing: 1.0,
-    };
-    let doubling = Hazard::Doubling {
-        rate: 1.0,
-        doubling_time: 1.0,
-    };
-    for (name, hazard) in [
-        ("ZERO", Hazard::Zero),
-        ("CONSTANT", Hazard::Constant(1.0)),
-        ("GOMPERTZ", Hazard::Gompertz(1.0)),
-        ("PIECEWISE_CONSTANT", piecewise),
-        ("WEIBULL", Hazard::Weibull(1.0)),
-        ("DOUBLING", doubling),
-    ] {
-        assert_eq!(number(name), usize::from(hazard.kind()), "{name}");
     }
 }
 

@@ -87,30 +87,6 @@ fn layout_of_a_weibull_hazard() {
 }
 
 #[test]
-fn layout_of_a_doubling_hazard() {
-    let front = [2, 0, 1, 0, 0, 0, 0, 0, 0, 0, 5];
-    let half = 0.5_f64.to_le_bytes();
-    // starting rate, now, count 1, the doubling time as the first pair's end, and nothing else
-    let expected = [&front[..], &half, &TWO, &[1], &TWO, &[0; 120]].concat();
-    let bytes = common::set_doubling(1, 0.5, 2.0, 2.0).to_bytes();
-    assert_eq!(bytes, expected);
-    // every number is kept bit for bit, a NaN's too
-    for bits in [0, 1 << 63, 0x8000_0000_0000_0001, 0x7ff8_0000_0000_0001] {
-        let number = f64::from_bits(bits);
-        let bytes = common::set_doubling(1, number, number, 0.0).to_bytes();
-        let Ok(Command::Set { hazard, .. }) = Command::from_bytes(&bytes) else {
-            panic!("a command's own bytes");
-        };
-        let Hazard::Doubling { doubling_time, .. } = hazard else {
-            panic!("{hazard:?}");
-        };
-        assert_eq!((hazard.kind(), hazard.first().to_bits()), (5, bits));
-        assert_eq!(doubling_time.to_bits(), bits);
-        assert_eq!(hazard.pairs(), []);
-    }
-}
-
-#[test]
 fn layout_of_the_others() {
     let resume = Command::Resume {
         clock: 2,
@@ -182,7 +158,7 @@ fn choices_that_no_command_has() {
         [(10, 2), (11, 3), (20, 2), (21, 1), (32, 1)].map(|(at, byte)| changed(&create, at, byte));
     let censors = [(10, 2), (11, 1), (18, 0x80)].map(|(at, byte)| changed(&reschedule, at, byte));
     let kinds =
-        [(10, 6), (10, 255), (11, 1), (18, 0x80)].map(|(at, byte)| changed(&zero, at, byte));
+        [(10, 5), (10, 255), (11, 1), (18, 0x80)].map(|(at, byte)| changed(&zero, at, byte));
     for read in choices.into_iter().chain(censors).chain(kinds) {
         assert_eq!(read, Err(Refusal::InvalidChoice));
     }
@@ -192,16 +168,11 @@ fn choices_that_no_command_has() {
 fn pairs_that_no_command_has() {
     let constant = set_to(Hazard::Constant(0.5));
     let wear = set_to(Hazard::Weibull(400.0));
-    let seal = set_to(Hazard::Doubling {
-        rate: 0.0004,
-        doubling_time: 1000.0,
-    });
     let piecewise = set_to(Hazard::PiecewiseConstant {
         pairs: vec![],
         trailing: 0.0,
     });
-    // count of kinds 1 and 4, a pair of theirs, the last pair's sign bit; of kind 5 the count, bits of the first pair's rate, another
-    // pair; count above 8 of kind 3
+    // count of kinds 1 and 4, a pair of theirs, the last pair's sign bit, count above 8 of kind 3
     for read in [
         changed(&constant, 27, 1),
         changed(&constant, 28, 1),
@@ -209,12 +180,6 @@ fn pairs_that_no_command_has() {
         changed(&wear, 27, 1),
         changed(&wear, 28, 1),
         changed(&wear, 155, 0x80),
-        changed(&seal, 27, 0),
-        changed(&seal, 27, 2),
-        changed(&seal, 36, 1),
-        changed(&seal, 43, 0x80),
-        changed(&seal, 44, 1),
-        changed(&seal, 155, 0x80),
         changed(&piecewise, 27, 9),
     ] {
         assert_eq!(read, Err(Refusal::InvalidPairs));

@@ -249,7 +249,7 @@ fn every_event_lies_in_its_piece() {
         {
             let (answer, clock) = (applied.answer, usize::from(applied.clock));
             let number = applied.struck.map_or(0, |piece| piece.number);
-            assert_eq!(u16::from(answer.piece), number.min(255), "{answer}");
+            assert_eq!(answer.piece, number, "{answer}");
             if *applied.command == Command::Deliver {
                 assert_eq!(queued[clock].take(), Some(applied.struck));
                 continue;

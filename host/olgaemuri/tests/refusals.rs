@@ -3,9 +3,7 @@
 
 mod common;
 
-use common::{
-    Random, any_command, create, likely_session, reschedule, row_9, set, set_doubling, set_wear,
-};
+use common::{Random, any_command, create, likely_session, reschedule, row_9, set, set_wear};
 use olgaemuri::{Answer, Command, Hazard, NO_CAUSE, Pair, Policy, Refusal, Session};
 use std::error::Error;
 
@@ -80,7 +78,7 @@ fn by_4_a_choice_off_its_list() {
     let mut bytes = reschedule(0.0).to_bytes();
     bytes[11] = 1;
     refuses_raw(&row_9(), &bytes, Refusal::InvalidChoice);
-    for kind in [6, 7, 255] {
+    for kind in [5, 6, 255] {
         let mut bytes = set_wear(1, 400.0, 0.0).to_bytes();
         bytes[10] = kind;
         refuses_raw(&row_9(), &bytes, Refusal::InvalidChoice);
@@ -150,88 +148,6 @@ fn by_6_wear_with_pairs() {
         bytes[11..19].copy_from_slice(&LEAST.next_down().to_le_bytes());
         refuses_raw(&row_9(), &bytes, Refusal::OutOfRange);
     }
-}
-
-/// Of kind 5 refusal 5 looks at the starting rate alone.
-#[test]
-fn by_5_a_starting_rate() {
-    let most = 2f64.powi(40).next_up();
-    for rate in [
-        most,
-        -most,
-        f64::MAX,
-        f64::INFINITY,
-        f64::NEG_INFINITY,
-        f64::NAN,
-    ] {
-        for doubling_time in [1000.0, 0.0, f64::NAN] {
-            let seal = set_doubling(1, rate, doubling_time, 0.0);
-            refuses(&row_9(), seal, Refusal::OutOfRange);
-        }
-    }
-}
-
-#[test]
-fn by_6_a_doubling_time() {
-    let (least, most) = (LEAST, 2f64.powi(40));
-    let others = [
-        0.0,
-        -0.0,
-        f64::from_bits(1),
-        -1000.0,
-        f64::MAX,
-        f64::INFINITY,
-        f64::NEG_INFINITY,
-        f64::NAN,
-        -f64::NAN,
-    ];
-    for doubling_time in [least.next_down(), most.next_up()]
-        .into_iter()
-        .chain(others)
-    {
-        for rate in [0.0004, 0.0, -1.0] {
-            let seal = set_doubling(1, rate, doubling_time, 0.0);
-            refuses(&row_9(), seal, Refusal::InvalidPairs);
-        }
-    }
-    for doubling_time in [least, 1000.0, most] {
-        for rate in [most, 5e-324, 0.0, -0.0, -most] {
-            let mut session = row_9();
-            session.push(set_doubling(2, rate, doubling_time, 0.0));
-            let run = session.run();
-            assert!(run.steps.last().expect("answered").applied);
-            let kept = &run.clocks[0].causes[1].hazard;
-            assert_eq!((kept.kind(), kept.first().to_bits()), (5, rate.to_bits()));
-        }
-    }
-}
-
-/// Counts other than 1, bits of the pair's rate, bits of the other pairs.
-#[test]
-fn by_6_a_doubling_rate_with_other_fields() {
-    let fields = [
-        (27, 0),
-        (27, 2),
-        (27, 8),
-        (27, 9),
-        (27, 255),
-        (36, 1),
-        (43, 0x80),
-        (44, 1),
-        (155, 0x80),
-    ];
-    for (at, byte) in fields {
-        let mut bytes = set_doubling(1, 0.0004, 1000.0, 0.0).to_bytes();
-        bytes[at] = byte;
-        refuses_raw(&row_9(), &bytes, Refusal::InvalidPairs);
-        // 5 comes first
-        bytes[11..19].copy_from_slice(&f64::NAN.to_le_bytes());
-        refuses_raw(&row_9(), &bytes, Refusal::OutOfRange);
-    }
-    // a rate of the pair that is no number is no 5
-    let mut bytes = set_doubling(1, 0.0004, 1000.0, 0.0).to_bytes();
-    bytes[36..44].copy_from_slice(&f64::NAN.to_le_bytes());
-    refuses_raw(&row_9(), &bytes, Refusal::InvalidPairs);
 }
 
 #[test]

@@ -27,7 +27,7 @@ from .choices import Policy, Refusal, Tie
 from .commands import Command, Create, Deliver, Pause, Raw, Remove, Reschedule, Resume, Set, Undo, split
 from .container import load, loads
 from .engine import CauseState, ClockState, Engine, Request
-from .hazards import Constant, Doubling, Gompertz, Hazard, Pair, PiecewiseConstant, Weibull, Zero
+from .hazards import Constant, Gompertz, Hazard, Pair, PiecewiseConstant, Weibull, Zero
 from .layout import ANSWER_BYTES, CLOCKS, MAX_CAUSES, MAX_PAIRS, NO_CAUSE
 from .ledger import Event
 from .rates import rate_for_wait
@@ -35,8 +35,8 @@ from .refused import Refused
 from .session import NothingToRedo, Session
 
 __all__ = [
-    "ANSWER_BYTES", "Answer", "CLOCKS", "CauseState", "ClockState", "Command", "Constant", "Create", "Deliver", "Doubling", "Engine",
-    "Event", "Gompertz", "Hazard", "MAX_CAUSES", "MAX_PAIRS", "NO_CAUSE", "NothingToRedo", "Outcome", "Pair", "Pause",
-    "PiecewiseConstant", "Policy", "Raw", "Refusal", "Refused", "Remove", "Request", "Reschedule", "Resume", "Session", "Set", "Step",
-    "Tie", "Undo", "Weibull", "Zero", "load", "loads", "rate_for_wait", "run", "split",
+    "ANSWER_BYTES", "Answer", "CLOCKS", "CauseState", "ClockState", "Command", "Constant", "Create", "Deliver", "Engine", "Event",
+    "Gompertz", "Hazard", "MAX_CAUSES", "MAX_PAIRS", "NO_CAUSE", "NothingToRedo", "Outcome", "Pair", "Pause", "PiecewiseConstant",
+    "Policy", "Raw", "Refusal", "Refused", "Remove", "Request", "Reschedule", "Resume", "Session", "Set", "Step", "Tie", "Undo",
+    "Weibull", "Zero", "load", "loads", "rate_for_wait", "run", "split",
 ]

@@ -20,8 +20,7 @@ class Answer:
     cause: int = 0
     delta: float = 0.0  # how long after the command's time it comes; for Deliver, after the time at which it was scheduled
     ticks: int = 0
-    piece: int = 0  # of its cause's rate curve in which it falls: pairs from 0, then the trailing rate; steps of Doubling up to 254, 255
-    # for all later ones; else 0
+    piece: int = 0  # of its cause's rate curve in which it falls: pairs from 0, then the trailing rate; else 0
 
     @property
     def number(self) -> int:

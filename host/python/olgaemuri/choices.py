@@ -55,8 +55,7 @@ _MEANINGS = {
     Refusal.INVALID_CHOICE: "a choice is off its list, or an unused field is not zero",
     Refusal.OUT_OF_RANGE: "a time is not from +0.0 to 2^40, a rate or scale is not finite or above 2^40 in size, or a Weibull scale is "
     "above 0 and below 2^-40",
-    Refusal.INVALID_PAIRS: "the pairs are not valid (at most eight, with ends above 0 that ascend), or a doubling time is not from 2^-40 "
-    "to 2^40",
+    Refusal.INVALID_PAIRS: "the pairs are not valid: at most eight, with ends above 0 that ascend",
     Refusal.INVALID_NAME: "the clock's number is above 15, or the cause is the one kept for censored events",
     Refusal.CLOCK_PRESENT: "the clock is there already",
     Refusal.CLOCK_ABSENT: "the clock has not been created",

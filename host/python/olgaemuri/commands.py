@@ -75,9 +75,9 @@ class Set(_Command):
     code = layout.SET
 
     def __post_init__(self):
-        kinds = (hazards.Zero, hazards.Constant, hazards.Gompertz, hazards.PiecewiseConstant, hazards.Weibull, hazards.Doubling)
+        kinds = (hazards.Zero, hazards.Constant, hazards.Gompertz, hazards.PiecewiseConstant, hazards.Weibull)
         if not isinstance(self.hazard, kinds):
-            raise TypeError(f"a hazard is Zero, Constant, Gompertz, PiecewiseConstant, Weibull or Doubling, not {self.hazard!r}")
+            raise TypeError(f"a hazard is Zero, Constant, Gompertz, PiecewiseConstant or Weibull, not {self.hazard!r}")
 
     def operands(self) -> bytes:
         kind, first, pairs = hazards.to_fields(self.hazard)

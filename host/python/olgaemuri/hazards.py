@@ -57,20 +57,7 @@ class Weibull:
     scale: float
 
 
-@dataclass(frozen=True)
-class Doubling:
-    """A rate that doubles again and again, for hydraulic seals and the like.
-
-    It is ``rate`` at first and grows by 256 steps to each ``doubling_time``, counted from the start of the interval; after
-    eight doubling times it stays as it is in the last of these 2,048 steps. A rate at most 0 is as Zero; a doubling time
-    that is not from 2^-40 to 2^40 is refused by 6.
-    """
-
-    rate: float
-    doubling_time: float
-
-
-Hazard = Union[Zero, Constant, Gompertz, PiecewiseConstant, Weibull, Doubling]
+Hazard = Union[Zero, Constant, Gompertz, PiecewiseConstant, Weibull]
 
 
 def to_fields(hazard: Hazard) -> tuple[int, float, Sequence[Pair]]:
@@ -83,21 +70,17 @@ def to_fields(hazard: Hazard) -> tuple[int, float, Sequence[Pair]]:
         return 2, hazard.eta, ()
     if isinstance(hazard, Weibull):
         return 4, hazard.scale, ()
-    if isinstance(hazard, Doubling):
-        return 5, hazard.rate, (Pair(hazard.doubling_time, 0.0),)
     return 3, hazard.trailing, hazard.pairs
 
 
 def from_fields(kind: int, first: float, count: int, pairs: Sequence[Pair]) -> Hazard:
     """The hazard with these fields. ValueError where no hazard has them; the engine refuses such fields by 4 or 6."""
-    used = {3: min(count, MAX_PAIRS), 5: 1}.get(kind, 0)
-    unused = [value for pair in pairs[used:] for value in pair] + ([pairs[0].rate] if kind == 5 else [])
-    if kind > 5 or count != used or not all(map(_is_blank, unused)) or (kind == 0 and not _is_blank(first)):
+    used = min(count, MAX_PAIRS) if kind == 3 else 0
+    blank = all(_is_blank(value) for pair in pairs[used:] for value in pair)
+    if kind > 4 or count != used or not blank or (kind == 0 and not _is_blank(first)):
         raise ValueError("no hazard has these fields")
     if kind == 3:
         return PiecewiseConstant(pairs[:used], first)
-    if kind == 5:
-        return Doubling(first, pairs[0].end)
     return Zero() if kind == 0 else {1: Constant, 2: Gompertz, 4: Weibull}[kind](first)
 
 

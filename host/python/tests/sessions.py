@@ -1,14 +1,8 @@
-"""One press to begin with, random commands from a seed, and the float below another."""
+"""One press to begin with, and random commands from a seed."""
 
 import random
-import struct
 
 import olgaemuri as om
-
-
-def below(value):
-    """The float just below one above 0."""
-    return struct.unpack("<d", struct.pack("<Q", struct.unpack("<Q", struct.pack("<d", value))[0] - 1))[0]
 
 
 def press(policy=om.Policy.RETAIN_RESIDUAL, tie=om.Tie.LOWEST_CAUSE):
@@ -29,8 +23,7 @@ def row_9():
 def _hazard(source):
     rate = source.randrange(5) / 4
     pairs = [(float(end), rate) for end in range(1, source.randrange(1, 10))]
-    plain = [om.Zero(), om.Constant(rate), om.Gompertz(rate), om.Weibull(4 * rate), om.Doubling(rate, 4.0)]
-    return source.choice([*plain, om.PiecewiseConstant(pairs, 0.5)])
+    return source.choice([om.Zero(), om.Constant(rate), om.Gompertz(rate), om.PiecewiseConstant(pairs, 0.5), om.Weibull(4 * rate)])
 
 
 def likely_command(source: random.Random):

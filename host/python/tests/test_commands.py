@@ -27,16 +27,7 @@ class Bytes(unittest.TestCase):
     def test_places_of_wear(self):
         bytes_ = om.Set(clock=0, cause=1, hazard=om.Weibull(400.0), now=0.0).to_bytes()
         self.assertEqual((bytes_[10], bytes_[11:19], bytes_[19:]), (4, bytes.fromhex("0000000000007940"), bytes(137)))
-        for at, byte in [(10, 6), (27, 1), (28, 1), (155, 0x80)]:
-            changed = bytes_[:at] + bytes([byte]) + bytes_[at + 1:]
-            self.assertEqual(list(om.split(changed)), [om.Raw(changed)])
-
-    def test_places_of_a_doubling_rate(self):
-        bytes_ = om.Set(clock=0, cause=1, hazard=om.Doubling(0.5, 400.0), now=0.0).to_bytes()
-        half, end = bytes.fromhex("000000000000e03f"), bytes.fromhex("0000000000007940")
-        self.assertEqual(bytes_[10:], bytes([5]) + half + bytes(8) + bytes([1]) + end + bytes(120))
-        self.assertEqual([command.hazard for command in om.split(bytes_)], [om.Doubling(0.5, 400.0)])
-        for at, byte in [(10, 6), (27, 0), (27, 2), (36, 1), (43, 0x80), (44, 1), (155, 0x80)]:
+        for at, byte in [(10, 5), (27, 1), (28, 1), (155, 0x80)]:
             changed = bytes_[:at] + bytes([byte]) + bytes_[at + 1:]
             self.assertEqual(list(om.split(changed)), [om.Raw(changed)])
 
@@ -46,8 +37,8 @@ class Bytes(unittest.TestCase):
                 command.to_bytes()
 
     def test_what_is_no_hazard(self):
-        for wrong in [7, None, 0.5, om.Constant, om.Doubling]:
-            with self.assertRaisesRegex(TypeError, "a hazard is Zero, Constant, Gompertz, PiecewiseConstant, Weibull or Doubling, not"):
+        for wrong in [7, None, 0.5, om.Constant, om.Weibull]:
+            with self.assertRaisesRegex(TypeError, "a hazard is Zero, Constant, Gompertz, PiecewiseConstant or Weibull, not"):
                 om.Set(clock=0, cause=1, hazard=wrong, now=0.0)
 
     def test_bytes_that_no_command_has(self):

@@ -97,7 +97,7 @@ class Refusals(unittest.TestCase):
 class Examples(unittest.TestCase):
     @unittest.skipIf(command_line() is None, "the command line is not built")
     def test_beside_the_command_line(self):
-        for name, breakdowns in [("press-shop", 12), ("guide-rails", 3), ("punch-life", 7), ("hydraulic-seal", 5)]:
+        for name, breakdowns in [("press-shop", 12), ("guide-rails", 3), ("punch-life", 7)]:
             with tempfile.TemporaryDirectory() as folder:
                 file = Path(folder) / "example.bytes"
                 session = str(ROOT / f"examples/{name}.session")

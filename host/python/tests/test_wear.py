@@ -6,7 +6,7 @@ import struct
 import unittest
 
 import olgaemuri as om
-from tests.sessions import below, press, set_rate
+from tests.sessions import press, set_rate
 
 LEAST, MOST = 2.0**-40, 2.0**40
 
@@ -14,6 +14,11 @@ LEAST, MOST = 2.0**-40, 2.0**40
 def rails(scale, now=0.0):
     """SET on clock 0 of a cause that wears."""
     return om.Set(clock=0, cause=1, hazard=om.Weibull(scale), now=now)
+
+
+def below(value):
+    """The float just below one above 0."""
+    return struct.unpack("<d", struct.pack("<Q", struct.unpack("<Q", struct.pack("<d", value))[0] - 1))[0]
 
 
 class Wear(unittest.TestCase):
@@ -52,7 +57,7 @@ class Wear(unittest.TestCase):
             self.assertRegex(str(caught.exception), r"a Weibull scale is above 0 and below 2\^-40$")
         for scale in [LEAST, MOST]:
             self.assertIsNone(om.run([press(), rails(scale)], [1.0]).answers[1].refusal)
-        for at, byte, number in [(10, 6, 4), (27, 1, 6), (28, 1, 6), (155, 0x80, 6)]:
+        for at, byte, number in [(10, 5, 4), (27, 1, 6), (28, 1, 6), (155, 0x80, 6)]:
             command = bytearray(rails(400.0).to_bytes())
             command[at] = byte
             self.assertEqual(om.run(press().to_bytes() + bytes(command), [1.0]).answers[1].number, number)

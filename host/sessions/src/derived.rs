@@ -3,11 +3,10 @@
 
 use cases::sessions::{Session, Step};
 use kairo_ecs_des::{HazardChannelState, SurvivalClock};
-use kairo_ecs_rng::UnchangedHazard;
 use kairo_ecs_types::EventKind;
 use olgaemuri::{Cause, Clock, Command, Outcome, thresholds_from_bytes};
 use reference::choices::{POLICIES, TIES};
-use reference::hazard::{DOUBLING, Hazard};
+use reference::hazard::{Hazard, PIECEWISE};
 use reference::state::State;
 
 /// The first of these that differs, in words.
@@ -102,21 +101,16 @@ fn same_clock(clock: &Clock, other: &SurvivalClock) -> bool {
 fn same_cause(cause: &Cause, channel: &HazardChannelState) -> bool {
     let hazard = Hazard::of(&channel.hazard).expect("a hazard that is carried");
     let used = &hazard.pairs[..usize::from(hazard.count)];
+    let pairs = cause
+        .hazard
+        .pairs()
+        .iter()
+        .flat_map(|pair| [pair.end, pair.rate]);
     cause.number == channel.cause_id.0
         && cause.priority == channel.priority
         && cause.hazard.kind() == hazard.kind
         && cause.hazard.first().to_bits() == hazard.first.to_bits()
-        && pairs(&cause.hazard)
-            .into_iter()
-            .eq(used.iter().map(|pair| (pair.end, pair.rate)))
-}
-
-/// As they stand in SET: of kind 5 the doubling time.
-fn pairs(hazard: &olgaemuri::Hazard) -> Vec<(f64, f64)> {
-    match hazard {
-        olgaemuri::Hazard::Doubling { doubling_time, .. } => vec![(*doubling_time, 0.0)],
-        _ => hazard.pairs().iter().map(|p| (p.end, p.rate)).collect(),
-    }
+        && pairs.eq(used.iter().flat_map(|pair| [pair.end, pair.rate]))
 }
 
 /// Each accepted DELIVER, undone or not, takes the event of the clock that comes next in the oracle's queue.
@@ -139,30 +133,16 @@ fn same_struck(run: &Outcome, steps: &[Step]) -> bool {
     })
 }
 
-/// The piece that the oracle answers, of the curve of the winner's channel. Of kind 5 an answer of 255 stands for later ones too: there it
-/// is the first from 255 on that ends at the event's age or after it.
-fn struck_piece(step: &Step) -> Option<(u16, Option<f64>, f64)> {
+/// The piece that the oracle answers, of the curve of the winner's channel.
+fn struck_piece(step: &Step) -> Option<(u8, Option<f64>, f64)> {
     let name = step.command.as_ref()?.clock()?;
     let clock = step.before.clocks[usize::from(name)].as_ref()?;
     let mut channels = clock.channels.values();
     let winner = channels.find(|channel| channel.cause_id.0 == step.answer.cause)?;
-    let UnchangedHazard::PiecewiseConstant {
-        intervals,
-        trailing_rate,
-    } = winner.hazard.unchanged()?
-    else {
-        return None;
-    };
-    let mut number = usize::from(step.answer.piece);
-    if number == LAST_TOLD && Hazard::of(&winner.hazard)?.kind == DOUBLING {
-        let later = intervals[LAST_TOLD..].iter();
-        number += later.filter(|(end, _)| *end < step.answer.delta).count();
-    }
-    let pair = intervals.get(number).copied();
-    let rate = pair.map_or(*trailing_rate, |(_, rate)| rate);
+    let hazard = Hazard::of(&winner.hazard).filter(|hazard| hazard.kind == PIECEWISE)?;
+    let number = step.answer.piece;
+    let pair = hazard.used().get(usize::from(number));
+    let rate = pair.map_or(hazard.first, |pair| pair.rate);
     let rate = if rate > 0.0 { rate } else { 0.0 };
-    Some((number as u16, pair.map(|(end, _)| end), rate))
+    Some((number, pair.map(|pair| pair.end), rate))
 }
-
-/// The largest piece that an answer holds.
-const LAST_TOLD: usize = 255;

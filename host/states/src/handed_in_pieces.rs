@@ -2,7 +2,7 @@
 //! uncensored winner, a censored one and none; and channels whose inversion finds no piece or another one.
 
 use crate::both::Both;
-use crate::handed_in::{at, set};
+use crate::handed_in::{self, at, set};
 use crate::layout::{Layout, Part};
 use crate::reading::{self, Reading};
 use crate::rows::Rows;
@@ -22,66 +22,51 @@ const CHANNEL: Part = Part::Channel(0, 0);
 const PIECES: [u64; 9] = [0, 1, 3, 8, 9, 255, 256, 1 << 32, u64::MAX];
 
 /// The part, name and bits of a field that is changed.
-pub type Change = (Part, &'static str, u64);
+type Change = (Part, &'static str, u64);
 
-/// Each list of commands given to each state, with what both sides answered. `place`: how many chosen states there are before.
-pub fn compare(layout: &Layout, place: &mut usize) -> Result<Refusals, String> {
+/// Each list of commands given to each state, with what both sides answered.
+pub fn compare(layout: &Layout) -> Result<Refusals, String> {
+    let stream: Vec<u8> = THRESHOLDS.into_iter().flat_map(f64::to_le_bytes).collect();
     let mut refusals = Refusals::default();
+    let mut place = handed_in::COUNT;
     for (commands, changes) in bases() {
-        let p = Hazard::piecewise(&[(2.0, 1.0), (5.0, 0.0)], 0.5);
-        let base = [&[set(p, 0.0)][..], &commands].concat();
-        compare_base(layout, place, &base, &changes, &lists(), &mut refusals)?;
+        let base = base(layout, &stream, &commands)?;
+        for change in changes {
+            place += 1;
+            let said = |words| format!("chosen state {place}, {change:?}: {words}");
+            let rows = changed(layout, &base, &change).map_err(said)?;
+            give(layout, &stream, &rows, &base.journal, &mut refusals).map_err(said)?;
+        }
     }
     Ok(refusals)
 }
 
-/// The same of one base: the changes of the state that CREATE and these commands leave.
-pub fn compare_base(
-    layout: &Layout,
-    place: &mut usize,
-    commands: &[Command],
-    changes: &[Vec<Change>],
-    lists: &[Vec<Command>],
-    refusals: &mut Refusals,
-) -> Result<(), String> {
-    let stream: Vec<u8> = THRESHOLDS.into_iter().flat_map(f64::to_le_bytes).collect();
-    let base = base(layout, &stream, commands)?;
-    for change in changes {
-        *place += 1;
-        let said = |words| format!("chosen state {place}, {change:?}: {words}");
-        let rows = changed(layout, &base, change).map_err(said)?;
-        for list in lists {
-            give(layout, &stream, &rows, &base.journal, list, refusals).map_err(said)?;
-        }
-    }
-    Ok(())
-}
-
-/// A list of commands to a state of the Rust; the first of them to other rows.
+/// Lists of commands to a state of the Rust; single commands to other rows.
 fn give(
     layout: &Layout,
     stream: &[u8],
     rows: &Rows,
     journal: &[u8],
-    commands: &[Command],
     refusals: &mut Refusals,
 ) -> Result<(), String> {
-    let said = |words| format!("{commands:?}: {words}");
-    if let Reading::Exact(state) = reading::read(layout, rows) {
-        let mut both = Both::with(layout, state, journal);
-        for command in commands {
-            let answer = both.give(layout, stream, &command.to_bytes());
-            refusals.count(answer.map_err(said)?[0]);
+    for commands in lists() {
+        let said = |words| format!("{commands:?}: {words}");
+        if let Reading::Exact(state) = reading::read(layout, rows) {
+            let mut both = Both::with(layout, state, journal);
+            for command in &commands {
+                let answer = both.give(layout, stream, &command.to_bytes());
+                refusals.count(answer.map_err(said)?[0]);
+            }
+        } else {
+            let mut tries = Tries {
+                layout,
+                stream,
+                random: &mut Random::new(0),
+                tally: &mut Tally::default(),
+            };
+            let number = tries.number(rows, journal, &commands[0].to_bytes());
+            refusals.count(number.map_err(said)?);
         }
-    } else {
-        let mut tries = Tries {
-            layout,
-            stream,
-            random: &mut Random::new(0),
-            tally: &mut Tally::default(),
-        };
-        let number = tries.number(rows, journal, &commands[0].to_bytes());
-        refusals.count(number.map_err(said)?);
     }
     Ok(())
 }
@@ -137,7 +122,7 @@ fn channels() -> Vec<Vec<Change>> {
     changes.map(with_piece).to_vec()
 }
 
-/// Both sides after CREATE and the commands, which are accepted.
+/// Both sides after CREATE, SET and the commands, which are accepted.
 fn base(layout: &Layout, stream: &[u8], commands: &[Command]) -> Result<Both, String> {
     let mut both = Both::open(JOURNAL);
     let create = Command::Create(Create {
@@ -145,7 +130,8 @@ fn base(layout: &Layout, stream: &[u8], commands: &[Command]) -> Result<Both, St
         scale: 10.0,
         ..Create::default()
     });
-    for command in [create].iter().chain(commands) {
+    let set = set(Hazard::piecewise(&[(2.0, 1.0), (5.0, 0.0)], 0.5), 0.0);
+    for command in [create, set].iter().chain(commands) {
         let answer = both.give(layout, stream, &command.to_bytes());
         let said = |words| format!("chosen state 0: {words}");
         if answer.map_err(said)?[0] != 0 {
@@ -165,7 +151,7 @@ fn changed(layout: &Layout, base: &Both, change: &[Change]) -> Result<Rows, Stri
     Ok(rows)
 }
 
-pub fn censored(now: f64, censor: f64) -> Reschedule {
+fn censored(now: f64, censor: f64) -> Reschedule {
     Reschedule {
         has_censor: 1,
         censor,
@@ -173,7 +159,7 @@ pub fn censored(now: f64, censor: f64) -> Reschedule {
     }
 }
 
-pub fn pause(now: f64) -> Command {
+fn pause(now: f64) -> Command {
     Command::Pause { clock: 0, now }
 }
 

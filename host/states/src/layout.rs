@@ -3,7 +3,7 @@
 use olgaemuri_sys::{STATE_FLOAT_ROWS, STATE_WORD_ROWS};
 use reference::clock::CHANNELS;
 use reference::command_fields::CLOCKS;
-use reference::hazard::{DOUBLING, PAIRS};
+use reference::hazard::{PAIRS, WEIBULL};
 use reference::record::{SLOT_BYTES, SLOTS_AT};
 use reference::validation::QUEUE;
 
@@ -31,7 +31,7 @@ impl Kind {
 }
 
 /// The kind of a hazard; no other field has so many choices.
-pub const HAZARD_KIND: Kind = Kind::Choice(DOUBLING + 1);
+pub const HAZARD_KIND: Kind = Kind::Choice(WEIBULL + 1);
 
 /// A number of the rows: which row, and which of its eight.
 #[derive(Clone, Copy, Debug, PartialEq)]
@@ -186,16 +186,8 @@ const CLOCK_TAIL: [Row; 8] = [
 
 /// Pair `i` of a channel.
 fn pair(i: usize) -> [Row; 2] {
-    [float(ENDS[i], 1, i), float(RATES[i], 2, i)]
+    [float("end", 1, i), float("rate", 2, i)]
 }
-
-/// Names of the pairs' fields.
-pub const ENDS: [&str; PAIRS] = [
-    "end 0", "end 1", "end 2", "end 3", "end 4", "end 5", "end 6", "end 7",
-];
-pub const RATES: [&str; PAIRS] = [
-    "rate 0", "rate 1", "rate 2", "rate 3", "rate 4", "rate 5", "rate 6", "rate 7",
-];
 
 fn add(fields: &mut Vec<Field>, part: Part, rows: &[Row]) {
     let (words, floats) = part.rows();

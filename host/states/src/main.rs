@@ -10,7 +10,6 @@
 mod both;
 mod engine;
 mod handed_in;
-mod handed_in_doubling;
 mod handed_in_pieces;
 mod layout;
 mod reading;
@@ -57,11 +56,8 @@ fn main() -> ExitCode {
 fn compare_all(seed: u64, count: u64, each: u64) -> Result<Tally, String> {
     let layout = Layout::new();
     let mut handed_in = handed_in::compare(&layout)?;
-    let mut chosen = handed_in::COUNT;
-    handed_in.add(&handed_in_pieces::compare(&layout, &mut chosen)?);
-    handed_in.add(&handed_in_doubling::compare(&layout, &mut chosen)?);
+    handed_in.add(&handed_in_pieces::compare(&layout)?);
     let mut tally = Tally {
-        chosen,
         handed_in,
         ..Tally::default()
     };

@@ -117,7 +117,7 @@ mod tests {
         };
         let minus_zero = (-0.0f64).to_bits();
         assert!(with(Place::Word(0, 0), 1) && !with(Place::Word(0, 0), 2));
-        assert!(with(Place::Word(2, 2), 5) && !with(Place::Word(2, 2), 6));
+        assert!(with(Place::Word(2, 2), 4) && !with(Place::Word(2, 2), 5));
         assert!(with(Place::Word(161, 3), 0xFFFF_FFFF) && !with(Place::Word(161, 3), 1 << 32));
         assert!(with(Place::Word(1, 5), 255) && !with(Place::Word(1, 5), 256));
         assert!(!with(Place::Word(160, 4), 1) && !with(Place::Float(0, 3), minus_zero));

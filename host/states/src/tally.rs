@@ -39,8 +39,7 @@ impl Display for Refusals {
 
 #[derive(Default)]
 pub struct Tally {
-    /// The chosen states, and inputs to them.
-    pub chosen: usize,
+    /// Inputs to the chosen states.
     pub handed_in: Refusals,
     pub commands: u64,
     /// Inputs to states with another field or another applied bit, with any other number of the rows; UNDOs with each other number.
@@ -64,9 +63,8 @@ impl Tally {
 
 impl Display for Tally {
     fn fmt(&self, f: &mut Formatter<'_>) -> fmt::Result {
-        write!(f, "{} commands; inputs to {} ", self.commands, self.chosen)?;
-        write!(f, "chosen states {}; ", self.handed_in)?;
-        write!(f, "inputs to tampered states: ")?;
+        write!(f, "{} commands; inputs to chosen states ", self.commands)?;
+        write!(f, "{}; inputs to tampered states: ", self.handed_in)?;
         write!(f, "another field {}, ", self.fields)?;
         write!(f, "any other number {}, ", self.numbers)?;
         write!(f, "each number before UNDO {}; ", self.each)?;

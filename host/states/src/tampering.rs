@@ -30,14 +30,13 @@ const FLOATS: [f64; 17] = [
 ];
 
 /// Words around the bounds of flags, choices, counts, bytes and numbers of 8 and 32 bits.
-const WORDS: [u64; 22] = [
+const WORDS: [u64; 21] = [
     0,
     1,
     2,
     3,
     4,
     5,
-    6,
     7,
     8,
     9,

@@ -10,21 +10,20 @@
 enum { STACK_BYTES = 1 << 20, UNTOUCHED = 0x5a, ROOM = 1024, MANY = 16 };
 
 /* A list of commands, and the buffers of its run; none of them on the stack that is measured. */
-static uint8_t list[ROOM], stream[4 * OLGAEMURI_THRESHOLD_BYTES], journal[ROOM], answers[MANY * OLGAEMURI_ANSWER_BYTES];
+static uint8_t list[ROOM], stream[3 * OLGAEMURI_THRESHOLD_BYTES], journal[ROOM], answers[MANY * OLGAEMURI_ANSWER_BYTES];
 static uint8_t result[OLGAEMURI_RESULT_BYTES];
 static struct olgaemuri_state state;
 static size_t length;
 
-/* Every command once, with the four kinds of hazard that are evaluated differently; then UNDO again, which runs the others anew. */
+/* Every command once, with the three kinds of hazard that are evaluated differently; then UNDO again, which runs the others anew. */
 static void write_list(void)
 {
     const double end[] = {1, 2, 3, 4, 5, 6, 7, 8}, rate[] = {0.1, 0, 0.1, 0, 0.1, 0, 0.1, 0}, censor = 100.0;
-    olgaemuri_put_f64(olgaemuri_put_f64(olgaemuri_put_f64(olgaemuri_put_f64(stream, 2.0), 1.0), 3.0), 900.0);
+    olgaemuri_put_f64(olgaemuri_put_f64(olgaemuri_put_f64(stream, 2.0), 1.0), 3.0);
     length += olgaemuri_put_create(list + length, 0, 7, OLGAEMURI_RETAIN_RESIDUAL, OLGAEMURI_LOWEST_CAUSE, 10.0, NULL);
     length += olgaemuri_put_set(list + length, 0, 1, 0, olgaemuri_constant(0.5), 0.0);
     length += olgaemuri_put_set(list + length, 0, 2, 0, olgaemuri_piecewise(end, rate, 8, 0.1), 0.0);
     length += olgaemuri_put_set(list + length, 0, 3, 0, olgaemuri_weibull(7.0), 0.0);
-    length += olgaemuri_put_set(list + length, 0, 4, 0, olgaemuri_doubling(0.5, 1.0), 0.0);
     length += olgaemuri_put_reschedule(list + length, 0, 0.0, &censor, 0);
     length += olgaemuri_put_pause(list + length, 0, 1.0);
     length += olgaemuri_put_resume(list + length, 0, 3.0, &censor, 0);

@@ -98,7 +98,7 @@ static void refused(struct engine *e)
     hazard.rate[7] = -0.0;
     set(e, "a bit of a pair", HOSE, hazard, 0.0);
     hazard = olgaemuri_weibull(400.0);
-    hazard.kind = 6;
+    hazard.kind = 5;
     set(e, "no kind", HOSE, hazard, 0.0);
     print_causes(e);
 }

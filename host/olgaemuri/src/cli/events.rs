@@ -34,16 +34,14 @@ pub struct Event {
     pub priority: i32,
     /// Its place among the deliveries, or among the pending events in the order of delivery.
     pub place: Option<usize>,
-    /// The piece of its cause's rate curve in which it falls, where the hazard has pieces.
+    /// The piece of its cause's rate curve in which it falls, where the hazard is piecewise.
     pub struck: Option<Piece>,
 }
 
 impl Event {
-    /// The number of its piece as answers have it, 255 for 255 and for all later ones, and 0 for a hazard that has no pieces; none for
-    /// the end of observation.
+    /// The number of its piece, which is 0 for a hazard that has no pieces; none for the end of observation.
     pub fn piece(&self) -> Option<u8> {
         let number = self.struck.map_or(0, |piece| piece.number);
-        let number = u8::try_from(number).unwrap_or(u8::MAX);
         Some(number).filter(|_| !self.censored)
     }
 }

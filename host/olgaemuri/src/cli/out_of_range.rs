@@ -1,4 +1,4 @@
-//! Which operands refusal 5, or refusal 6 of a doubling time, is about. The engine only says the number; this tells it to a person.
+//! Which operands refusal 5 is about. The engine only says the number; this tells it to a person.
 
 use olgaemuri::text::float_text;
 use olgaemuri::{Command, Hazard};
@@ -33,20 +33,6 @@ pub fn out_of_range(command: &Command) -> String {
     let told = parts.iter().filter(|(bad, _)| !bad.is_empty());
     let told = told.map(|(bad, range)| format!("{}: {range}", bad.join(", ")));
     told.collect::<Vec<String>>().join("; ")
-}
-
-/// The doubling time of a command where it is out of its range, and what the range is; else nothing.
-pub fn bad_doubling_time(command: &Command) -> String {
-    match command {
-        Command::Set {
-            hazard: Hazard::Doubling { doubling_time, .. },
-            ..
-        } if !(1.0 / LIMIT..=LIMIT).contains(doubling_time) => {
-            let every = float_text(*doubling_time);
-            format!("every={every}: a doubling time is from 2^-40 to 2^40")
-        }
-        _ => String::new(),
-    }
 }
 
 fn is_time(value: f64) -> bool {
@@ -96,7 +82,7 @@ fn bad_rates(command: &Command) -> Vec<String> {
         return Vec::new();
     };
     let name = match hazard {
-        Hazard::Constant(_) | Hazard::Doubling { .. } => "rate",
+        Hazard::Constant(_) => "rate",
         Hazard::Gompertz(_) => "eta",
         // it has no rate
         Hazard::Weibull(_) => return Vec::new(),

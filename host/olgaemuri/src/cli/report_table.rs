@@ -159,7 +159,7 @@ fn summary(report: &Report) -> Vec<String> {
 
 /// The number of the piece in which a breakdown falls, where its cause's hazard has pieces.
 fn struck_cell(struck: Option<Piece>) -> String {
-    struck.as_ref().map_or(String::new(), wording::piece_number)
+    struck.map_or(String::new(), |piece| piece.number.to_string())
 }
 
 /// Pieces have a column where a breakdown falls in one, priorities where one of them is not 0.

@@ -1,6 +1,6 @@
 //! Commands and answers in a planner's words.
 
-use super::out_of_range::{bad_doubling_time, out_of_range};
+use super::out_of_range::out_of_range;
 use super::report::{Report, Row};
 use olgaemuri::text::{Names, columns, cut, float_text};
 use olgaemuri::{Command, Hazard, Input, Pair, Piece, Refusal, Step};
@@ -74,21 +74,9 @@ fn schedule_words(censor: Option<f64>, priority: i32) -> String {
     words.join(", ")
 }
 
-/// The number of a piece as the engine tells it: `255+` from 255 on.
-pub fn piece_number(piece: &Piece) -> String {
-    match u8::try_from(piece.number) {
-        Ok(number) if number < u8::MAX => number.to_string(),
-        _ => "255+".to_string(),
-    }
-}
-
-/// A piece of a rate curve: its number, its rate, and where it lies. From 255 on the number is told by the age.
+/// A piece of a rate curve: its number, its rate, and where it lies.
 pub fn piece_words(piece: &Piece) -> String {
-    let (rate, from) = (rounded(piece.rate), rounded(piece.from));
-    let number = match piece_number(piece).as_str() {
-        "255+" => format!("255+, by its age {}", piece.number),
-        number => number.to_string(),
-    };
+    let (number, rate, from) = (piece.number, rounded(piece.rate), rounded(piece.from));
     match piece.to.map(rounded) {
         Some(to) => format!("piece {number} (rate {rate} from {from} to {to})"),
         None => format!("piece {number} (rate {rate} from {from} on)"),
@@ -105,16 +93,6 @@ pub fn hazard_words(hazard: &Hazard) -> String {
             format!("{pieces}then {}", rounded(*trailing))
         }
         Hazard::Weibull(scale) => format!("weibull scale {}", rounded(*scale)),
-        Hazard::Doubling {
-            rate,
-            doubling_time,
-        } => {
-            format!(
-                "rate {} doubling every {}",
-                rounded(*rate),
-                rounded(*doubling_time)
-            )
-        }
         _ => "zero".to_string(),
     }
 }
@@ -149,15 +127,12 @@ pub fn meaning(refusal: Refusal) -> String {
     refusal.meaning().replace("clock", "machine")
 }
 
-/// Why a step was refused, if it was: what its refusal means, or for 5, and for 6 of a doubling time, which operands are out of range.
+/// Why a step was refused, if it was: what its refusal means, or for 5 which operands are out of range.
 pub fn why(step: &Step) -> Option<String> {
     let refusal = step.answer.refusal?;
-    let operands = step.input.command().map(|command| match refusal {
-        Refusal::OutOfRange => out_of_range(command),
-        Refusal::InvalidPairs => bad_doubling_time(command),
-        _ => String::new(),
-    });
-    let operands = operands.filter(|words| !words.is_empty());
+    let command = step.input.command();
+    let command = command.filter(|_| refusal == Refusal::OutOfRange);
+    let operands = command.map(out_of_range).filter(|words| !words.is_empty());
     Some(operands.unwrap_or_else(|| meaning(refusal)))
 }
 

@@ -32,7 +32,7 @@ fn every_kind_of_bad_line() {
         let expected = pair[1].trim_start().replace("FLOAT", FLOAT_FORMS);
         assert_eq!(reports(pair[0]), [format!("shop:1:{expected}")]);
     }
-    assert_eq!(lines.len() / 2, 75);
+    assert_eq!(lines.len() / 2, 66);
 }
 
 #[test]

@@ -21,7 +21,7 @@ pub(crate) const COMMANDS: [(&str, &[&str]); 8] = [
         "set",
         &[
             "machine", "cause", "priority", "now", "hazard", "rate", "eta", "pieces", "then",
-            "scale", "every",
+            "scale",
         ],
     ),
     ("remove", &["machine", "cause"]),
@@ -33,14 +33,7 @@ pub(crate) const COMMANDS: [(&str, &[&str]); 8] = [
 ];
 
 /// By the number of the kind.
-pub(crate) const HAZARDS: [&str; 6] = [
-    "zero",
-    "constant",
-    "gompertz",
-    "piecewise",
-    "weibull",
-    "doubling",
-];
+pub(crate) const HAZARDS: [&str; 5] = ["zero", "constant", "gompertz", "piecewise", "weibull"];
 
 /// The command of a line whose first word is a known one, and which of its operands are names.
 pub(crate) fn read_command(
@@ -150,11 +143,7 @@ fn set(operands: &mut Operands) -> Result<Command, Misplaced> {
                 .map_or(Ok(Vec::new()), |word| pieces(&word))?,
             trailing: operands.float("then")?,
         },
-        4 => Hazard::Weibull(operands.float("scale")?),
-        _ => Hazard::Doubling {
-            rate: operands.float("rate")?,
-            doubling_time: operands.float("every")?,
-        },
+        _ => Hazard::Weibull(operands.float("scale")?),
     };
     operands.finish(&format!("hazard={}", HAZARDS[kind]))?;
     Ok(Command::Set {

@@ -69,19 +69,14 @@ impl Random {
     }
 
     fn set(&mut self) -> Vec<u8> {
-        let kind = self.below(6);
+        let kind = self.below(5);
         let mut bytes = self.next().to_le_bytes().to_vec();
         bytes.extend([0, kind as u8]);
         bytes.extend(if kind == 0 { [0; 8] } else { self.float() });
         bytes.extend(self.float());
-        let (count, floats) = match kind {
-            3 => (self.below(9), 16),
-            // the doubling time alone
-            5 => (1, 1),
-            _ => (0, 0),
-        };
+        let count = if kind == 3 { self.below(9) } else { 0 };
         bytes.push(count as u8);
-        for _ in 0..floats.min(2 * count) {
+        for _ in 0..2 * count {
             bytes.extend(self.float());
         }
         bytes.resize(155, 0);

@@ -193,10 +193,6 @@ impl Display for Hazard {
                 write!(f, " then={first}")
             }
             Self::Weibull(_) => write!(f, "hazard={kind} scale={first}"),
-            Self::Doubling { doubling_time, .. } => {
-                let every = float_text(*doubling_time);
-                write!(f, "hazard={kind} rate={first} every={every}")
-            }
         }
     }
 }

@@ -99,15 +99,11 @@ fn any_create(random: &mut Random) -> Command {
 }
 
 fn any_hazard(random: &mut Random) -> Hazard {
-    match random.below(7) {
+    match random.below(6) {
         0 => Hazard::Zero,
         1 => Hazard::Constant(random.any_float()),
         2 => Hazard::Gompertz(random.any_float()),
         3 => Hazard::Weibull(random.any_float()),
-        4 => Hazard::Doubling {
-            rate: random.any_float(),
-            doubling_time: random.any_float(),
-        },
         _ => {
             let pair = |random: &mut Random| Pair {
                 end: random.any_float(),
@@ -165,15 +161,11 @@ pub fn likely_command(random: &mut Random) -> Command {
 
 fn likely_hazard(random: &mut Random) -> Hazard {
     let rate = random.below(5) as f64 / 4.0;
-    match random.below(6) {
+    match random.below(5) {
         0 => Hazard::Zero,
         1 => Hazard::Constant(rate),
         2 => Hazard::Gompertz(rate),
         3 => Hazard::Weibull(4.0 * rate),
-        4 => Hazard::Doubling {
-            rate,
-            doubling_time: 1.0 + random.below(4) as f64,
-        },
         _ => {
             let pairs = (1..=random.below(9)).map(|end| Pair {
                 end: end as f64,
@@ -249,20 +241,6 @@ pub fn set_wear(cause: u32, scale: f64, now: f64) -> Command {
         cause,
         priority: 0,
         hazard: Hazard::Weibull(scale),
-        now,
-    }
-}
-
-/// SET on clock 0 of a cause whose rate doubles.
-pub fn set_doubling(cause: u32, rate: f64, doubling_time: f64, now: f64) -> Command {
-    Command::Set {
-        clock: 0,
-        cause,
-        priority: 0,
-        hazard: Hazard::Doubling {
-            rate,
-            doubling_time,
-        },
         now,
     }
 }

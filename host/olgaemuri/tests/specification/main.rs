@@ -5,7 +5,6 @@ mod commands;
 #[path = "../common/mod.rs"]
 mod common;
 mod document;
-mod doubling;
 mod headings;
 mod lent;
 mod limits;

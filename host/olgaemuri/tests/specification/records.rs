@@ -15,10 +15,6 @@ fn choices_have_these_bytes_and_names() {
             trailing: 1.0,
         },
         Hazard::Weibull(1.0),
-        Hazard::Doubling {
-            rate: 1.0,
-            doubling_time: 1.0,
-        },
     ];
     let policies = Policy::ALL.map(|policy| ("policy", policy.number(), format!("{policy:?}")));
     let ties = Tie::ALL.map(|tie| ("tie", tie.number(), format!("{tie:?}")));

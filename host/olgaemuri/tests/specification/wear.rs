@@ -26,7 +26,7 @@ fn the_least_scale() {
 
 /// What the document asks for in a row.
 #[derive(Debug)]
-pub enum Given {
+enum Given {
     Hazard(f64),
     Cumulative(f64),
     /// From this start, for so much.
@@ -34,7 +34,7 @@ pub enum Given {
 }
 
 impl Given {
-    pub fn read(cell: &str) -> Self {
+    fn read(cell: &str) -> Self {
         let (what, at) = cell.rsplit_once(" at ").unwrap_or((cell, ""));
         match what {
             "hazard" => Self::Hazard(float(at)),

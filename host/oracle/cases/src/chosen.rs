@@ -1,9 +1,9 @@
-//! Chosen cases: rows 1 to 7 of document 01's table, the limits, and those of kinds 4 and 5 and of pieces.
+//! Chosen cases: rows 1 to 7 of document 01's table, the limits, and those of kind 4 and of pieces.
 
 use crate::evaluations::EvaluationCase;
 use crate::floats::{LARGEST_SUBNORMAL, SMALLEST};
 use crate::samples::SampleCase;
-use crate::{chosen_doubling, chosen_pieces, chosen_weibull};
+use crate::{chosen_pieces, chosen_weibull};
 use reference::evaluation::{CUMULATIVE_HAZARD, HAZARD_AT, INVERT_CUMULATIVE_HAZARD};
 use reference::fields::LIMIT;
 use reference::hazard::{CONSTANT, GOMPERTZ, Hazard, PIECEWISE};
@@ -44,7 +44,6 @@ pub fn evaluations() -> Vec<EvaluationCase> {
     }
     cases.extend(chosen_weibull::evaluations());
     cases.extend(chosen_pieces::evaluations());
-    cases.extend(chosen_doubling::evaluations());
     cases
 }
 
@@ -101,7 +100,6 @@ pub fn samples() -> Vec<SampleCase> {
     }
     cases.extend(chosen_weibull::samples());
     cases.extend(chosen_pieces::samples());
-    cases.extend(chosen_doubling::samples());
     cases
 }
 

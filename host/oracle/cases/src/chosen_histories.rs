@@ -4,7 +4,7 @@
 
 use crate::clock_steps::History;
 use crate::floats::SMALLEST;
-use crate::{chosen_doubling, chosen_pieces, chosen_weibull};
+use crate::{chosen_pieces, chosen_weibull};
 use kairo_ecs_rng::DeterministicStream;
 use reference::command::{Command, Create, Reschedule, Set};
 use reference::fields::LIMIT;
@@ -84,7 +84,6 @@ pub fn histories(thresholds: &[u8]) -> Vec<History<'_>> {
         floats(),
         chosen_weibull::histories(),
         chosen_pieces::histories(),
-        chosen_doubling::histories(),
     ];
     let run = |(create, position, commands): Chosen| {
         let stream = DeterministicStream::new(thresholds, position);

@@ -1,16 +1,16 @@
 //! Chosen sessions: rows 9 to 12 of document 01's table with their undos, its errors to shut out,
-//! sixteen clocks, priorities at the ends of i32, hazard kinds 4 and 5, pieces.
+//! sixteen clocks, priorities at the ends of i32, hazard kind 4, pieces.
 
 use crate::chosen_histories::{censored, constant, create, pause, remove, reschedule, resume};
+use crate::chosen_pieces;
 use crate::chosen_weibull::{SHORT_ROOT, wears};
 use crate::floats::SMALLEST;
 use crate::sessions::{Session, command_count};
-use crate::{chosen_doubling, chosen_pieces};
 use reference::answer::ANSWER_BYTES;
 use reference::batch::RESULT_BYTES;
 use reference::command::{Command, Create, Reschedule, Set};
 use reference::command_fields::CLOCKS;
-use reference::hazard::{CONSTANT, DOUBLING, Hazard, SMALLEST_SCALE};
+use reference::hazard::{CONSTANT, Hazard, SMALLEST_SCALE, WEIBULL};
 
 /// A session with room for all answers.
 pub fn session(stream: &[f64], journal: usize, inputs: &[Vec<u8>]) -> Session {
@@ -41,7 +41,6 @@ pub fn sessions() -> Vec<Session> {
     all.push(urgent_first());
     all.extend(guide_rails());
     all.extend(chosen_pieces::sessions());
-    all.extend(chosen_doubling::sessions());
     all
 }
 
@@ -202,7 +201,7 @@ fn refused_scales() -> Session {
     let scales = [SMALLEST_SCALE.next_down(), SMALLEST_SCALE, -0.0, 3.0];
     let mut inputs = vec![table_clock().to_bytes()];
     inputs.extend(scales.map(|scale| wears(1, scale, 0.0).to_bytes()));
-    for (at, byte) in [(10, DOUBLING + 1), (27, 1), (28, 1), (155, 0x80)] {
+    for (at, byte) in [(10, WEIBULL + 1), (27, 1), (28, 1), (155, 0x80)] {
         let mut changed = wears(1, 3.0, 0.0).to_bytes();
         changed[at] = byte;
         inputs.push(changed);

@@ -82,7 +82,7 @@ fn waits() -> [(f64, f64); 12] {
     ]
 }
 
-/// Bad scales, a count, a pair.
+/// Bad scales, a count, a pair, and the kind after the last.
 fn refused() -> Vec<Hazard> {
     let mut counted = kind_4(1.0);
     counted.count = 1;
@@ -92,8 +92,9 @@ fn refused() -> Vec<Hazard> {
     with_rate.pairs[7].rate = SMALLEST;
     let mut both = kind_4(SMALLEST_SCALE.next_down());
     both.count = 1;
+    let next = Hazard::single_rate(WEIBULL + 1, 1.0);
     let mut all: Vec<Hazard> = BAD_SCALES.map(kind_4).into();
-    all.extend([counted, with_end, with_rate, both]);
+    all.extend([counted, with_end, with_rate, both, next]);
     all
 }
 

@@ -5,7 +5,7 @@ use crate::floats::{Style, near, positive, signed, time};
 use crate::hazards::hazard;
 use crate::random::Random;
 use crate::samples::CAUSES;
-use crate::{doubling, weibull};
+use crate::weibull;
 use kairo_ecs_des::{HazardChannelState, SurvivalClock};
 use reference::command::{Command, Create, Reschedule, Set};
 use reference::fields::{LIMIT, size_in_range};
@@ -137,11 +137,10 @@ fn aimed_hazard(random: &mut Random, view: &View) -> Hazard {
 fn hazard_with_wait(random: &mut Random, style: Style, w: f64) -> Option<Hazard> {
     let wait = random.pick(&WAITS);
     let rate = Some(w / wait).filter(|rate| size_in_range(*rate))?;
-    match random.below(15) {
-        0..4 => Some(Hazard::single_rate(CONSTANT, rate)),
-        4 | 5 => Some(Hazard::single_rate(GOMPERTZ, rate)),
-        6 | 7 => weibull::with_wait(w, wait),
-        8 => doubling::with_wait(random, w, wait),
+    match random.below(7) {
+        0 | 1 => Some(Hazard::single_rate(CONSTANT, rate)),
+        2 => Some(Hazard::single_rate(GOMPERTZ, rate)),
+        3 => weibull::with_wait(w, wait),
         _ => Some(curve_with_rate(random, style, wait, rate)),
     }
 }

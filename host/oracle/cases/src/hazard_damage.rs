@@ -3,16 +3,12 @@
 use crate::floats::{SMALLEST, Style, not_an_end, not_zero_bits, out_of_size, spread};
 use crate::hazards::{piecewise, single_rate};
 use crate::random::Random;
-use crate::{doubling, weibull};
-use reference::fields::LIMIT;
-use reference::hazard::SHORTEST_DOUBLING;
-use reference::hazard::{
-    CONSTANT, DOUBLING, GOMPERTZ, Hazard, PAIRS, SMALLEST_SCALE, WEIBULL, ZERO,
-};
+use crate::weibull;
+use reference::hazard::{CONSTANT, GOMPERTZ, Hazard, PAIRS, SMALLEST_SCALE, WEIBULL, ZERO};
 
 type Damage = fn(&mut Random, &mut Hazard);
 
-const DAMAGES: [Damage; 17] = [
+const DAMAGES: [Damage; 12] = [
     kind_off_its_list,
     first_of_zero,
     first_out_of_size,
@@ -25,11 +21,6 @@ const DAMAGES: [Damage; 17] = [
     end_out_of_range,
     ends_equal,
     ends_descending,
-    doubling_time_out_of_range,
-    rate_and_doubling_time_out_of_range,
-    count_of_a_doubling,
-    rate_of_a_doubling,
-    other_pair_of_a_doubling,
 ];
 
 pub fn damage(random: &mut Random, hazard: &mut Hazard) {
@@ -40,9 +31,9 @@ pub fn damage(random: &mut Random, hazard: &mut Hazard) {
 /// 4.
 fn kind_off_its_list(random: &mut Random, hazard: &mut Hazard) {
     hazard.kind = if random.chance(50) {
-        DOUBLING + 1
+        WEIBULL + 1
     } else {
-        random.byte_from(DOUBLING + 1)
+        random.byte_from(WEIBULL + 1)
     };
 }
 
@@ -105,12 +96,7 @@ fn pair_where_unused(random: &mut Random, hazard: &mut Hazard) {
         piecewise(random, Style::Simple, count)
     };
     let used = hazard.used().len();
-    fill_pair_from(random, hazard, used);
-}
-
-/// Bits in a pair from this one on.
-fn fill_pair_from(random: &mut Random, hazard: &mut Hazard, first: usize) {
-    let pair = &mut hazard.pairs[first + random.index(PAIRS - first)];
+    let pair = &mut hazard.pairs[used + random.index(PAIRS - used)];
     if random.chance(50) {
         pair.end = not_zero_bits(random);
     } else {
@@ -137,45 +123,6 @@ fn ends_descending(random: &mut Random, hazard: &mut Hazard) {
     *hazard = two_pairs_or_more(random);
     let at = random.index(hazard.used().len() - 1);
     hazard.pairs[at + 1].end = hazard.pairs[at].end.next_down();
-}
-
-/// 6.
-fn doubling_time_out_of_range(random: &mut Random, hazard: &mut Hazard) {
-    *hazard = doubling::hazard(random, Style::Simple);
-    hazard.pairs[0].end = match random.below(4) {
-        0 => SHORTEST_DOUBLING.next_down(),
-        1 => LIMIT.next_up(),
-        2 => spread(random, SMALLEST, SHORTEST_DOUBLING.next_down()),
-        _ => not_an_end(random),
-    };
-}
-
-/// 5.
-fn rate_and_doubling_time_out_of_range(random: &mut Random, hazard: &mut Hazard) {
-    doubling_time_out_of_range(random, hazard);
-    hazard.first = out_of_size(random);
-}
-
-/// 6.
-fn count_of_a_doubling(random: &mut Random, hazard: &mut Hazard) {
-    *hazard = doubling::hazard(random, Style::Simple);
-    hazard.count = if random.chance(30) {
-        0
-    } else {
-        random.byte_from(2)
-    };
-}
-
-/// 6.
-fn rate_of_a_doubling(random: &mut Random, hazard: &mut Hazard) {
-    *hazard = doubling::hazard(random, Style::Simple);
-    hazard.pairs[0].rate = not_zero_bits(random);
-}
-
-/// 6.
-fn other_pair_of_a_doubling(random: &mut Random, hazard: &mut Hazard) {
-    *hazard = doubling::hazard(random, Style::Simple);
-    fill_pair_from(random, hazard, 1);
 }
 
 fn without_pairs(random: &mut Random) -> Hazard {

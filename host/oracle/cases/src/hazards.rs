@@ -2,18 +2,16 @@
 
 use crate::floats::{Style, near, positive, signed, time};
 use crate::random::Random;
-use crate::{doubling, weibull};
+use crate::weibull;
 use reference::fields::{LIMIT, size_in_range};
-use reference::hazard::{CONSTANT, DOUBLING, GOMPERTZ, Hazard, PAIRS, WEIBULL};
+use reference::hazard::{CONSTANT, GOMPERTZ, Hazard, PAIRS, WEIBULL};
 
-/// Kind 5 is the rarest: its 2,048 steps are slow in the Rust.
 pub fn hazard(random: &mut Random, style: Style) -> Hazard {
-    match random.below(16) {
+    match random.below(15) {
         0 => Hazard::default(),
         1..4 => single_rate(random, style, CONSTANT),
         4..6 => single_rate(random, style, GOMPERTZ),
         6..9 => weibull::hazard(random, style),
-        9 => doubling::hazard(random, style),
         _ => {
             let count = random.index(PAIRS + 1);
             piecewise(random, style, count)
@@ -80,28 +78,23 @@ pub fn age(random: &mut Random, hazard: &Hazard, style: Style) -> f64 {
     special_time(random, hazard).unwrap_or_else(|| time(random, style))
 }
 
-/// Beside an end of a pair or of a step, or for kind 4 beside a multiple of the scale.
+/// Beside an end, or for kind 4 beside a multiple of the scale.
 fn special_time(random: &mut Random, hazard: &Hazard) -> Option<f64> {
     let has_ends = !hazard.used().is_empty();
-    if !(has_ends || hazard.kind >= WEIBULL) || random.chance(60) {
+    if !(has_ends || hazard.kind == WEIBULL) || random.chance(60) {
         return None;
     }
-    Some(match hazard.kind {
-        WEIBULL => weibull::multiple(random, hazard),
-        DOUBLING => doubling::end(random, hazard),
-        _ => {
-            let end = random.pick(hazard.used()).end;
-            near(random, end).min(LIMIT)
-        }
-    })
+    if !has_ends {
+        return Some(weibull::multiple(random, hazard));
+    }
+    let end = random.pick(hazard.used()).end;
+    Some(near(random, end).min(LIMIT))
 }
 
 /// A w that the inversion accepts; often just what is left up to an end.
 pub fn evaluation_w(random: &mut Random, hazard: &Hazard, start: f64, style: Style) -> f64 {
-    match hazard.kind {
-        WEIBULL => return weibull::w(random, hazard, start, style),
-        DOUBLING => return doubling::w(random, hazard, start, style),
-        _ => {}
+    if hazard.kind == WEIBULL {
+        return weibull::w(random, hazard, start, style);
     }
     if hazard.used().is_empty() || random.chance(60) {
         return signed(random, style);

@@ -4,7 +4,6 @@
 #![forbid(unsafe_code)]
 
 pub mod chosen;
-pub mod chosen_doubling;
 pub mod chosen_histories;
 pub mod chosen_pieces;
 pub mod chosen_sessions;
@@ -14,9 +13,6 @@ pub mod clock_steps;
 pub mod command_damage;
 pub mod command_tally;
 pub mod commands;
-pub mod doubling;
-pub mod doubling_coverage;
-pub mod doubling_tally;
 pub mod equal_ticks;
 pub mod evaluations;
 pub mod floats;

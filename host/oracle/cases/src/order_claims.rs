@@ -1,6 +1,5 @@
 //! What document 02 says of a sample's answer (change 8, its sentences after the first), asked of one answer. Candidates come from the
-//! Rust's `invert_cumulative_hazard` (of kind 5 on its steps), and from the model's for kind 4; sums are compared in exact numbers and
-//! rounded.
+//! Rust's `invert_cumulative_hazard`, and from the model's for kind 4; sums are compared in exact numbers and rounded.
 
 use crate::samples::SampleCase;
 use reference::answer::Answer;

@@ -3,7 +3,7 @@
 use crate::sessions::Step;
 use reference::clock::Clock;
 use reference::command::Command;
-use reference::hazard::{Hazard, PIECEWISE};
+use reference::hazard::Hazard;
 
 pub fn of_pieces(steps: &[Step]) -> [(&'static str, bool); 6] {
     let some = |test: fn(&Step) -> bool| steps.iter().any(test);
@@ -39,8 +39,7 @@ fn queues_trailing(step: &Step) -> bool {
         .flat_map(|clock| clock.channels.values());
     let winner = channels.find(|channel| channel.cause_id.0 == step.answer.cause);
     let hazard = winner.and_then(|channel| Hazard::of(&channel.hazard));
-    let trailing = |hazard: Hazard| hazard.kind == PIECEWISE && hazard.count == step.answer.piece;
-    queues_piece(step) && hazard.is_some_and(trailing)
+    queues_piece(step) && hazard.is_some_and(|hazard| hazard.count == step.answer.piece)
 }
 
 fn delivers_piece(step: &Step) -> bool {

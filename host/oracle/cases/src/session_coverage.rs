@@ -1,7 +1,6 @@
 //! What a list of sessions shows, read off what they do and not off how they were made.
 
 use crate::command_tally::{answered, decided_by_tie, deciding_priorities, delivered_by};
-use crate::doubling_coverage::of_doubling;
 use crate::piece_coverage::of_pieces;
 use crate::sessions::{Outcome, Session, Step};
 use crate::tally::count;
@@ -41,7 +40,6 @@ impl Coverage {
         shown.extend(of_undos(steps, unanswered));
         shown.extend(of_weibull(steps));
         shown.extend(of_pieces(steps));
-        shown.extend(of_doubling(steps));
         for (name, is_shown) in shown {
             if is_shown {
                 count(&mut self.sessions, name);

@@ -20,7 +20,7 @@ fn clock_steps_are_the_same_each_time() {
     let bytes = lists::clock_step_bytes(&steps);
     assert_eq!(bytes, lists::clock_step_bytes(&lists::clock_steps()));
     assert_eq!(bytes.len(), steps.len() * RECORD_BYTES);
-    assert_eq!(checksum(&bytes), 0x566E_B9EE_19A8_B4FF);
+    assert_eq!(checksum(&bytes), 0xB0D4_C5F0_99E6_1CF5);
 }
 
 /// Rows 9 and 10 come first: CREATE, SET, RESCHEDULE, PAUSE, RESUME, DELIVER.
@@ -117,7 +117,7 @@ fn every_kind_and_count_is_set() {
             _ => None,
         })
         .collect();
-    let all = [(0, 0), (1, 0), (2, 0), (4, 0), (5, 1)].into_iter();
+    let all = [(0, 0), (1, 0), (2, 0), (4, 0)].into_iter();
     assert_eq!(seen, all.chain((0..=8).map(|count| (3, count))).collect());
 }
 

@@ -9,7 +9,7 @@ use cases::samples::{self, SampleCase};
 use cases::{lists, tally};
 use common::{checksum, numbers};
 use reference::fields::LIMIT;
-use reference::hazard::{DOUBLING, Hazard, PIECEWISE, SMALLEST_SCALE, WEIBULL};
+use reference::hazard::{Hazard, PIECEWISE, SMALLEST_SCALE, WEIBULL};
 use std::collections::BTreeSet;
 
 #[test]
@@ -20,7 +20,7 @@ fn evaluations_are_the_same_each_time() {
         bytes.len(),
         lists::EVALUATION_COUNT * evaluations::CASE_BYTES
     );
-    assert_eq!(checksum(&bytes), 0xC76B_CF86_BC1D_8EAE);
+    assert_eq!(checksum(&bytes), 0x2774_DF31_1814_C17D);
 }
 
 #[test]
@@ -28,7 +28,7 @@ fn samples_are_the_same_each_time() {
     let bytes = lists::sample_bytes(&lists::samples());
     assert_eq!(bytes, lists::sample_bytes(&lists::samples()));
     assert_eq!(bytes.len(), lists::SAMPLE_COUNT * samples::CASE_BYTES);
-    assert_eq!(checksum(&bytes), 0x43CF_DF87_B865_7A8B);
+    assert_eq!(checksum(&bytes), 0xB2C5_3226_094F_4598);
 }
 
 #[test]
@@ -115,8 +115,7 @@ fn every_kind_and_count_is_accepted_by_every_operation() {
         .collect();
     let kinds = (0..=WEIBULL).map(|kind| (kind, 0));
     let counts = (1..=8).map(|count| (PIECEWISE, count));
-    let kinds = kinds.chain(counts).chain([(DOUBLING, 1)]);
-    let kinds: Vec<(u8, u8)> = kinds.collect();
+    let kinds: Vec<(u8, u8)> = kinds.chain(counts).collect();
     let all = (0..3).flat_map(|operation| kinds.iter().map(move |(k, n)| (operation, *k, *n)));
     assert_eq!(accepted, all.collect());
 }

@@ -1,51 +1,40 @@
-//! The model of pieces (document 02, changes 6 and 9) held to the unchanged Rust on random curves, and how often a piece other than 0
-//! comes.
+//! The model of pieces (document 02, change 6) held to the unchanged Rust on random curves, and how often a piece other than 0 comes.
 
 use cases::evaluations::EvaluationCase;
 use cases::piece_tally::PieceTally;
 use cases::random::Random;
 use cases::samples::SampleCase;
 use cases::{chosen, lists};
-use kairo_ecs_rng::{STEPS, UnchangedHazard};
-use reference::evaluation::INVERT_CUMULATIVE_HAZARD;
-use reference::hazard::{DOUBLING, Hazard, PIECEWISE};
-use reference::piece::to_byte;
+use reference::evaluation::{INVERT_CUMULATIVE_HAZARD, invert_cumulative_hazard};
+use reference::hazard::{Hazard, PIECEWISE};
 
 const SEED: u64 = 0x7069_6563_6573_2036;
 const CASES: usize = 1_000_000;
 
-/// What the Rust says of the curve cut off after a pair or a step, with no trailing rate: the first that has a wait ends in its last piece;
-/// those that are cut off later have it too. Where none has, a finite wait of the whole curve is in the trailing piece.
-fn by_the_rust(hazard: &Hazard, start: f64, w: f64) -> usize {
-    let curve = hazard.build_unchanged();
-    let whole = curve.invert_cumulative_hazard(start, w);
-    let UnchangedHazard::PiecewiseConstant { intervals, .. } = curve else {
-        return 0;
-    };
-    if w <= 0.0 || !whole.is_some_and(f64::is_finite) {
+/// What the Rust says of the curve cut off after each pair, with no trailing rate: the first that still has a wait ends in its last pair.
+/// Where none has, a finite wait of the whole curve is in the trailing piece.
+fn by_the_rust(hazard: &Hazard, start: f64, w: f64) -> u64 {
+    let wait = |hazard: &Hazard| invert_cumulative_hazard(hazard, start, w).expect("accepted");
+    let whole = wait(hazard).filter(|wait| wait.is_finite());
+    if hazard.kind != PIECEWISE || w <= 0.0 || whole.is_none() {
         return 0;
     }
-    let is_within = |kept: &usize| {
-        let cut = UnchangedHazard::PiecewiseConstant {
-            intervals: intervals[..*kept].to_vec(),
-            trailing_rate: 0.0,
-        };
-        cut.invert_cumulative_hazard(start, w).is_none()
-    };
-    let lengths: Vec<usize> = (1..=intervals.len()).collect();
-    lengths.partition_point(is_within)
+    let pairs: Vec<(f64, f64)> = hazard.used().iter().map(|p| (p.end, p.rate)).collect();
+    let cut = |kept: &usize| Hazard::piecewise(&pairs[..*kept], 0.0);
+    let first = (1..=pairs.len()).find(|kept| wait(&cut(kept)).is_some());
+    first.map_or(pairs.len(), |kept| kept - 1) as u64
 }
 
 /// The model's piece of an accepted inversion, which has to be the Rust's.
-fn checked(case: &EvaluationCase) -> Option<usize> {
+fn checked(case: &EvaluationCase) -> Option<u64> {
     let answer = case.expected();
     if case.operation != INVERT_CUMULATIVE_HAZARD || answer.number != 0 {
         assert_eq!(answer.piece, 0, "{case:?}");
         return None;
     }
     let rust = by_the_rust(&case.hazard, case.t, case.w);
-    assert_eq!(answer.piece, rust as u64, "{case:?}");
-    Some(rust)
+    assert_eq!(answer.piece, rust, "{case:?}");
+    Some(answer.piece)
 }
 
 #[test]
@@ -55,23 +44,17 @@ fn the_rust_on_curves_that_are_cut_off() {
     }
     let mut random = Random::new(SEED);
     let (mut pieces, mut tally) = ([0; 9], PieceTally::default());
-    let mut eighths = [0; 9];
     assert_eq!(tally.least().0, 0);
     for _ in 0..CASES {
         let case = EvaluationCase::random(&mut random);
         let Some(piece) = checked(&case) else {
             continue;
         };
-        match case.hazard.kind {
-            PIECEWISE => pieces[piece] += 1,
-            DOUBLING => eighths[piece * 8 / STEPS] += 1,
-            _ => assert_eq!(piece, 0, "{case:?}"),
-        }
+        pieces[piece as usize] += 1;
         tally.add_evaluation(&case, &case.expected());
         tally.add_sample(&SampleCase::random(&mut random).expected().0);
     }
     assert!(pieces.iter().all(|count| *count > 1000), "{pieces:?}");
-    assert!(eighths.iter().all(|count| *count > 300), "{eighths:?}");
     assert!(tally.least().0 > 500, "{tally}");
 }
 
@@ -112,7 +95,7 @@ fn pieces_of_samples() {
             .zip(drawn)
             .filter(|(record, _)| record.cause == answer.cause)
             .map(|(record, w)| by_the_rust(&record.hazard, case.request.age, *w));
-        assert!(pieces.any(|p| to_byte(p) == answer.piece), "{case:?}");
+        assert!(pieces.any(|p| p == u64::from(answer.piece)), "{case:?}");
         found += u32::from(answer.piece > 0);
     }
     assert!(found > 5000, "{found}");

@@ -11,7 +11,7 @@ const SEED: u64 = 20_261_115;
 const SESSIONS: usize = 4000;
 
 /// Each with the least number of sessions among the random ones that show it.
-const KINDS: [(&str, usize); 44] = [
+const KINDS: [(&str, usize); 37] = [
     ("many undos", 100),
     ("undone draw", 100),
     ("undone request", 100),
@@ -45,13 +45,6 @@ const KINDS: [(&str, usize); 44] = [
     ("piece replaced", 100),
     ("piece kept without event", 10),
     ("piece given back", 100),
-    ("kind 5 wins", 100),
-    ("kind 5 settled", 100),
-    ("piece of a step", 50),
-    ("capped piece", 50),
-    ("kind 5 replaced", 50),
-    ("kind 5 is Zero", 20),
-    ("kind 5 refused by 6", 20),
     ("answers cut", 100),
     ("answer cut within", 50),
     ("threshold cut", 50),

@@ -14,7 +14,7 @@ use std::collections::BTreeSet;
 fn sessions_are_the_same_each_time() {
     let bytes = lists::session_bytes(&lists::sessions());
     assert_eq!(bytes, lists::session_bytes(&lists::sessions()));
-    assert_eq!(checksum(&bytes), 0x92E7_D057_ED8F_89DE);
+    assert_eq!(checksum(&bytes), 0xB477_30BC_BEF9_C53D);
 }
 
 /// Row 9 comes first: CREATE, SET, RESCHEDULE over the thresholds 2.0 and 1.0.

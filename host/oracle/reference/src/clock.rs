@@ -5,7 +5,8 @@
 use crate::answer::Answer;
 use crate::choices::{POLICIES, TIES};
 use crate::command::{Command, Create, Reschedule, Set};
-use crate::piece::{piece_of, to_byte};
+use crate::hazard::Hazard;
+use crate::piece::{piece, to_byte};
 use crate::refusal::{Refusal, require};
 use crate::sampler::draw_refusal;
 use kairo_ecs_core::{Queued, Scheduler};
@@ -174,6 +175,7 @@ fn event_piece(clock: &SurvivalClock, event: RealizedEvent) -> u8 {
         return 0;
     }
     let channel = &clock.channels[&event.winning_cause];
+    let hazard = Hazard::of(&channel.hazard).expect("a hazard that is carried");
     let left = channel.target_threshold - channel.accumulated_hazard;
-    to_byte(piece_of(&channel.hazard, 0.0, left))
+    to_byte(piece(&hazard, 0.0, left))
 }

@@ -1,4 +1,4 @@
-//! The three public evaluations (document 01, "Hazard arithmetic"; kinds 4 and 5 and the piece from
+//! The three public evaluations (document 01, "Hazard arithmetic"; kind 4 and the piece from
 //! document 02).
 
 use crate::fields::size_in_range;

@@ -1,7 +1,7 @@
 //! A hazard as it stands in a SET or a sampler record: kind, first, count, eight pairs.
 
 use crate::fields::{LIMIT, Reader, is_zero_bits, size_in_range};
-use kairo_ecs_rng::{Doubling, HazardRate, UnchangedHazard, Weibull, steps};
+use kairo_ecs_rng::{HazardRate, UnchangedHazard, Weibull};
 
 pub const PAIRS: usize = 8;
 pub const HAZARD_BYTES: usize = 138;
@@ -12,14 +12,9 @@ pub const GOMPERTZ: u8 = 2;
 pub const PIECEWISE: u8 = 3;
 /// Document 02, change 4.
 pub const WEIBULL: u8 = 4;
-/// Document 02, change 9.
-pub const DOUBLING: u8 = 5;
 
 /// 2^-40: a scale of kind 4 is not below it unless it is at most 0.
 pub const SMALLEST_SCALE: f64 = 1.0 / LIMIT;
-
-/// 2^-40: a doubling time is not below it, nor above 2^40.
-pub const SHORTEST_DOUBLING: f64 = 1.0 / LIMIT;
 
 #[derive(Clone, Copy, Debug, Default, PartialEq)]
 pub struct Pair {
@@ -27,19 +22,11 @@ pub struct Pair {
     pub rate: f64,
 }
 
-impl Pair {
-    /// All bits of both.
-    fn is_zero(&self) -> bool {
-        is_zero_bits(self.end) && is_zero_bits(self.rate)
-    }
-}
-
 /// The fields as given, tested or not.
 #[derive(Clone, Copy, Debug, Default, PartialEq)]
 pub struct Hazard {
     pub kind: u8,
-    /// Rate of Constant, eta of Gompertz, trailing rate of PiecewiseConstant, scale of Weibull,
-    /// starting rate of a hazard that doubles.
+    /// Rate of Constant, eta of Gompertz, trailing rate of PiecewiseConstant, scale of Weibull.
     pub first: f64,
     pub count: u8,
     pub pairs: [Pair; PAIRS],
@@ -65,23 +52,12 @@ impl Hazard {
         hazard
     }
 
-    /// A rate that doubles in each doubling time.
-    pub fn doubling(rate: f64, doubling_time: f64) -> Self {
-        Self {
-            kind: DOUBLING,
-            ..Self::piecewise(&[(doubling_time, 0.0)], rate)
-        }
-    }
-
     /// The fields of what a clock holds. `None` for what is not carried and for more than eight
     /// pairs.
     pub fn of(rate: &HazardRate) -> Option<Self> {
         match rate {
             HazardRate::Unchanged(rate) => Self::of_unchanged(rate),
             HazardRate::Weibull(weibull) => Some(Self::single_rate(WEIBULL, weibull.scale)),
-            HazardRate::Doubling(doubling) => {
-                Some(Self::doubling(doubling.rate, doubling.doubling_time))
-            }
         }
     }
 
@@ -140,7 +116,7 @@ impl Hazard {
 
     /// Not refused by 4: the kind is on its list, and first of kind 0 is zero.
     pub fn choice_valid(&self) -> bool {
-        self.kind <= DOUBLING && (self.kind != ZERO || is_zero_bits(self.first))
+        self.kind <= WEIBULL && (self.kind != ZERO || is_zero_bits(self.first))
     }
 
     /// Not refused by 5: first and the used rates are finite and at most 2^40 in size, and a scale
@@ -156,21 +132,9 @@ impl Hazard {
         self.kind == WEIBULL && self.first > 0.0 && self.first < SMALLEST_SCALE
     }
 
-    /// Not refused by 6: count, unused pairs and used ends; of kind 5 its own condition.
+    /// Not refused by 6: count, unused pairs and used ends.
     pub fn pairs_valid(&self) -> bool {
-        if self.kind == DOUBLING {
-            return self.doubling_valid();
-        }
         self.count_valid() && self.unused_pairs_zero() && self.ends_ascend()
-    }
-
-    /// One pair, a doubling time from 2^-40 to 2^40 and zero bits; all other pairs are zero.
-    fn doubling_valid(&self) -> bool {
-        let [own, others @ ..] = &self.pairs;
-        self.count == 1
-            && (SHORTEST_DOUBLING..=LIMIT).contains(&own.end)
-            && is_zero_bits(own.rate)
-            && others.iter().all(Pair::is_zero)
     }
 
     fn count_valid(&self) -> bool {
@@ -182,7 +146,9 @@ impl Hazard {
     }
 
     fn unused_pairs_zero(&self) -> bool {
-        self.unused().iter().all(Pair::is_zero)
+        self.unused()
+            .iter()
+            .all(|pair| is_zero_bits(pair.end) && is_zero_bits(pair.rate))
     }
 
     /// Used ends: above 0, at most 2^40, each above the one before. NaN fails.
@@ -199,16 +165,8 @@ impl Hazard {
     pub fn build(&self) -> HazardRate {
         match self.weibull() {
             Some(weibull) => HazardRate::Weibull(weibull),
-            None if self.kind == DOUBLING => {
-                HazardRate::Doubling(Doubling::new(self.first, self.doubling_time()))
-            }
             None => HazardRate::Unchanged(self.build_unchanged()),
         }
-    }
-
-    /// The doubling time of kind 5.
-    pub fn doubling_time(&self) -> f64 {
-        self.pairs[0].end
     }
 
     /// Kind 4 of document 02, which the Rust does not have.
@@ -216,7 +174,7 @@ impl Hazard {
         (self.kind == WEIBULL).then_some(Weibull { scale: self.first })
     }
 
-    /// The Rust's own value for a hazard of kinds 0 to 3 or 5 that passes 4 and 6.
+    /// The Rust's own value for a hazard of kinds 0 to 3 that passes 4 and 6.
     pub fn build_unchanged(&self) -> UnchangedHazard {
         match self.kind {
             CONSTANT => UnchangedHazard::Constant { rate: self.first },
@@ -228,7 +186,6 @@ impl Hazard {
                 intervals: self.used().iter().map(|p| (p.end, p.rate)).collect(),
                 trailing_rate: self.first,
             },
-            DOUBLING => steps(self.first, self.doubling_time()),
             _ => UnchangedHazard::Zero,
         }
     }

@@ -1,6 +1,6 @@
 //! The calls of document 01 over the unchanged Rust: refusals, journal, undo and batch run are
 //! written from the paper, values come from the Rust. The rate for a wait, the values of hazard
-//! kind 4, the steps of kind 5 and the pieces of a curve are written from document 02 alone.
+//! kind 4 and the pieces of a curve are written from document 02 alone.
 
 #![forbid(unsafe_code)]
 

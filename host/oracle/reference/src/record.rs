@@ -6,7 +6,7 @@ use crate::command::Create;
 use crate::command_fields::CLOCKS;
 use crate::dump::{CHANNEL_BYTES, CLOCK_BYTES, QUEUED_BYTES, dump_clock, dump_queued};
 use crate::fields::Reader;
-use crate::hazard::{DOUBLING, HAZARD_BYTES, Hazard, PAIRS};
+use crate::hazard::{HAZARD_BYTES, Hazard, PAIRS, WEIBULL};
 use crate::state::State;
 use crate::validation::QUEUE;
 use kairo_ecs_core::{Queued, Scheduler};
@@ -123,7 +123,7 @@ fn channel_from(bytes: &[u8]) -> Option<HazardChannelState> {
     let (cause_id, priority) = (CauseId(reader.u32()), reader.u32());
     let hazard = Hazard::decode(reader.0);
     let mut rest = Reader(&reader.0[HAZARD_BYTES..]);
-    let fits = hazard.kind <= DOUBLING && usize::from(hazard.count) <= PAIRS;
+    let fits = hazard.kind <= WEIBULL && usize::from(hazard.count) <= PAIRS;
     fits.then(|| HazardChannelState {
         cause_id,
         priority,

@@ -133,8 +133,11 @@ impl Request {
     /// record drew.
     pub fn piece(&self, event: &RealizedEvent, stream: &DeterministicStream) -> usize {
         let place = self.winner(event, stream);
-        let hazard = &self.records[place].hazard;
-        piece(hazard, self.age, self.drawn(place, stream))
+        piece(
+            &self.records[place].hazard,
+            self.age,
+            self.drawn(place, stream),
+        )
     }
 
     /// Of the used records with the event's cause and wait the first, by priority the first with the highest one.

@@ -96,7 +96,7 @@ fn refused_by_4() {
         assert_eq!(engine().number(Command::Reschedule(operands)), 4);
         assert_eq!(engine().number(Command::Resume(operands)), 4);
     }
-    assert_eq!(number_of_changed_set(10, 6), 4);
+    assert_eq!(number_of_changed_set(10, 5), 4);
     assert_eq!(number_of_changed_set(10, 0), 4);
 }
 
@@ -153,7 +153,7 @@ fn each_number_over_all_fields_before_the_next() {
     assert_eq!(engine().give_bytes(&bytes).number, 6);
     bytes[26] = 0x80;
     assert_eq!(engine().give_bytes(&bytes).number, 5);
-    bytes[10] = 6;
+    bytes[10] = 5;
     assert_eq!(engine().give_bytes(&bytes).number, 4);
 }
 

@@ -39,7 +39,7 @@ fn refused(number: u8) -> Evaluation {
 
 #[test]
 fn refused_by_4() {
-    assert_eq!(number(&single_rate(6, 0.0), 1.0), 4);
+    assert_eq!(number(&single_rate(5, 0.0), 1.0), 4);
     assert_eq!(number(&single_rate(255, f64::NAN), f64::NAN), 4);
     assert_eq!(number(&single_rate(ZERO, -0.0), 1.0), 4);
     assert_eq!(number(&single_rate(ZERO, f64::NAN), 1.0), 4);

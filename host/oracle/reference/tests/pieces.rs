@@ -151,7 +151,7 @@ fn negative_rates() {
 fn a_refused_inversion_has_no_piece() {
     for (number, hazard, w) in [
         (5, p(), f64::NAN),
-        (4, Hazard { kind: 6, ..p() }, 2.5),
+        (4, Hazard { kind: 5, ..p() }, 2.5),
         (6, Hazard { count: 9, ..p() }, 2.5),
     ] {
         let refused = Evaluation {

@@ -3,9 +3,7 @@
 mod common;
 
 use common::{Engine, constant, create, reschedule};
-use reference::command::{Command, Set};
 use reference::dump::{CHANNEL_BYTES, dump_state};
-use reference::hazard::{HAZARD_BYTES, Hazard};
 use reference::record::{SLOT_BYTES, SLOTS_AT, STATE_BYTES, decode, encode};
 
 /// Clock 0 with causes 1 and 2, queued as request 0.
@@ -65,25 +63,6 @@ fn there_and_back() {
     assert_eq!(dump_state(&back), dump_state(&state));
 }
 
-/// Kind 5 keeps its count and its one pair.
-#[test]
-fn a_doubling_there_and_back() {
-    let mut engine = Engine::open(&[2.0], 200);
-    let set = Command::Set(Set {
-        hazard: Hazard::doubling(-0.0, 3.0),
-        ..Set::default()
-    });
-    engine.accepts(&[create(10.0), set]);
-    let record = encode(&engine.state);
-    let hazard = &record[SLOTS_AT + 33 + 8..][..HAZARD_BYTES];
-    assert_eq!(hazard[..2], [5, 0]);
-    assert_eq!(hazard[8..10], [0x80, 1]);
-    assert_eq!(hazard[10..18], 3.0f64.to_le_bytes());
-    assert_eq!(hazard[18..], [0; HAZARD_BYTES - 18]);
-    let back = decode(&record).expect("a state");
-    assert_eq!(dump_state(&back), dump_state(&engine.state));
-}
-
 #[test]
 fn what_the_rust_cannot_express() {
     let record = encode(&engine().state);
@@ -103,7 +82,7 @@ fn what_the_rust_cannot_express() {
         "causes that descend"
     );
     assert!(
-        !changed(clock + 32 + 8, 5) && changed(clock + 32 + 8, 6),
+        !changed(clock + 32 + 8, 4) && changed(clock + 32 + 8, 5),
         "kind"
     );
     assert!(changed(clock + 32 + 17, 9), "pair count");

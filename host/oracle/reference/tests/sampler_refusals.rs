@@ -49,7 +49,7 @@ fn refused_by_4() {
         (|r| r.tie = 3) as fn(&mut Request),
         |r| r.has_censor = 2,
         |r| r.censor = -0.0,
-        |r| r.records[1].hazard.kind = 6,
+        |r| r.records[1].hazard.kind = 5,
         |r| r.records[1].hazard.kind = 0,
     ];
     for change in change {

@@ -5,11 +5,11 @@ mod common;
 use common::{Engine, constant, create, pause, remove, reschedule};
 use kairo_ecs_core::Queued;
 use kairo_ecs_des::HazardChannelState;
-use kairo_ecs_rng::{CauseId, Doubling, HazardRate, UnchangedHazard, Weibull};
+use kairo_ecs_rng::{CauseId, HazardRate, UnchangedHazard, Weibull};
 use kairo_ecs_types::EventId;
 use reference::command::Command;
 use reference::fields::LIMIT;
-use reference::hazard::{SHORTEST_DOUBLING, SMALLEST_SCALE};
+use reference::hazard::SMALLEST_SCALE;
 use reference::refusal::Refusal;
 use reference::state::applied;
 use reference::validation::validate;
@@ -104,27 +104,6 @@ fn scales_that_5_would_refuse() {
         let mut engine = engine();
         channel(&mut engine).hazard = weibull(scale);
         assert_eq!(validate(&engine.state, 2, 300), Ok(()), "{scale:e}");
-    }
-}
-
-/// A starting rate that 5 would refuse, a doubling time that 6 would; the Rust's values hold no other count, rate or pair of kind 5.
-#[test]
-fn doublings_that_5_or_6_would_refuse() {
-    let doubling = |rate, time| HazardRate::Doubling(Doubling::new(rate, time));
-    for rate in [f64::NAN, f64::INFINITY, LIMIT.next_up(), -LIMIT.next_up()] {
-        let hazard = doubling(rate, 1.0);
-        refused("rate", |engine| channel(engine).hazard = hazard.clone());
-    }
-    let shortest = SHORTEST_DOUBLING;
-    let ends = [shortest.next_down(), LIMIT.next_up(), f64::INFINITY];
-    for time in ends.into_iter().chain([0.0, -0.0, -1.0, f64::NAN]) {
-        let hazard = doubling(1.0, time);
-        refused("time", |engine| channel(engine).hazard = hazard.clone());
-    }
-    for (rate, time) in [(LIMIT, shortest), (-LIMIT, LIMIT), (0.0, 1.0), (-0.0, 1.0)] {
-        let mut engine = engine();
-        channel(&mut engine).hazard = doubling(rate, time);
-        assert_eq!(validate(&engine.state, 2, 300), Ok(()), "{rate:e} {time:e}");
     }
 }
 

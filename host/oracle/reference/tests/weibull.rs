@@ -3,7 +3,7 @@
 use kairo_ecs_rng::{UnchangedHazard, Weibull};
 use reference::evaluation::{cumulative_hazard, evaluate, hazard_at, invert_cumulative_hazard};
 use reference::fields::LIMIT;
-use reference::hazard::{DOUBLING, Hazard, SMALLEST_SCALE, WEIBULL};
+use reference::hazard::{Hazard, SMALLEST_SCALE, WEIBULL};
 use reference::refusal::Refusal;
 
 const SMALLEST: f64 = f64::from_bits(1);
@@ -141,7 +141,7 @@ fn scales_refused_by_5() {
     assert_eq!(refused, Err(Refusal::OutOfRange));
 }
 
-/// Count 0 and zero bits in every pair; 4 for a kind off the list, 5 before 6.
+/// Count 0 and zero bits in every pair; 4 for the next kind, 5 before 6.
 #[test]
 fn refused_by_6_and_4() {
     let mut counted = kind_4(1.0);
@@ -159,7 +159,7 @@ fn refused_by_6_and_4() {
     }
     counted.first = SMALLEST_SCALE.next_down();
     assert_eq!(number(&counted, 1.0), 5);
-    counted.kind = DOUBLING + 1;
+    counted.kind = WEIBULL + 1;
     assert_eq!(number(&counted, 1.0), 4);
 }
 

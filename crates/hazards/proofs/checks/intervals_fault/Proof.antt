@@ -34,12 +34,6 @@ enum-told-5 c = search rules
 unused-fault-requires-4 : tie.Need-unused-fault-requires-4
 unused-fault-requires-4 c κs = search rules
 
-enum-told-6 : tie.Need-enum-told-6
-enum-told-6 c = search rules
-
-doubling-fault-requires : tie.Need-doubling-fault-requires
-doubling-fault-requires c κs = search rules
-
 returns : tie.Need-returns
 unfolding intervals_fault
 returns c = rw c.before.enum_told.given.1 c.unused-fault.ensures
@@ -60,10 +54,6 @@ returns-5 : tie.Need-returns-5
 unfolding intervals_fault
 returns-5 c = rw c.before.enum-told5.given.1 c.unused-fault4.ensures
 
-returns-6 : tie.Need-returns-6
-unfolding intervals_fault
-returns-6 c = rw c.before.enum-told6.given.1 c.doubling-fault.ensures
-
 pub intervals-fault-spec : {M : Type 1} → statement M
 intervals-fault-spec =
     tie.close
@@ -78,11 +68,8 @@ intervals-fault-spec =
     pairs-fault-requires
     enum-told-5
     unused-fault-requires-4
-    enum-told-6
-    doubling-fault-requires
     returns
     returns-2
     returns-3
     returns-4
-    returns-5
-    returns-6)
+    returns-5)

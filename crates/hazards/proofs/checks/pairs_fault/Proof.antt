@@ -20,7 +20,7 @@ returns-2 : tie.Need-returns-2
 returns-2 c =
     let a = c.before.before.before.args in
     pairs_are (intervals_from a.ends.now a.rates.now a.count) c.before.before.if1.false
-    (c.before.unused-are-zero.ensures a.count) (c.ends_ascend.ensures a.rates.now)
+    (c.before.unused-are-zero.ensures a.count) (c.ends-ascend.ensures a.rates.now)
 
 pub pairs-fault-spec : {M : Type 1} → statement M
 pairs-fault-spec =

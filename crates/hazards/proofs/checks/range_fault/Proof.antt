@@ -33,12 +33,6 @@ enum-known-hazard-4 c = search rules
 scale-fault-requires : tie.Need-scale-fault-requires
 scale-fault-requires c κs = search rules
 
-enum-known-hazard-5 : tie.Need-enum-known-hazard-5
-enum-known-hazard-5 c = search rules
-
-in-range-requires-3 : tie.Need-in-range-requires-3
-in-range-requires-3 c κs = search rules
-
 returns : tie.Need-returns
 unfolding range_fault
 returns c = λ ends. rw c.enum_told.given.1
@@ -59,10 +53,6 @@ returns-5 : tie.Need-returns-5
 unfolding range_fault
 returns-5 c = λ ends. rw c.before.before.hazard4.given.1 c.scale-fault.ensures
 
-returns-6 : tie.Need-returns-6
-unfolding range_fault
-returns-6 c = λ ends. rw c.before.before.hazard5.given.1 (ap not c.in-range3.ensures)
-
 pub range-fault-spec : {M : Type 1} → statement M
 range-fault-spec =
     tie.close
@@ -76,11 +66,8 @@ range-fault-spec =
     piecewise-range-fault-requires
     enum-known-hazard-4
     scale-fault-requires
-    enum-known-hazard-5
-    in-range-requires-3
     returns
     returns-2
     returns-3
     returns-4
-    returns-5
-    returns-6)
+    returns-5)

@@ -20,9 +20,6 @@ enum-known-hazard-3 c = search rules
 enum-known-hazard-4 : tie.Need-enum-known-hazard-4
 enum-known-hazard-4 c = search rules
 
-enum-known-hazard-5 : tie.Need-enum-known-hazard-5
-enum-known-hazard-5 c = search rules
-
 returns : tie.Need-returns
 unfolding own_rate of_bits
 returns c = rw c.enum_told.given.1
@@ -43,10 +40,6 @@ returns-5 : tie.Need-returns-5
 unfolding own_rate
 returns-5 c = rw c.before.hazard4.given.1
 
-returns-6 : tie.Need-returns-6
-unfolding own_rate
-returns-6 c = rw c.before.hazard5.given.1
-
 pub own-rate-spec : {M : Type 1} → statement M
 own-rate-spec =
     tie.close
@@ -56,10 +49,8 @@ own-rate-spec =
     enum-known-hazard-2
     enum-known-hazard-3
     enum-known-hazard-4
-    enum-known-hazard-5
     returns
     returns-2
     returns-3
     returns-4
-    returns-5
-    returns-6)
+    returns-5)

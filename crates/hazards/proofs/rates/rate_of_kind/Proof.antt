@@ -19,25 +19,8 @@ returns-4 c =
 
 returns-5 : tie.Need-returns-5
 returns-5 c =
-    let b = c.before.before in
-    rw (
-      ne_eqb _ 0 b.before.before.if1.false,
-      ne_eqb _ 1 b.before.if2.false,
-      ne_eqb _ 2 b.if3.false,
-      ne_eqb _ 3 c.before.if4.false,
-      eq-eqb _ 4 c.if5.true,
-    )
-
-returns-6 : tie.Need-returns-6
-returns-6 c =
-    let b = c.before.before in
-    rw (
-      ne_eqb _ 0 b.before.before.if1.false,
-      ne_eqb _ 1 b.before.if2.false,
-      ne_eqb _ 2 b.if3.false,
-      ne_eqb _ 3 c.before.if4.false,
-      ne_eqb _ 4 c.if5.false,
-    )
+    let b = c.before in
+    rw (ne_eqb _ 0 b.before.before.if1.false, ne_eqb _ 1 b.before.if2.false, ne_eqb _ 2 b.if3.false, ne_eqb _ 3 c.if4.false)
 
 pub rate-of-kind-spec : {M : Type 1} → statement M
-rate-of-kind-spec = tie.close (tie.spec returns returns-2 returns-3 returns-4 returns-5 returns-6)
+rate-of-kind-spec = tie.close (tie.spec returns returns-2 returns-3 returns-4 returns-5)

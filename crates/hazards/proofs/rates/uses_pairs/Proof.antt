@@ -19,9 +19,6 @@ enum-told-4 c = search rules
 enum-told-5 : tie.Need-enum-told-5
 enum-told-5 c = search rules
 
-enum-told-6 : tie.Need-enum-told-6
-enum-told-6 c = search rules
-
 returns : tie.Need-returns
 unfolding uses_pairs
 returns c = rw c.enum_told.given.1
@@ -42,23 +39,7 @@ returns-5 : tie.Need-returns-5
 unfolding uses_pairs
 returns-5 c = rw c.enum-told5.given.1
 
-returns-6 : tie.Need-returns-6
-unfolding uses_pairs
-returns-6 c = rw c.enum-told6.given.1
-
 pub uses-pairs-spec : {M : Type 1} → statement M
 uses-pairs-spec =
     tie.close
-    (tie.spec
-    enum_told
-    enum-told-2
-    enum-told-3
-    enum-told-4
-    enum-told-5
-    enum-told-6
-    returns
-    returns-2
-    returns-3
-    returns-4
-    returns-5
-    returns-6)
+    (tie.spec enum_told enum-told-2 enum-told-3 enum-told-4 enum-told-5 returns returns-2 returns-3 returns-4 returns-5)

@@ -1,16 +1,16 @@
 //! From ages and rates to places in a picture of a curve.
 
-use super::curves::Curve;
+use super::curves::{Band, Curve};
 use crate::cli::svg::axis::Axis;
 use olgaemuri::Hazard;
 
-/// A piece, or a doubling, has at least so much room, for its number and its rate.
+/// A piece has at least so much room, for its number and its rate.
 const LEAST: f64 = 100.0;
 
 pub struct Axes {
-    /// Where each band begins and ends, in ages and in the picture.
+    /// Where each piece begins and ends, in ages and in the picture.
     spans: Vec<Span>,
-    /// Whether ages are to scale over all bands, not only within each.
+    /// Whether ages are to scale over all pieces, not only within each.
     pub is_to_scale: bool,
     highest: f64,
     top: f64,
@@ -36,14 +36,15 @@ pub struct Frame {
 
 impl Axes {
     pub fn new(curve: &Curve, frame: Frame) -> Self {
-        let (bands, end) = (curve.drawn(), end_age(curve));
-        let lengths: Vec<f64> = bands
+        let end = end_age(curve);
+        let lengths: Vec<f64> = curve
+            .bands
             .iter()
             .map(|band| band.to.unwrap_or(end) - band.from)
             .collect();
         let (widths, is_to_scale) = widths(&lengths, end, frame.width);
         let mut left = frame.left;
-        let spans = bands.iter().zip(widths).map(|(band, width)| {
+        let spans = curve.bands.iter().zip(widths).map(|(band, width)| {
             let right = left + width;
             Span {
                 from: band.from,
@@ -53,7 +54,7 @@ impl Axes {
             }
         });
         let spans: Vec<Span> = spans.collect();
-        let rates = bands.iter().zip(&spans);
+        let rates = curve.bands.iter().zip(&spans);
         let rates = rates.map(|(band, span)| curve.rate(band, span.to));
         let highest = rates.fold(0.0, f64::max);
         Self {
@@ -65,22 +66,22 @@ impl Axes {
         }
     }
 
-    /// Where the band at a place begins and ends in the picture.
-    pub fn borders(&self, place: usize) -> (f64, f64) {
-        let span = &self.spans[place];
+    /// Where a piece begins and ends in the picture.
+    pub fn borders(&self, band: &Band) -> (f64, f64) {
+        let span = self.span(band.number);
         (span.left, span.right)
     }
 
-    /// The ages at which the band at a place begins and ends in the picture.
-    pub fn ages(&self, place: usize) -> (f64, f64) {
-        let span = &self.spans[place];
+    /// The ages at which a piece begins and ends in the picture.
+    pub fn ages(&self, band: &Band) -> (f64, f64) {
+        let span = self.span(band.number);
         (span.from, span.to)
     }
 
-    /// Where an age of the band at a place stands. Ages are rounded, the more the later the session's time, and so may lie before the
-    /// band's beginning or past its end; such a breakdown stands at that border.
-    pub fn x(&self, place: usize, age: f64) -> f64 {
-        let span = &self.spans[place];
+    /// The place of an age of a piece. Ages are rounded, the more the later the session's time, and so may lie before the piece's
+    /// beginning or past its end; such a breakdown stands at that border.
+    pub fn x(&self, piece: u8, age: f64) -> f64 {
+        let span = self.span(piece);
         let share = (age.clamp(span.from, span.to) - span.from) / (span.to - span.from);
         span.left + (span.right - span.left) * share
     }
@@ -98,16 +99,15 @@ impl Axes {
         };
         axis.marks()
     }
+
+    fn span(&self, piece: u8) -> Span {
+        self.spans[usize::from(piece).min(self.spans.len() - 1)]
+    }
 }
 
-/// The end of the picture: somewhat after the last end of a piece, and after the last breakdown; or the end of the last band that is
-/// drawn, where that has one.
+/// The end of the picture: somewhat after the last end of a piece, and after the last breakdown.
 fn end_age(curve: &Curve) -> f64 {
-    let drawn = curve.drawn();
-    if let Some(end) = drawn[drawn.len() - 1].to {
-        return end;
-    }
-    let last = drawn.iter().filter_map(|band| band.to);
+    let last = curve.bands.iter().filter_map(|band| band.to);
     let last = last.fold(0.0, f64::max);
     let farthest = curve.strikes.iter().map(|strike| strike.age);
     let farthest = farthest.fold(0.0, f64::max);
@@ -135,7 +135,6 @@ fn widths(lengths: &[f64], end: f64, width: f64) -> (Vec<f64>, bool) {
 
 #[cfg(test)]
 mod tests {
-    use super::super::curves::Band;
     use super::*;
 
     #[test]
@@ -146,12 +145,11 @@ mod tests {
 
     #[test]
     fn ages_outside_stand_at_the_border() {
-        let band = |piece, from, to| Band {
-            first: piece,
-            last: piece,
+        let band = |number, from, to| Band {
+            number,
             from,
             to,
-            rates: Some([1.0, 1.0]),
+            rate: Some(1.0),
         };
         let curve = Curve {
             hazard: Hazard::Zero,

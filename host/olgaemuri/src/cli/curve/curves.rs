@@ -1,10 +1,10 @@
-//! The rate curves that a cause had, each with its pieces, or with its doublings, and the breakdowns that came by it.
+//! The rate curves that a cause had, each with its pieces and the breakdowns that came by it.
 
 use super::asked::Asked;
 use crate::cli::events::{Event, Fate};
 use crate::cli::report::Report;
 use crate::cli::wording::{counted, rounded};
-use olgaemuri::{Command, Hazard, Piece};
+use olgaemuri::{Command, Hazard};
 use std::collections::BTreeMap;
 
 /// All curves of a cause of a machine, in the order in which they were first set.
@@ -26,42 +26,15 @@ pub struct Curve {
     pub strikes: Vec<Strike>,
 }
 
-/// A stretch of a curve: a piece, or the 256 steps of a doubling together. Hazards without pieces have one, piece 0.
+/// A piece of a curve. Hazards without pairs have one, piece 0.
 #[derive(Clone, Copy, Debug, PartialEq)]
 pub struct Band {
-    /// The numbers of its first and its last piece.
-    pub first: u16,
-    pub last: u16,
+    pub number: u8,
     pub from: f64,
     /// None for the last one, which goes on.
     pub to: Option<f64>,
-    /// Those of its first and its last piece; none where the rate grows with the age.
-    pub rates: Option<[f64; 2]>,
-}
-
-impl Band {
-    /// Pieces that follow each other.
-    fn of(pieces: &[Piece]) -> Self {
-        let (first, last) = (pieces[0], pieces[pieces.len() - 1]);
-        Self {
-            first: first.number,
-            last: last.number,
-            from: first.from,
-            to: last.to,
-            rates: Some([first.rate, last.rate]),
-        }
-    }
-
-    /// A whole hazard with this rate, which is piece 0.
-    fn whole(rate: Option<f64>) -> Self {
-        Self {
-            first: 0,
-            last: 0,
-            from: 0.0,
-            to: None,
-            rates: rate.map(|rate| [rate, rate]),
-        }
-    }
+    /// None where it grows with the age.
+    pub rate: Option<f64>,
 }
 
 /// A breakdown that was delivered or is scheduled.
@@ -71,8 +44,7 @@ pub struct Strike {
     pub number: usize,
     /// How old the curve was, counted from the command that scheduled it.
     pub age: f64,
-    /// From 255 on it is told by the age.
-    pub piece: u16,
+    pub piece: u8,
     pub event: Event,
 }
 
@@ -96,7 +68,7 @@ pub fn curves(report: &Report, asked: &Asked) -> Curves {
                     walk.list[walk.current].strikes.push(Strike {
                         number,
                         age: applied.answer.delta,
-                        piece: event.struck.map_or(0, |piece| piece.number),
+                        piece: applied.answer.piece,
                         event: *event,
                     });
                 }
@@ -138,32 +110,34 @@ fn is_strike(event: &Event, asked: &Asked) -> bool {
     (event.machine, event.cause) == (asked.machine, asked.cause) && event.fate != Fate::Withdrawn
 }
 
-/// How many steps a doubling has.
-const DOUBLING: usize = 256;
-
-/// The pieces of a hazard, so many of them together, or all of it as piece 0.
-fn bands(hazard: &Hazard, together: usize) -> Vec<Band> {
+/// The pieces of a hazard, or all of it as piece 0.
+fn bands(hazard: &Hazard) -> Vec<Band> {
     let above_zero = |rate: f64| if rate > 0.0 { rate } else { 0.0 };
-    let pieces: Vec<Piece> = hazard.pieces().collect();
-    match hazard {
-        _ if !pieces.is_empty() => pieces.chunks(together).map(Band::of).collect(),
-        Hazard::Constant(rate) | Hazard::Gompertz(rate) => {
-            vec![Band::whole(Some(above_zero(*rate)))]
+    let rate = match hazard {
+        Hazard::PiecewiseConstant { .. } => {
+            let bands = hazard.pieces().map(|piece| Band {
+                number: piece.number,
+                from: piece.from,
+                to: piece.to,
+                rate: Some(piece.rate),
+            });
+            return bands.collect();
         }
-        Hazard::Weibull(scale) if *scale > 0.0 => vec![Band::whole(None)],
-        _ => vec![Band::whole(Some(0.0))],
-    }
+        Hazard::Constant(rate) | Hazard::Gompertz(rate) => Some(above_zero(*rate)),
+        Hazard::Weibull(scale) if *scale > 0.0 => None,
+        _ => Some(0.0),
+    };
+    vec![Band {
+        number: 0,
+        from: 0.0,
+        to: None,
+        rate,
+    }]
 }
 
 impl Curves {
     pub fn title(&self) -> String {
         format!("{}: {}", self.machine_name, self.cause_name)
-    }
-
-    /// Whether the age tells the piece of a breakdown, since the engine tells no number above 255.
-    pub fn has_told_by_age(&self) -> bool {
-        let mut strikes = self.list.iter().flat_map(|curve| &curve.strikes);
-        strikes.any(|strike| strike.piece >= u16::from(u8::MAX))
     }
 
     /// Whether a breakdown came at once.
@@ -200,43 +174,15 @@ impl Curve {
         Self {
             hazard: hazard.clone(),
             set_at: Vec::new(),
-            bands: match hazard {
-                Hazard::Doubling { .. } => bands(hazard, DOUBLING),
-                _ => bands(hazard, 1),
-            },
+            bands: bands(hazard),
             strikes: Vec::new(),
-        }
-    }
-
-    /// Whether its rate doubles. Its bands are doublings then.
-    pub fn doubles(&self) -> bool {
-        matches!(self.hazard, Hazard::Doubling { .. })
-    }
-
-    /// Every piece by itself.
-    pub fn pieces(&self) -> Vec<Band> {
-        bands(&self.hazard, 1)
-    }
-
-    /// The place of the band that has a piece.
-    pub fn place(&self, piece: u16) -> usize {
-        let ends = self.bands.partition_point(|band| band.last < piece);
-        ends.min(self.bands.len() - 1)
-    }
-
-    /// The bands that a picture needs: all, or of a rate that doubles those up to the last breakdown.
-    pub fn drawn(&self) -> &[Band] {
-        let last = self.strikes.iter().map(|strike| strike.piece).max();
-        match self.doubles() {
-            true => &self.bands[..=self.place(last.unwrap_or(0))],
-            false => &self.bands,
         }
     }
 
     /// How many breakdowns a piece has that came to this. Those at once are none of them.
     pub fn count(&self, band: &Band, fate: Fate) -> usize {
         let strikes = self.strikes.iter().filter(|strike| !strike.is_at_once());
-        let strikes = strikes.filter(|strike| (band.first..=band.last).contains(&strike.piece));
+        let strikes = strikes.filter(|strike| strike.piece == band.number);
         strikes.filter(|strike| strike.event.fate == fate).count()
     }
 
@@ -256,18 +202,10 @@ impl Curve {
         self.count_at_once(Fate::Delivered) + self.count_at_once(Fate::Pending)
     }
 
-    /// The rate at an age of a piece; of a doubling that of its last step.
+    /// The rate at an age of a piece.
     pub fn rate(&self, band: &Band, age: f64) -> f64 {
         let scale = self.hazard.first();
-        let grown = || (2.0 / scale) * (age / scale);
-        band.rates.map_or_else(grown, |rates| rates[1])
-    }
-
-    /// The rate with which a breakdown comes.
-    pub fn struck_rate(&self, strike: &Strike) -> f64 {
-        let piece = self.hazard.piece(strike.piece);
-        let whole = || self.rate(&self.bands[0], strike.age);
-        piece.map_or_else(whole, |piece| piece.rate)
+        band.rate.unwrap_or_else(|| (2.0 / scale) * (age / scale))
     }
 
     /// When it was set, in words.
@@ -290,17 +228,10 @@ mod tests {
     use super::*;
     use olgaemuri::Pair;
 
-    fn rates(hazard: &Hazard) -> Vec<(u16, f64, Option<f64>, Option<f64>)> {
-        let bands = bands(hazard, 1).into_iter();
+    fn rates(hazard: &Hazard) -> Vec<(u8, f64, Option<f64>, Option<f64>)> {
+        let bands = bands(hazard).into_iter();
         bands
-            .map(|band| {
-                (
-                    band.first,
-                    band.from,
-                    band.to,
-                    band.rates.map(|rates| rates[1]),
-                )
-            })
+            .map(|band| (band.number, band.from, band.to, band.rate))
             .collect()
     }
 

@@ -1,14 +1,12 @@
-//! The curves drawn: rate over age, each piece with its number, or each doubling with all its steps, and the breakdowns in the pieces in
-//! which they fall.
+//! The curves drawn: rate over age, each piece with its number, and the breakdowns in the pieces in which they fall.
 
 use super::axes::{Axes, Frame};
-use super::curves::{Curve, Curves, Strike};
-use super::shown::{AGES, AT_ONCE, BY_AGE, rate_words};
+use super::curves::{Band, Curve, Curves, Strike};
+use super::shown::{AGES, AT_ONCE, rate_words};
 use crate::cli::events::Fate;
 use crate::cli::svg::marks::Palette;
 use crate::cli::svg::xml::{escaped, line, place, rectangle, text};
 use crate::cli::wording::{counted, hazard_words, rounded};
-use olgaemuri::Piece;
 use olgaemuri::text::{cut, float_text};
 use std::io::{self, Write};
 
@@ -22,9 +20,7 @@ const PANEL: f64 = 392.0;
 const HEADS: f64 = 92.0;
 const PLOT: f64 = 232.0;
 
-/// The legend with up to three notes, and a note.
 const LEGEND: f64 = 92.0;
-const NOTE: f64 = 18.0;
 
 /// Letters that there is room for in a line over the whole width.
 const LETTERS: usize = 160;
@@ -35,14 +31,8 @@ const LABEL: f64 = 44.0;
 const STYLE: &str = include_str!("style.css");
 
 pub fn write_picture(curves: &Curves, title: &str, out: &mut dyn Write) -> io::Result<()> {
-    let panels = curves.list.iter().zip(0..);
-    let panels: Vec<Panel> = panels
-        .map(|(curve, number)| Panel::new(curves, number, curve))
-        .collect();
-    let notes = notes(curves, &panels);
-    let legend = TOP + PANEL * panels.len() as f64;
-    let more = NOTE * notes.len().saturating_sub(3) as f64;
-    let [width, height] = [WIDTH, legend + LEGEND + more].map(place);
+    let legend = TOP + PANEL * curves.list.len() as f64;
+    let [width, height] = [WIDTH, legend + LEGEND].map(place);
     let (title, summary) = (escaped(title), escaped(&curves.summary()));
     write!(
         out,
@@ -53,8 +43,13 @@ pub fn write_picture(curves: &Curves, title: &str, out: &mut dyn Write) -> io::R
          <text class=\"title\" x=\"24\" y=\"30\">{title}</text>\n\
          <text class=\"sub\" x=\"24\" y=\"49\">{summary}</text>\n"
     )?;
-    panels.iter().try_for_each(|panel| panel.write(out))?;
-    writeln!(out, "{}</svg>", legend_lines(curves, legend, &notes))
+    for (curve, number) in curves.list.iter().zip(0..) {
+        let panel = Panel::new(curves, number, curve);
+        panel.write(out)?;
+    }
+    let is_to_scale = |(curve, number)| Panel::new(curves, number, curve).axes.is_to_scale;
+    let to_scale = curves.list.iter().zip(0..).all(is_to_scale);
+    writeln!(out, "{}</svg>", legend_lines(curves, legend, to_scale))
 }
 
 /// A curve in its part of the picture.
@@ -96,15 +91,11 @@ impl<'a> Panel<'a> {
 
     fn write(&self, out: &mut dyn Write) -> io::Result<()> {
         let heading = text("heading", 24.0, self.top + 16.0, &self.heading);
-        let places = 0..self.curve.drawn().len();
-        let backs = places.clone().map(|place| self.back(place));
-        let heads = places.clone().map(|place| self.head(place));
+        let backs = self.curve.bands.iter().map(|band| self.back(band));
+        let heads = self.curve.bands.iter().map(|band| self.head(band));
         let rates = self.axes.rate_marks().into_iter();
         let rates = rates.map(|rate| self.rate_mark(rate));
-        let lines = places.map(|place| match self.curve.doubles() {
-            true => self.steps(place),
-            false => self.rate_line(place),
-        });
+        let lines = self.curve.bands.iter().map(|band| self.rate_line(band));
         let strikes = self.curve.strikes.iter().map(|strike| self.strike(strike));
         let mut parts = std::iter::once(heading)
             .chain(backs)
@@ -117,10 +108,10 @@ impl<'a> Panel<'a> {
         parts.try_for_each(|part| out.write_all(part.as_bytes()))
     }
 
-    /// The background of a piece or a doubling, from its head to the axis.
-    fn back(&self, place: usize) -> String {
-        let (left, right) = self.axes.borders(place);
-        let class = match (self.curve.struck(&self.curve.bands[place]), place % 2) {
+    /// The background of a piece, from its head to the axis.
+    fn back(&self, band: &Band) -> String {
+        let (left, right) = self.axes.borders(band);
+        let class = match (self.curve.struck(band), band.number % 2) {
             (0, 0) => "even",
             (0, _) => "odd",
             _ => "struck",
@@ -129,45 +120,32 @@ impl<'a> Panel<'a> {
         rectangle(class, left, top, right - left, self.bottom() - top)
     }
 
-    /// The name and the rate of a piece or a doubling, how many breakdowns fall in it, and its end.
-    fn head(&self, place: usize) -> String {
-        let (band, (left, right)) = (&self.curve.bands[place], self.axes.borders(place));
+    /// The number and the rate of a piece, how many breakdowns fall in it, and its end.
+    fn head(&self, band: &Band) -> String {
+        let (left, right) = self.axes.borders(band);
         let (centre, bottom) = ((left + right) / 2.0, self.bottom());
-        let words = match self.curve.struck(band) {
-            0 => "no breakdown".to_string(),
-            struck => counted(struck, "breakdown"),
+        let (ring, digit, words) = match self.curve.struck(band) {
+            0 => ("ring", "number", "no breakdown".to_string()),
+            struck => ("ring-struck", "number-struck", counted(struck, "breakdown")),
         };
-        let rate = rate_words(self.curve, band);
+        let [x, y] = [centre, self.top + 44.0].map(place);
         let end = band.to.map_or(String::new(), |end| {
             let border = line("border", (right, self.top + 30.0), (right, bottom));
             border + &text("time", right, bottom + 20.0, &rounded(end))
         });
         [
-            self.name(place, centre),
-            text("rate", centre, self.top + 70.0, &rate),
+            format!("<circle class=\"{ring}\" cx=\"{x}\" cy=\"{y}\" r=\"11\"/>\n"),
+            text(digit, centre, self.top + 49.0, &band.number.to_string()),
+            text(
+                "rate",
+                centre,
+                self.top + 70.0,
+                &rate_words(self.curve, band),
+            ),
             text("count", centre, self.top + 85.0, &words),
             end,
         ]
         .concat()
-    }
-
-    /// The number of a piece in a ring, or which doubling it is.
-    fn name(&self, place_of: usize, centre: f64) -> String {
-        let band = &self.curve.bands[place_of];
-        if self.curve.doubles() {
-            let words = match band.to {
-                Some(_) => format!("doubling {}", place_of + 1),
-                None => "last rate".to_string(),
-            };
-            return text("number", centre, self.top + 49.0, &words);
-        }
-        let (ring, digit) = match self.curve.struck(band) {
-            0 => ("ring", "number"),
-            _ => ("ring-struck", "number-struck"),
-        };
-        let [x, y] = [centre, self.top + 44.0].map(place);
-        format!("<circle class=\"{ring}\" cx=\"{x}\" cy=\"{y}\" r=\"11\"/>\n")
-            + &text(digit, centre, self.top + 49.0, &band.first.to_string())
     }
 
     /// How many breakdowns came at once, beside the pieces, none of which counts them.
@@ -190,33 +168,24 @@ impl<'a> Panel<'a> {
 
     fn age_axis(&self) -> String {
         let (bottom, right) = (self.bottom(), WIDTH - RIGHT);
-        let goes_on = match self.is_cut() {
-            true => String::new(),
-            false => text("on", right, bottom + 20.0, "on \u{2192}"),
-        };
         let axes = [
             line("axis", (LEFT, bottom), (right, bottom)),
             line("axis", (LEFT, self.top + HEADS), (LEFT, bottom)),
             text("time", LEFT, bottom + 20.0, "0"),
             text("time", LEFT + (right - LEFT) / 2.0, bottom + 38.0, "age"),
             text("amount", LEFT - 8.0, self.top + HEADS - 16.0, "rate"),
-            goes_on,
+            text("on", right, bottom + 20.0, "on \u{2192}"),
         ];
         axes.concat()
     }
 
-    /// Whether the curve goes on with doublings that are not drawn.
-    fn is_cut(&self) -> bool {
-        self.curve.drawn().len() < self.curve.bands.len()
-    }
-
     /// The curve over a piece, and the step to the next one.
-    fn rate_line(&self, place: usize) -> String {
-        let ((left, right), (from, to)) = (self.axes.borders(place), self.axes.ages(place));
-        let bands = &self.curve.bands;
-        let [begin, end] = [from, to].map(|age| self.axes.y(self.curve.rate(&bands[place], age)));
+    fn rate_line(&self, band: &Band) -> String {
+        let ((left, right), (from, to)) = (self.axes.borders(band), self.axes.ages(band));
+        let [begin, end] = [from, to].map(|age| self.axes.y(self.curve.rate(band, age)));
         let curve = line("curve", (left, begin), (right, end));
-        match bands.get(place + 1) {
+        let next = self.curve.bands.get(usize::from(band.number) + 1);
+        match next {
             Some(next) => {
                 let y = self.axes.y(self.curve.rate(next, to));
                 curve + &line("step", (right, end), (right, y))
@@ -225,33 +194,14 @@ impl<'a> Panel<'a> {
         }
     }
 
-    /// The steps of a doubling, each as long and as high as it is, from the rate before them on.
-    fn steps(&self, place_of: usize) -> String {
-        let (band, (left, right)) = (&self.curve.bands[place_of], self.axes.borders(place_of));
-        let piece = |number: u16| self.curve.hazard.piece(number);
-        let before = piece(band.first.saturating_sub(1));
-        let begin = self.axes.y(before.map_or(0.0, |piece| piece.rate));
-        let step = |piece: Piece| {
-            let end = piece.to.map_or(right, |to| self.axes.x(place_of, to));
-            format!(" V{} H{}", place(self.axes.y(piece.rate)), place(end))
-        };
-        let pieces = (band.first..=band.last).filter_map(piece);
-        let steps: String = pieces.map(step).collect();
-        let [x, y] = [left, begin].map(place);
-        let path = format!("<path class=\"steps\" d=\"M{x} {y}{steps}\"/>\n");
-        match band.to {
-            Some(_) => path,
-            None => path + &arrow(right, begin),
-        }
-    }
-
     /// Where a breakdown stands: on the curve, or at age 0 of the axis where it came at once.
     fn place(&self, strike: &Strike) -> (f64, f64) {
         if strike.is_at_once() {
             return (LEFT, self.bottom());
         }
-        let x = self.axes.x(self.curve.place(strike.piece), strike.age);
-        (x, self.axes.y(self.curve.struck_rate(strike)))
+        let piece = usize::from(strike.piece).min(self.curve.bands.len() - 1);
+        let rate = self.curve.rate(&self.curve.bands[piece], strike.age);
+        (self.axes.x(strike.piece, strike.age), self.axes.y(rate))
     }
 
     fn strike(&self, strike: &Strike) -> String {
@@ -318,45 +268,25 @@ fn arrow(x: f64, y: f64) -> String {
     )
 }
 
-/// What an age is, and what else there is to say.
-fn notes(curves: &Curves, panels: &[Panel]) -> Vec<&'static str> {
-    let is_to_scale = panels.iter().all(|panel| panel.axes.is_to_scale);
-    let is_cut = panels.iter().any(Panel::is_cut);
-    let scale = match curves.list.iter().any(Curve::doubles) {
-        true => "Ages are to scale within a piece or doubling, not from one to the next.",
-        false => "Ages are to scale within a piece, not from one piece to the next.",
-    };
-    let cut = "A rate that doubles is drawn, with all its steps, as far as its breakdowns need it; it doubles eight times.";
+/// What the marks mean, and what an age is.
+fn legend_lines(curves: &Curves, top: f64, is_to_scale: bool) -> String {
+    let y = top + 12.0;
+    let mark = |fate, x| Palette::new(&[]).mark(curves.cause, fate, x, y - 4.5) + "\n";
+    let scale = "Ages are to scale within a piece, not from one piece to the next.";
     let notes = [
         Some(AGES),
         curves.has_at_once().then_some(AT_ONCE),
-        curves.has_told_by_age().then_some(BY_AGE),
-        is_cut.then_some(cut),
         (!is_to_scale).then_some(scale),
     ];
-    notes.into_iter().flatten().collect()
-}
-
-/// What the marks mean, and the notes.
-fn legend_lines(curves: &Curves, top: f64, notes: &[&str]) -> String {
-    let y = top + 12.0;
-    let mark = |fate, x| Palette::new(&[]).mark(curves.cause, fate, x, y - 4.5) + "\n";
-    let notes = notes.iter().zip(0..);
-    let note =
-        |(words, line): (&&str, i32)| text("sub", 24.0, y + 26.0 + NOTE * f64::from(line), words);
-    let doubling = curves.list.iter().filter(|curve| curve.doubles()).count();
-    let struck = match doubling {
-        0 => "piece in which breakdowns fall",
-        all if all == curves.list.len() => "doubling in which breakdowns fall",
-        _ => "piece or doubling in which breakdowns fall",
-    };
+    let notes = notes.into_iter().flatten().zip(0..);
+    let note = |(words, line)| text("sub", 24.0, y + 26.0 + 18.0 * f64::from(line), words);
     [
         mark(Fate::Delivered, 36.0),
         text("legend", 56.0, y, "breakdown delivered"),
         mark(Fate::Pending, 236.0),
         text("legend", 256.0, y, "breakdown scheduled"),
         rectangle("struck", 436.0, y - 12.0, 24.0, 15.0),
-        text("legend", 470.0, y, struck),
+        text("legend", 470.0, y, "piece in which breakdowns fall"),
         notes.map(note).collect(),
     ]
     .concat()

@@ -17,21 +17,6 @@ pub const AGES: &str = "Ages count from the `reschedule` or `resume` that schedu
 pub const AT_ONCE: &str = "At once: at age 0, with piece 0 in the engine's answer. Nothing was left of the threshold, or the wait \
     rounds to 0; so these breakdowns count for no piece.";
 
-/// How the pieces from 255 on are found, where a breakdown falls in one.
-pub const BY_AGE: &str = "The engine tells the pieces of a rate that doubles up to 254. From 255 on the age decides, by the ends of the \
-    steps, (piece + 1) x (doubling time / 256).";
-
-/// Of a rate that doubles.
-const DOUBLINGS: [Column; 7] = [
-    Column::Right("doubling"),
-    Column::Right("pieces"),
-    Column::Right("from"),
-    Column::Right("to"),
-    Column::Right("first rate"),
-    Column::Right("last rate"),
-    Column::Right("breakdowns"),
-];
-
 const PIECES: [Column; 5] = [
     Column::Right("piece"),
     Column::Right("from"),
@@ -58,8 +43,7 @@ pub fn write_table(curves: &Curves, most: Option<usize>, out: &mut dyn Write) ->
         write_tables(curve, most, out)?;
     }
     let at_once = curves.has_at_once().then_some(AT_ONCE);
-    let by_age = curves.has_told_by_age().then_some(BY_AGE);
-    for words in [AGES].into_iter().chain(at_once).chain(by_age) {
+    for words in [AGES].into_iter().chain(at_once) {
         writeln!(out)?;
         write_wrapped(words, most.or(Some(80)), out)?;
     }
@@ -72,11 +56,11 @@ fn write_tables(curve: &Curve, most: Option<usize>, out: &mut dyn Write) -> io::
     writeln!(out)?;
     write_wrapped(&head, most, out)?;
     writeln!(out)?;
-    if curve.doubles() {
-        write_aligned(&DOUBLINGS, || doubling_rows(curve), most, out)?;
-    } else {
-        write_aligned(&PIECES, || piece_rows(curve), most, out)?;
-    }
+    let pieces = || {
+        let pieces = curve.bands.iter().map(|band| piece_cells(curve, band));
+        pieces.chain(at_once_cells(curve))
+    };
+    write_aligned(&PIECES, pieces, most, out)?;
     if !curve.strikes.is_empty() {
         writeln!(out)?;
         let strikes = || curve.strikes.iter().map(strike_cells);
@@ -91,64 +75,26 @@ fn write_wrapped(words: &str, most: Option<usize>, out: &mut dyn Write) -> io::R
     lines.try_for_each(|line| writeln!(out, "{line}"))
 }
 
-/// A line for each piece, and one for the breakdowns at once, if there are any.
-fn piece_rows(curve: &Curve) -> impl Iterator<Item = Vec<String>> {
-    let cells = |band: &Band| {
-        vec![
-            band.first.to_string(),
-            rounded(band.from),
-            to_words(band),
-            rate_words(curve, band),
-            curve.struck(band).to_string(),
-        ]
-    };
-    let at_once = at_once_cells(curve, ["at once", "0", "0", ""]);
-    curve.bands.iter().map(cells).chain(at_once)
+fn piece_cells(curve: &Curve, band: &Band) -> Vec<String> {
+    vec![
+        band.number.to_string(),
+        rounded(band.from),
+        band.to.map_or("on".to_string(), rounded),
+        rate_words(curve, band),
+        curve.struck(band).to_string(),
+    ]
 }
 
-/// A line for each doubling, one for the rate after the last step, and one for the breakdowns at once, if there are any.
-fn doubling_rows(curve: &Curve) -> impl Iterator<Item = Vec<String>> {
-    let cells = |(band, number): (&Band, usize)| {
-        let (name, pieces) = match band.to {
-            Some(_) => (
-                number.to_string(),
-                format!("{} to {}", band.first, band.last),
-            ),
-            None => ("then".to_string(), band.first.to_string()),
-        };
-        let [first, last] = band.rates.unwrap_or_default().map(rounded);
-        let struck = curve.struck(band).to_string();
-        vec![
-            name,
-            pieces,
-            rounded(band.from),
-            to_words(band),
-            first,
-            last,
-            struck,
-        ]
-    };
-    let at_once = at_once_cells(curve, ["at once", "", "0", "0", "", ""]);
-    curve.bands.iter().zip(1..).map(cells).chain(at_once)
+/// The breakdowns at once as a last line, if there are any.
+fn at_once_cells(curve: &Curve) -> Option<Vec<String>> {
+    let cells = ["at once", "0", "0", "", &curve.at_once().to_string()].map(str::to_string);
+    (curve.at_once() > 0).then(|| cells.to_vec())
 }
 
-fn to_words(band: &Band) -> String {
-    band.to.map_or("on".to_string(), rounded)
-}
-
-/// These words and the breakdowns at once as a last line, if there are any.
-fn at_once_cells<const N: usize>(curve: &Curve, words: [&str; N]) -> Option<Vec<String>> {
-    let count = curve.at_once().to_string();
-    let cells = words.into_iter().chain([count.as_str()]);
-    let cells = cells.map(str::to_string).collect();
-    Some(cells).filter(|_| curve.at_once() > 0)
-}
-
-/// The rate of a piece, how fast it grows, or from where on it doubles.
+/// The rate of a piece, or how fast it grows.
 pub fn rate_words(curve: &Curve, band: &Band) -> String {
-    match band.rates {
-        Some([first, _]) if band.first < band.last => format!("from {}", rounded(first)),
-        Some([rate, _]) => rounded(rate),
+    match band.rate {
+        Some(rate) => rounded(rate),
         None => format!("{} x age", rounded(curve.rate(band, 1.0))),
     }
 }
@@ -178,27 +124,21 @@ pub fn write_csv(curves: &Curves, out: &mut dyn Write) -> io::Result<()> {
 }
 
 fn write_rows(curve: &Curve, number: usize, out: &mut dyn Write) -> io::Result<()> {
-    let pieces = curve.pieces();
-    let pieces = pieces.iter().map(|band| piece_row(curve, band));
+    let pieces = curve.bands.iter().map(|band| piece_row(curve, band));
     let mut rows = pieces.chain(at_once_row(curve));
     rows.try_for_each(|row| writeln!(out, "{number},{row}"))
 }
 
 fn piece_row(curve: &Curve, band: &Band) -> String {
     let cells = [
-        band.first.to_string(),
+        band.number.to_string(),
         float_text(band.from),
         band.to.map_or(String::new(), float_text),
-        rate(band).map_or(String::new(), float_text),
+        band.rate.map_or(String::new(), float_text),
         curve.count(band, Fate::Delivered).to_string(),
         curve.count(band, Fate::Pending).to_string(),
     ];
     cells.join(",")
-}
-
-/// The one rate of a piece; none where it grows.
-fn rate(band: &Band) -> Option<f64> {
-    band.rates.map(|[rate, _]| rate)
 }
 
 /// From age 0 to age 0, without a piece and a rate.
@@ -225,8 +165,7 @@ pub fn write_json(curves: &Curves, out: &mut dyn Write) -> io::Result<()> {
 
 fn write_curve(curve: &Curve, out: &mut dyn Write) -> io::Result<()> {
     let set_at: Vec<String> = curve.set_at.iter().map(|time| number(*time)).collect();
-    let pieces = curve.pieces();
-    let pieces = pieces.iter().map(|band| piece_object(curve, band));
+    let pieces = curve.bands.iter().map(|band| piece_object(curve, band));
     let strikes = curve.strikes.iter().map(strike_object);
     writeln!(out, "    {{")?;
     writeln!(
@@ -260,10 +199,10 @@ fn write_array(
 fn piece_object(curve: &Curve, band: &Band) -> String {
     let count = |fate| curve.count(band, fate).to_string();
     object(&[
-        ("piece", band.first.to_string()),
+        ("piece", band.number.to_string()),
         ("from", number(band.from)),
         ("to", maybe(band.to, number)),
-        ("rate", maybe(rate(band), number)),
+        ("rate", maybe(band.rate, number)),
         ("delivered", count(Fate::Delivered)),
         ("scheduled", count(Fate::Pending)),
     ])

@@ -98,14 +98,7 @@ pub fn typed() -> String {
 }
 
 /// The kinds of hazards, which the format tells of under `hazard`.
-const KINDS: [&str; 6] = [
-    "zero",
-    "constant",
-    "gompertz",
-    "piecewise",
-    "weibull",
-    "doubling",
-];
+const KINDS: [&str; 5] = ["zero", "constant", "gompertz", "piecewise", "weibull"];
 
 /// The lines of these texts that tell of one word, with those that go on from them.
 pub fn lines_on(word: &str, texts: &[&str]) -> String {

@@ -93,14 +93,9 @@ fn fates(events: &[Event]) -> Vec<Item> {
         (Fate::Withdrawn, "crossed out, above the bar: withdrawn"),
     ];
     let is_numbered = |event: &Event| event.struck.is_some() && event.fate != Fate::Withdrawn;
-    let is_last = |event: &Event| event.piece() == Some(u8::MAX);
-    let more = match events.iter().any(is_last) {
-        true => "; 255+: that or a later one",
-        false => "",
-    };
     let piece = events.iter().any(is_numbered).then(|| {
-        let words = format!("number: piece of the cause's rate curve, from 0{more}");
-        (Sample::Piece, words)
+        let words = "number: piece of the cause's rate curve, from 0";
+        (Sample::Piece, words.to_string())
     });
     fates.map(item).into_iter().chain(piece).collect()
 }
@@ -114,7 +109,7 @@ fn drawn(sample: &Sample, palette: &Palette, x: f64, y: f64) -> String {
         }
         Sample::Cause(cause) => palette.mark(*cause, Fate::Delivered, x, y),
         Sample::Fate(fate) => Palette::neutral_mark(*fate, x, y),
-        Sample::Piece => Palette::neutral_numbered_mark("1", x, y),
+        Sample::Piece => Palette::neutral_numbered_mark(1, x, y),
     };
     mark + "\n"
 }

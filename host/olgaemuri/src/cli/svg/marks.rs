@@ -5,9 +5,9 @@
 use super::xml::{escaped, place, text};
 use crate::cli::csv::piece_cell;
 use crate::cli::events::{Event, Fate};
-use crate::cli::wording::{piece_number, piece_words, rounded};
+use crate::cli::wording::{piece_words, rounded};
+use olgaemuri::NO_CAUSE;
 use olgaemuri::text::{Names, float_text};
-use olgaemuri::{NO_CAUSE, Piece};
 
 /// Okabe and Ito's colours, which the colour-blind can tell apart.
 const COLOURS: [&str; 8] = [
@@ -105,7 +105,7 @@ impl Palette {
     }
 
     /// The mark of an event with the number of its piece; a withdrawn one is too small for it.
-    pub fn numbered_mark(&self, cause: u32, fate: Fate, piece: &Piece, x: f64, y: f64) -> String {
+    pub fn numbered_mark(&self, cause: u32, fate: Fate, number: u8, x: f64, y: f64) -> String {
         if fate == Fate::Withdrawn {
             return self.mark(cause, fate, x, y);
         }
@@ -115,16 +115,14 @@ impl Palette {
             4 => -1.5,
             _ => 0.0,
         };
-        let number = piece_number(piece);
-        let radius = if is_long(&number) { LONG } else { NUMBERED };
-        let outline = self.outline(cause, x, y, radius);
-        painted(&outline, self.colour(cause), fate, x, y) + &digits(&number, fate, x, y + shift)
+        let outline = self.outline(cause, x, y, NUMBERED);
+        painted(&outline, self.colour(cause), fate, x, y) + &digit(number, fate, x, y + shift)
     }
 
     /// A mark for the legend that has a number and no cause.
-    pub fn neutral_numbered_mark(number: &str, x: f64, y: f64) -> String {
+    pub fn neutral_numbered_mark(number: u8, x: f64, y: f64) -> String {
         let fate = Fate::Delivered;
-        painted(&circle(x, y, NUMBERED), GREY, fate, x, y) + &digits(number, fate, x, y)
+        painted(&circle(x, y, NUMBERED), GREY, fate, x, y) + &digit(number, fate, x, y)
     }
 
     /// A mark for the legend that has no cause.
@@ -133,24 +131,18 @@ impl Palette {
     }
 }
 
-/// The radius of a mark with a number, and with one that has more than two digits.
+/// The radius of a mark with a number.
 const NUMBERED: f64 = 8.5;
-const LONG: f64 = 11.0;
-
-fn is_long(number: &str) -> bool {
-    number.len() > 2
-}
 
 /// The number of a piece in the middle of a mark.
-fn digits(number: &str, fate: Fate, x: f64, y: f64) -> String {
-    let (class, down) = match (fate == Fate::Delivered, is_long(number)) {
-        (true, false) => ("piece", 3.6),
-        (false, false) => ("piece-due", 3.6),
-        (true, true) => ("piece-long", 2.5),
-        (false, true) => ("piece-long-due", 2.5),
+fn digit(number: u8, fate: Fate, x: f64, y: f64) -> String {
+    let class = if fate == Fate::Delivered {
+        "piece"
+    } else {
+        "piece-due"
     };
-    let digits = text(class, x, y + down, number);
-    digits.trim_end().to_string()
+    let digit = text(class, x, y + 3.6, &number.to_string());
+    digit.trim_end().to_string()
 }
 
 fn radius(fate: Fate) -> f64 {

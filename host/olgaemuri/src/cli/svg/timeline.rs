@@ -181,7 +181,7 @@ impl<'a> Timeline<'a> {
         };
         let (cause, fate) = (event.cause, event.fate);
         let mut mark = match event.struck {
-            Some(piece) => self.palette.numbered_mark(cause, fate, &piece, x, y),
+            Some(piece) => self.palette.numbered_mark(cause, fate, piece.number, x, y),
             None => self.palette.mark(cause, fate, x, y),
         };
         if self.axis.is_beyond(event.time) {

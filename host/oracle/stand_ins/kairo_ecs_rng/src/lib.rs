@@ -1,12 +1,10 @@
 //! Stand-in for the crate `kairo_ecs_rng`: its competing_risks.rs, unchanged, over a stream of
 //! recorded thresholds in place of the generator (document 01, "Draws": the tape). Clocks hold a
-//! hazard that is the Rust's own or kind 4 or 5 of document 02.
+//! hazard that is the Rust's own or kind 4 of document 02.
 
 #![forbid(unsafe_code)]
 
-mod doubling;
 mod hazard_rate;
-mod roots_of_two;
 mod stream;
 mod weibull;
 
@@ -17,9 +15,7 @@ pub use competing_risks::{
     draw_standard_threshold, CauseId, CompetingCause, CompetingHazards,
     HazardRate as UnchangedHazard, RealizedEvent, TieBreaker,
 };
-pub use doubling::{step_end, step_rate, steps, Doubling, STEPS};
 pub use hazard_rate::HazardRate;
-pub use roots_of_two::{table, ENTRIES};
 pub use stream::{DeterministicStream, THRESHOLD_BYTES};
 pub use weibull::Weibull;
 
