@@ -1,4 +1,6 @@
 // Clears bytes between bytes that stay, by `journal::clear` and by UNDO, and holds every byte of the buffer to what is due.
+#![tactic(auto)]
+
 mod cleared;
 mod report;
 mod reverted;

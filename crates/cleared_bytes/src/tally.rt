@@ -1,5 +1,5 @@
 // What was counted: tries, and those that left another byte than is due.
-#[derive(Drop)]
+#[derive(Clone, Copy)]
 pub struct Tally {
     pub tries: u64,
     pub wrong: u64,

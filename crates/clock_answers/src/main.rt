@@ -1,6 +1,8 @@
 // Replays the fixed list of steps of single clocks, with the answer, the draw position and every field of the clock after each as the
 // unchanged Rust has them, and says how many steps there are and how many differ. The list's layout, and how it was made, are in
 // host/README.md.
+#![tactic(auto)]
+
 mod agreement;
 mod clock_record;
 mod steps;
@@ -18,7 +20,7 @@ fn one_unless(agrees: bool) -> u64
 }
 
 // How many steps there were, and how many differ.
-#[derive(Drop)]
+#[derive(Clone, Copy)]
 struct Count {
     cases: u64,
     differing: u64,

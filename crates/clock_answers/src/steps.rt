@@ -19,7 +19,7 @@ const REQUESTS_FIELD: usize = 156;
 const POSITION_FIELD: usize = 164;
 
 // The ticks of the clock's pending request, and the answer and draw position of its last step.
-#[derive(Drop)]
+#[derive(Clone, Copy)]
 pub struct Played {
     pub ticks: Ticks,
     pub answer: Answer,

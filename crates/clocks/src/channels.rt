@@ -15,7 +15,7 @@ use crate::layout::{
 };
 use hazards::rates::{HazardRate, Intervals};
 
-#[derive(Drop)]
+#[derive(Clone, Copy)]
 pub struct HazardChannelState {
     pub cause_id: u32,
     pub priority: u32,
@@ -27,7 +27,7 @@ pub struct HazardChannelState {
 }
 
 // The place of the used channel with a cause, if any.
-#[derive(Drop)]
+#[derive(Clone, Copy)]
 pub enum CausePlace {
     At(usize),
     Absent,

@@ -17,13 +17,13 @@ use hazards::floats::not_below_zero;
 use hazards::refusals::NO_CAUSE;
 use hazards::ties::Earliest;
 
-#[derive(Drop)]
+#[derive(Clone, Copy)]
 pub struct Censor {
     pub present: bool,
     pub time: f64,
 }
 
-#[derive(Drop)]
+#[derive(Clone, Copy)]
 pub struct RealizedEvent {
     pub present: bool,
     pub winning_cause: u32,
@@ -33,7 +33,7 @@ pub struct RealizedEvent {
 }
 
 // The event that is withdrawn, and the event that is asked for, with its ticks.
-#[derive(Drop)]
+#[derive(Clone, Copy)]
 pub struct QueueChange {
     pub withdrawn: ScheduledEvent,
     pub event: RealizedEvent,

@@ -11,7 +11,7 @@ use hazards::draws::StreamPosition;
 use hazards::rates::{HazardRate, Intervals};
 
 // What SET says of a cause.
-#[derive(Drop)]
+#[derive(Clone, Copy)]
 pub struct CauseSetting {
     pub cause_id: u32,
     pub priority: u32,
@@ -21,7 +21,7 @@ pub struct CauseSetting {
 }
 
 // The refusal or 0, and the draw position after it.
-#[derive(Drop)]
+#[derive(Clone, Copy)]
 pub struct ChannelDraw {
     pub number: u8,
     pub position: usize,

@@ -4,7 +4,7 @@ ghost use Rattle.std.specs.Float.{binary64};
 ghost use Rattle.std.specs.Float.Ieee.{of_bits};
 ghost use Rattle.clocks.specs.Ticks.{nearest_up, whole_ticks, ticks_of, ticks_at};
 
-#[derive(Drop)]
+#[derive(Clone, Copy)]
 pub struct Ticks {
     pub low: u64,
     pub high: u64,

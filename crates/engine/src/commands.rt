@@ -210,7 +210,7 @@ pub fn cause_faults(command: &[u8]) -> Faults
 
 // What a SET says of its cause, and what refusals 4 to 7 say of it: of its hazard and now, and what REMOVE is tested for. The pairs are
 // read once.
-#[derive(Drop)]
+#[derive(Clone, Copy)]
 pub struct SetCommand {
     pub faults: Faults,
     pub setting: CauseSetting,

@@ -15,7 +15,7 @@ use crate::state_rows::{
 use clocks::ticks::Ticks;
 
 // The earliest request, where there is one.
-#[derive(Drop)]
+#[derive(Clone, Copy)]
 pub struct Pick {
     pub found: bool,
     pub request: Request,

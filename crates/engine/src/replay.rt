@@ -63,7 +63,7 @@ pub(crate) fn revert(journal: &mut [u8], applied: usize) -> usize
 }
 
 // The last command of a replay: its place in the bytes and its clock; not ok where the replay failed.
-#[derive(Drop)]
+#[derive(Clone, Copy)]
 pub struct LastCommand {
     pub ok: bool,
     pub place: usize,

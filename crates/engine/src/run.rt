@@ -21,7 +21,7 @@ const TWO_ANSWERS: usize = 2 * ANSWER_WIDTH;
 
 // A run between two inputs: the length of the applied commands, whether the state is stale, that is, may not be the one that they give,
 // and the commands answered and bytes read so far.
-#[derive(Drop)]
+#[derive(Clone, Copy)]
 struct Progress {
     applied: usize,
     stale: bool,

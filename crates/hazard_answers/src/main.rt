@@ -1,5 +1,7 @@
 // Replays the fixed lists of the unchanged Rust's answers to evaluations and samples, and of a model's rates for a wait, and says how many
 // there are and how many differ. The lists' layouts, and how they were made, are in host/README.md.
+#![tactic(auto)]
+
 ghost use Rattle.std.specs.Prelude.{◌≤◌};
 
 use hazards::answers::ANSWER_WIDTH;
@@ -83,7 +85,7 @@ fn one_unless(agrees: bool) -> u64
 }
 
 // How many cases there were, and how many differ.
-#[derive(Drop)]
+#[derive(Clone, Copy)]
 struct Count {
     cases: u64,
     differing: u64,

@@ -7,7 +7,7 @@ ghost use Rattle.hazards.specs.Fields.{bytes_of};
 pub const ANSWER_WIDTH: usize = 40;
 
 // The answer of a command or a sample.
-#[derive(Drop)]
+#[derive(Clone, Copy)]
 pub struct Answer {
     pub number: u8,
     pub event: bool,

@@ -12,7 +12,7 @@ use crate::rates::{HazardRate, Intervals, KINDS, rate_of_kind};
 use crate::refusals::Faults;
 
 // The fields of a hazard as in SET.
-#[derive(Drop)]
+#[derive(Clone, Copy)]
 pub struct HazardFields {
     pub kind: u8,
     pub first: f64,

@@ -3,20 +3,20 @@ ghost use Rattle.std.specs.Prelude.{◌≡◌};
 ghost use Rattle.hazards.specs.Draws.{refused_draw, draw_at, with_position};
 
 // Where the next draw reads.
-#[derive(Drop)]
+#[derive(Clone, Copy)]
 pub struct StreamPosition {
     pub next: usize,
 }
 
 // A draw: its refusal or 0, and the threshold.
-#[derive(Drop)]
+#[derive(Clone, Copy)]
 pub struct Draw {
     pub number: u8,
     pub threshold: f64,
 }
 
 // A draw, and the position after it.
-#[derive(Drop)]
+#[derive(Clone, Copy)]
 pub struct DrawAndPosition {
     pub number: u8,
     pub threshold: f64,

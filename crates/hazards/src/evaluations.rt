@@ -7,7 +7,7 @@ ghost use Rattle.hazards.specs.Evaluations.{evaluated_cumulative_hazard, evaluat
 use crate::rates::Wait;
 
 // `found` is false on a refusal.
-#[derive(Drop)]
+#[derive(Clone, Copy)]
 pub struct Evaluation {
     pub number: u8,
     pub found: bool,
@@ -15,7 +15,7 @@ pub struct Evaluation {
 }
 
 // `found` is false on a refusal and where there is no wait.
-#[derive(Drop)]
+#[derive(Clone, Copy)]
 pub struct Inversion {
     pub number: u8,
     pub found: bool,

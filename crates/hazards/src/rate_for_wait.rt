@@ -14,7 +14,7 @@ const LIMIT_PATTERN: u64 = 0x4270_0000_0000_0000;
 const PAST_LIMIT: u64 = 0x4270_0000_0000_0001;
 
 // Number 0 and the rate, or 23 or 24 and 0.0.
-#[derive(Drop)]
+#[derive(Clone, Copy)]
 pub struct RateForWait {
     pub number: u8,
     pub rate: f64,
@@ -44,7 +44,7 @@ fn used_up_within(threshold: f64, wait: f64, pattern: u64) -> bool
 }
 
 // Bit patterns from `low` to `high`.
-#[derive(Drop)]
+#[derive(Clone, Copy)]
 struct Bracket {
     low: u64,
     high: u64,

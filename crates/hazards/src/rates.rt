@@ -14,7 +14,7 @@ use crate::roots::nearest_root;
 
 // A hazard with its first field: the rate of Constant, eta of Gompertz (with b = 0), the trailing rate of PiecewiseConstant, the scale of
 // Weibull (with shape 2).
-#[derive(Drop)]
+#[derive(Clone, Copy)]
 pub enum HazardRate {
     Zero,
     Constant(f64),
@@ -24,7 +24,7 @@ pub enum HazardRate {
 }
 
 // The pairs of a piecewise hazard, of which the first `count` are used.
-#[derive(Drop)]
+#[derive(Clone, Copy)]
 pub struct Intervals {
     pub ends: [f64; 8],
     pub rates: [f64; 8],
@@ -32,7 +32,7 @@ pub struct Intervals {
 }
 
 // What an inversion finds: a wait, and the piece of the rate curve that it ends in.
-#[derive(Drop)]
+#[derive(Clone, Copy)]
 pub enum Wait {
     After(f64, usize),
     Never,

@@ -10,7 +10,7 @@ use crate::refusals::Faults;
 use crate::sampler::CompetingCause;
 
 // A record's faults, and its wait whether or not it has any.
-#[derive(Drop)]
+#[derive(Clone, Copy)]
 pub struct Examined {
     pub faults: Faults,
     pub wait: Wait,

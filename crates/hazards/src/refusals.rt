@@ -27,7 +27,7 @@ pub const NO_RATE: u8 = 24;
 pub const NO_CAUSE: u32 = 0xffff_ffff;
 
 // What is wrong with a part of an input: a flag for each of refusals 4 to 7, in this order.
-#[derive(Drop)]
+#[derive(Clone, Copy)]
 pub struct Faults {
     pub choice: bool,
     pub range: bool,

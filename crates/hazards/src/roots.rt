@@ -116,7 +116,7 @@ fn whole_root(digits: u64, odd: u64) -> u64
 }
 
 // A value's digits, and the power of two that they are multiplied by.
-#[derive(Drop)]
+#[derive(Clone, Copy)]
 struct Digits {
     digits: u64,
     power: u64,

@@ -3,7 +3,7 @@ ghost use Rattle.std.specs.Prelude.{◌≡◌};
 ghost use Rattle.hazards.specs.Ties.{capped_piece, tie_breaker_of, tie_number, preferred, precedes, earlier};
 
 // Which of two causes at the same time comes first.
-#[derive(Drop)]
+#[derive(Clone, Copy)]
 pub enum TieBreaker {
     LowestCauseId,
     HighestCauseId,
@@ -11,7 +11,7 @@ pub enum TieBreaker {
 }
 
 // A cause's event at a time (its wait in the sampler, now + wait in the clock), and the piece of its rate curve that strikes.
-#[derive(Drop)]
+#[derive(Clone, Copy)]
 pub struct Candidate {
     pub cause_id: u32,
     pub priority: u32,
@@ -20,7 +20,7 @@ pub struct Candidate {
 }
 
 // The best of the candidates so far.
-#[derive(Drop)]
+#[derive(Clone, Copy)]
 pub enum Earliest {
     Nothing,
     Found(Candidate),

@@ -18,7 +18,7 @@ use engine::state_rows::{
 use hazards::rates::at_most_eight;
 
 #[repr(C)]
-#[derive(Drop)]
+#[derive(Clone, Copy)]
 pub struct Counts {
     pub queued: u64,
     pub requests_made: u64,
@@ -27,7 +27,7 @@ pub struct Counts {
 }
 
 #[repr(C)]
-#[derive(Drop)]
+#[derive(Clone, Copy)]
 pub struct QueuedRequest {
     pub found: bool,
     pub clock: u64,
@@ -38,7 +38,7 @@ pub struct QueuedRequest {
 }
 
 #[repr(C)]
-#[derive(Drop)]
+#[derive(Clone, Copy)]
 pub struct ClockFields {
     pub found: bool,
     pub has_entity: bool,
@@ -60,7 +60,7 @@ pub struct ClockFields {
 }
 
 #[repr(C)]
-#[derive(Drop)]
+#[derive(Clone, Copy)]
 pub struct CauseFields {
     pub found: bool,
     pub kind: u8,

@@ -1,6 +1,8 @@
 // What C links, under names that no other library has: the batch run, an engine that stays open in lent memory, what a program asks of its
 // state, and the rate for a wait.
 // Definitions: specs/, and those of the engine (crates/engine/specs/Run.antt, InPlace.antt) and of hazards (RateForWait.antt).
+#![tactic(auto)]
+
 pub mod inspection;
 
 ghost use Rattle.std.specs.Prelude.{◌≡◌, true, false, ◌<◌, ◌≤◌, length};

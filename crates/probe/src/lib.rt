@@ -1,6 +1,8 @@
 // The hazards crate's calls over records of bytes, for the fixed lists, the comparison with the Rust and the benchmark.
 // A hazard is 138 bytes: kind, first f64, count, then 8 pairs (end f64, rate f64), the fields of SET without its time. A cause is
 // 146 bytes: cause u32, priority u32, hazard.
+#![tactic(auto)]
+
 ghost use Rattle.std.specs.Prelude.{◌≤◌, length, ◌≡◌};
 ghost use Rattle.hazards.specs.Rates.{intervals_from, hazard_at, cumulative_hazard, rate_of_kind};
 ghost use Rattle.hazards.specs.Roots.{nearest_root};
@@ -80,7 +82,7 @@ pub fn settings_at(bytes: &[u8], at: usize) -> SampleSettings
 }
 
 // What is found of an evaluation: its number, and a value or a wait; the piece of a hazard and a cumulative hazard is 0.
-#[derive(Drop)]
+#[derive(Clone, Copy)]
 pub struct Evaluated {
     pub number: u8,
     pub found: bool,
@@ -222,7 +224,7 @@ pub extern "C" fn probe_cumulative_hazard<'a>(
 
 // A wait, and the piece that it ends in.
 #[repr(C)]
-#[derive(Drop)]
+#[derive(Clone, Copy)]
 pub struct Inverted {
     pub wait: f64,
     pub piece: u64,

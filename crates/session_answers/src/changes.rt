@@ -1,5 +1,5 @@
 // One word or float of a state's rows changed.
-#[derive(Drop)]
+#[derive(Clone, Copy)]
 pub struct Change {
     in_words: bool,
     row: usize,

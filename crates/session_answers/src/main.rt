@@ -1,5 +1,7 @@
 // Replays the fixed list of whole sessions with what the unchanged Rust answered and left, through the batch run and command by command;
 // then gives inputs to states that were tampered with. The list's layout, and how it was made, are in host/README.md.
+#![tactic(auto)]
+
 mod base;
 mod batch;
 mod cases;

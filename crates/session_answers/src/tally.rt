@@ -1,5 +1,5 @@
 // What was counted: sessions and commands, those that differ, and the refusals of the batch run by their number.
-#[derive(Drop)]
+#[derive(Clone, Copy)]
 pub struct Tally {
     pub sessions: u64,
     pub sessions_differing: u64,

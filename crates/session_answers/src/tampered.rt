@@ -6,7 +6,7 @@ use engine::state_rows::{STATE_FLOATS, STATE_WORDS};
 use hazards::answers::{ANSWER_WIDTH, Answer};
 
 // How many were refused by 1 and by 13, and how many were not.
-#[derive(Drop)]
+#[derive(Clone, Copy)]
 pub struct Verdicts {
     pub invalid: u64,
     pub not_replayable: u64,

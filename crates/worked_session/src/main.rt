@@ -1,5 +1,7 @@
 // A session of one press, whose clock lies in rows of this program: two causes of breakdown, a pause and what it does to the breakdown
 // that is due. Times are in hours, ticks in tenths. The thresholds are those of rows 9 and 10 of document 01, 2.0 and 1.0.
+#![tactic(auto)]
+
 ghost use Rattle.clocks.specs.Layout.{Sized};
 
 use clocks::clocks::{EntityId, HazardInterruptionPolicy};
