@@ -28,6 +28,7 @@ class Names:
         for i, (old, parent, edge, callee, fields) in enumerate(record['places']):
             self.by_old.setdefault(plain(old), i)
             self.places.append((old, parent, edge, callee, fields))
+        self.new_places = record['places_by_name']
         self.needs = [(plain(a), b) for a, b in record['needs']]
         self.at = [a for a, _ in record['asked_at']]
         self.loops = record['loops']
@@ -82,6 +83,38 @@ class Turner:
     def __init__(self, names):
         self.names = names
         self.looks = []
+        self.to_place = {}  # helpers that go from one place to another, with the other
+        self.steps = {}
+        self.local = {}  # lemmas over a place
+
+    def steps_to(self, place):
+        """How many steps before the goal a place is, or None."""
+        chain = self.chain()
+        return chain.index(place) if place in chain else None
+
+    def applied(self, text, env):
+        """Helpers from place to place, applied in parentheses, become aliases of the place."""
+        for name, place in self.to_place.items():
+            form = re.compile(r'\(' + re.escape(name) + r' (?:' + IDENT + r'(?:\.before)*)\)')
+            steps = self.steps_to(place)
+            if steps is None:
+                continue
+            alias = 'Place-%d' % place
+            env[alias] = steps
+            text = form.sub(alias, text)
+        return text
+
+    def bare(self, text, env):
+        """A place that is handed on whole is the goal's record, so many steps back."""
+        def one(match):
+            root, fields = match.group(1), match.group(2)
+            if root == 'c' and not fields or root not in env:
+                return match.group(0)
+            steps = env[root] + fields.count('.before')
+            if steps >= len(self.chain()):
+                return match.group(0)
+            return 'c' + '.before' * steps
+        return re.sub(r"(?<![\w.'-])(" + IDENT + r")((?:\.before)*)(?![\w.'-])", one, text)
 
     def word(self, field):
         return self.names.words.get(plain(field), field if re.match(r"(true|false|branch)-|[iI]n-|[A-Z]", field) else field.replace('-', '_'))
@@ -93,6 +126,30 @@ class Turner:
             places.append(i)
             i = self.names.parent(i)
         return places
+
+    def of_step(self, place, fields):
+        """The fields of a step in the new form: the clauses of a contract and the parameters have names."""
+        old, _, edge, callee, renames = self.names.places[place]
+        every = self.names.record['clauses']
+        clauses = every[place] if place < len(every) else None
+        fields = list(fields)
+        if fields and fields[0] in ('kept', 'last', 'inv') and fields[0] not in dict(renames):
+            fields[0] = {'kept': 'auto', 'last': 'new', 'inv': 'invariant'}[fields[0]]
+        if len(fields) > 1 and fields[0] == 'ensures' and fields[1].isdigit() and clauses and clauses.get('fields'):
+            if int(fields[1]) < len(clauses['fields']):
+                fields[1] = clauses['fields'][int(fields[1])]
+        if fields:
+            known = dict(renames)
+            if fields[0] in known:
+                fields[0] = known[fields[0]]
+            elif fields[0] in ('new', 'auto') and len(fields) > 1 and fields[1] in '01':
+                params = self.names.record['params'].get(callee or '', [])
+                k = 0
+                while 1 + k < len(fields) and fields[1 + k] == '1':
+                    k += 1
+                if 1 + k < len(fields) and fields[1 + k] == '0' and k < len(params):
+                    fields[1:2 + k] = [params[k]]
+        return fields
 
     def walk(self, steps, fields):
         """Goes along the fields from the place that many steps before the goal. ('place', steps), or ('path', text) with what is cited
@@ -112,20 +169,7 @@ class Turner:
                 if self.names.places[i][2][0] and plain(self.names.places[i][2][0]) == plain(head)]
         if near:
             old, _, edge, callee, renames = self.names.places[min(near)[2]]
-            clauses = self.names.record['clauses'][min(near)[2]] if min(near)[2] < len(self.names.record['clauses']) else None
-            if len(fields) > 1 and fields[0] == 'ensures' and fields[1].isdigit() and clauses and clauses.get('fields'):
-                if int(fields[1]) < len(clauses['fields']):
-                    fields[1] = clauses['fields'][int(fields[1])]
-            if fields:
-                known = dict(renames)
-                if fields[0] in known:
-                    fields[0] = known[fields[0]]
-                elif fields[0] == 'new' and len(fields) > 1 and fields[1].isdigit():
-                    params = self.names.record['params'].get(callee or '', [])
-                    if int(fields[1]) < len(params):
-                        fields[1] = params[int(fields[1])]
-                        if len(fields) > 2 and fields[2] == '0':
-                            del fields[2]
+            fields = self.of_step(min(near)[2], fields)
             return ('path', '.'.join(['c', edge[1]] + [self.word(f) for f in fields]))
         if head in ('args', 'requires', 'ranges', 'well-formed', 'fits', 'told', 'auto', 'utf8'):
             pre = self.names.record.get('pre')
@@ -137,26 +181,103 @@ class Turner:
     def replace(self, text, env):
         def one(match):
             root, fields = match.group(1), match.group(2)[1:].split('.')
+            if root in self.steps:
+                return root + ''.join('.' + self.word(f) for f in self.of_step(self.steps[root], fields))
             if root not in env:
                 if root[:1].isupper() or root in ('tie', 'goal', 'l'):
                     return match.group(0)
                 return root + ''.join('.' + f.replace('-', '_') for f in fields)
             found = self.walk(env[root], fields)
-            if found is None or found[0] == 'place':
+            if found is None:
                 self.looks.append(match.group(0))
                 return match.group(0)
-            return found[1]
-        return PATH.sub(one, text)
+            return 'c' + '.before' * found[1] if found[0] == 'place' else found[1]
+        return PATH.sub(one, self.bare(text, env))
 
-    def answer(self, body, place):
+    def type_of(self, match):
+        place = self.names.place(match.group(1))
+        return match.group(0) if place is None else 'goal.' + self.names.new_places[place]
+
+    def helper(self, block):
+        """A lemma over the facts at a place, for several goals."""
+        place_type = r"(?:tie|lts)\.([A-Z][A-Za-z0-9_-]*)((?: (?:invariant|decreases)-loop[\w-]*)*)"
+        moved = re.search(r"^(?:abbrev )?(" + IDENT + r") : " + place_type + r"\s*→ " + place_type + r"\s*$", block, re.M)
+        if moved:
+            self.to_place[moved.group(1)] = self.names.place(moved.group(4))
+            return None
+        first = re.search(place_type, block)
+        if not first or self.names.place(first.group(1)) is None:
+            return block
+        # the facts go by name whatever the place: the lemma becomes a local one of each goal that uses it
+        self.goal_place = self.names.place(first.group(1))
+        lines = [l for l in block.split('\n') if not l.startswith('--')]
+        text = '\n'.join(lines)
+        made = re.match(r"(?:abbrev )?(" + IDENT + r") : \((" + IDENT + r") : " + place_type + r"\)\s*→\s*(.*?)\n(unfolding[^\n]*\n)?\1 (?:" + IDENT + r") =\s*(.*)$", text, re.S)
+        plain_form = None
+        if not made:
+            plain_form = re.match(r"(?:abbrev )?(" + IDENT + r") : " + place_type + r"\s*→\s*(.*?)\n(unfolding[^\n]*\n)?\1 (" + IDENT + r") =\s*(.*)$", text, re.S)
+        if not made and not plain_form:
+            return '-- look: a lemma over a place\n' + block
+        name = (made or plain_form).group(1)
+        kind, unfolding, body = made.group(5, 6, 7) if made else (plain_form.group(4), plain_form.group(5), plain_form.group(7))
+        self.looks = []
+        binder = made.group(2) if made else 'c'
+        bound = re.search(r'^' + re.escape(name) + r' (' + IDENT + r') =', text, re.M).group(1)
+        kind = self.answer(kind, self.goal_place, binder)
+        body = self.answer(body, self.goal_place, bound)
+        self.local[name] = (kind.strip(), body.strip(), unfolding or '', self.goal_place)
+        return None
+
+    def with_local(self, body):
+        """The lemmas over a place that an answer uses, before it."""
+        used = []
+        def note(text):
+            for name in self.local:
+                if name not in used and re.search(r"(?<![\w.'-])" + re.escape(name) + r"(?![\w'-])", text):
+                    used.append(name)
+                    note(self.local[name][0] + ' ' + self.local[name][1])
+        note(body)
+        if not used:
+            return body, set()
+        call = lambda text: self.uncalled(text, used)
+        lets, unfoldings = '', set()
+        for name in [n for n in self.local if n in used]:
+            kind, inner, unfolding, _ = self.local[name]
+            unfoldings |= set(unfolding.split()[1:])
+            lets += 'let %s : %s =\n    %s in\n    ' % (name, call(kind), call(inner))
+        return '\n' + lets + call(body).strip(), unfoldings
+
+    def uncalled(self, text, used):
+        for name in used:
+            text = re.sub(r"\((" + re.escape(name) + r") c(?:\.before)*\)", r"\1", text)
+            text = re.sub(r"(?<![\w.'-])(" + re.escape(name) + r") c(?:\.before)*(?![\w.'-])", r"\1", text)
+        return text
+
+    def answer(self, body, place, binder='c'):
         self.goal_place = place
-        env = {'c': 0}
+        env = {'c': 0, binder: 0}
+        self.steps = {}
+        body = re.sub(r"\.loop(\d*)\.inv(?![\w'-])", r".loop\1.invariant", body)
+        body = re.sub(r"(?<![\w'-])(c|[a-z])\.inv(?![\w'-])", r"\1.invariant", body)
+        body = re.sub(r"\.pre(?![\w'-])", ".requires", body)
         lines = []
         for line in body.split('\n'):
+            before = None
+            while before != line:
+                before, line = line, self.applied(line, env)
+            call = re.match(r"^(.*?let " + IDENT + r" = )(" + IDENT + r") (" + IDENT + r"(?:\.before)*)( in\b.*)$", line)
+            if call and call.group(2) in self.to_place and self.steps_to(self.to_place[call.group(2)]) is not None:
+                alias = 'Place-%d' % self.to_place[call.group(2)]
+                env[alias] = self.steps_to(self.to_place[call.group(2)])
+                line = call.group(1) + alias + call.group(4)
             made = re.match(r"^(.*?)let (" + IDENT + r") = (" + IDENT + r")((?:\.[A-Za-z0-9_'-]+)*) in\s*(.*)$", line)
             if made and made.group(3) in env:
                 fields = made.group(4)[1:].split('.') if made.group(4) else []
                 found = self.walk(env[made.group(3)], fields)
+                if found and found[0] == 'path' and found[1].count('.') == 1:
+                    for i in self.chain():
+                        if 'c.' + self.names.places[i][2][1] == found[1]:
+                            self.steps[made.group(2)] = i
                 if found and found[0] == 'place':
                     env[made.group(2)] = found[1]
                     rest = made.group(1) + made.group(5)
@@ -169,9 +290,6 @@ class Turner:
             if hidden and hidden.group(1) in env and hidden.group(1) != 'c':
                 env = dict(env)
                 del env[hidden.group(1)]
-            for name in re.findall(r"λ ([^.]*)\.", line):
-                for n in name.split():
-                    env.pop(n, None) if n != 'c' else None
             lines.append(new)
         return '\n'.join(lines)
 
@@ -190,7 +308,7 @@ def blocks_of(text):
     return head, uses, blocks
 
 
-SIGNATURE = re.compile(r"^((?:--[^\n]*\n)*)(?:(abbrev|unfoldable) )?(?:pub )?(" + IDENT + r") : (tie\.[^\n]*)\n", re.M)
+SIGNATURE = re.compile(r"^((?:--[^\n]*\n)*)(?:(abbrev|unfoldable) )?(?:pub )?(" + IDENT + r") :\s+(tie\.[^\n]*)\n", re.M)
 
 
 def invariant(block, name, names):
@@ -272,7 +390,9 @@ def turn(folder, path, names):
         if re.search(r'tie\.close', block):
             continue
         if not signature:
-            answers.append(block)
+            made = turner.helper(block)
+            if made:
+                answers.append(made)
             continue
         comment, _, name, kind = signature.groups()
         if re.match(r'tie\.(invariant|decreases|InvT|MeasureT)-', kind):
@@ -281,7 +401,9 @@ def turn(folder, path, names):
             continue
         need = re.match(r"tie\.Need-(\S+)", kind)
         if not need:
-            answers.append('-- look:\n' + block)
+            made = turner.helper(block)
+            if made:
+                answers.append(made)
             continue
         index = names.need(name, need.group(1))
         if index is None:
@@ -306,15 +428,27 @@ def turn(folder, path, names):
         for old_word, new_word in {tuple(pair) for pair in names.record['args']}:
             if old_word.startswith('.args ') and new_word.startswith('.args '):
                 body = re.sub(r'\.' + re.escape(old_word[7:]) + r"(?![\w'-])", new_word[6:], body)
+        body, more_unfolding = turner.with_local(body)
+        if more_unfolding:
+            unfolding = ['unfolding ' + ' '.join(sorted(more_unfolding | {w for u in unfolding for w in u.split()[1:]}))]
         fields = names.record['asked'].get(names.record['needs'][index][0])
         if fields:
             body = as_record(body, fields)
         look = ''.join('-- look: %s\n' % l for l in turner.looks)
         answers.append(comment + look + '\n'.join(['pub %s : goal.%s' % (new, new)] + unfolding
                                                   + ['%s c%s =%s' % (new, more, ('\n    ' + body.strip()) if '\n' in body.strip() else ' ' + body.strip())]))
+    shared = []
+    for block in list(answers):
+        name = re.match(r"(?:--[^\n]*\n)*(?:abbrev|unfoldable) (?:pub )?(" + IDENT + r") ", block)
+        if name and 'goal.' not in block and any(re.search(r"(?<![\w.'-])" + re.escape(name.group(1)) + r"(?![\w'-])", i) for i in invariants):
+            answers.remove(block)
+            invariants.insert(len(shared), re.sub(r"^(abbrev|unfoldable) (?!pub)", r"\1 pub ", block, flags=re.M))
+            shared.append(name.group(1))
+    if shared:
+        uses.append('use %s.Invariants.{%s}' % (module, ', '.join(shared)))
     (folder / 'Proof.antt').unlink()
     if invariants:
-        (folder / 'Invariants.antt').write_text('\n'.join(head + uses + ['use %s.Given as goal' % module, '', '\n\n'.join(invariants)]) + '\n', encoding='utf-8')
+        (folder / 'Invariants.antt').write_text('\n'.join(head + [u for u in uses if '.Invariants.{' not in u] + ['use %s.Given as goal' % module, '', '\n\n'.join(invariants)]) + '\n', encoding='utf-8')
     if answers:
         (folder / 'Answers.antt').write_text('\n'.join(head + uses + ['use %s.Goals as goal' % module, '', '\n\n'.join(answers)]) + '\n', encoding='utf-8')
     return True
