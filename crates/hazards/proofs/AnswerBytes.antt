@@ -1,8 +1,8 @@
 -- An answer's fields, written one after another, are its bytes.
-use mathlib.Core.Path.{◌≡◌, refl, sym, ◌∙◌}
+use mathlib.Core.Path.{◌≡◌, ◌∙◌}
 use mathlib.Core.Bool.{false}
-use mathlib.Core.List.{List, [], ◌∷◌, ◌++◌, append_assoc}
-use Prim.Native.Nat.{ℕ, suc, ◌+◌, ◌*◌, ◌/◌, ◌%◌, ◌<◌, ◌≤◌}
+use mathlib.Core.List.{List, ◌∷◌, ◌++◌, append_assoc}
+use Prim.Native.Nat.{ℕ, suc, ◌+◌, ◌*◌, ◌<◌, ◌≤◌}
 use native.Mathlib.Nat.{add-mul-div_left, add-mul-mod_self_left, mod-eq_of_lt, div-eq_of_lt, zero-add}
 use native.Mathlib.Omega.{arith}
 use borrow.Author.Tests.{le-leb}
@@ -12,7 +12,7 @@ use lib.Ieee.{binary64, to_bits}
 use Rattle.hazards.specs.Fields.{bytes_of, with_field, with_f64}
 use Rattle.hazards.specs.Answers.{answer_width, head_bytes, piece_bytes, answer_bytes, with_answer}
 use Rattle.hazards.specs.declared.answers.Answer.{Answer}
-use Rattle.hazards.proofs.Bytes.{bytes_of-length, with_field-length}
+use Rattle.hazards.proofs.Bytes.{bytes_of-length}
 use Rattle.hazards.proofs.Overwrite.{over, over-length, over_next, field_over}
 
 -- the lowest byte, then those of the rest

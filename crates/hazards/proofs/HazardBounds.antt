@@ -7,7 +7,7 @@ use Prim.Native.Nat.{ℕ, ◌*◌, ◌^◌}
 use lib.IntN.{ℤ}
 use lib.Dec.{T, lit≤}
 use lib.Ieee.{Float, binary64, add, sub, mul, div, lt, le}
-use Rattle.hazards.specs.Floats.{z, two, not_below_zero, in_range}
+use Rattle.hazards.specs.Floats.{z, not_below_zero, in_range}
 use Rattle.hazards.specs.Rates.{Piece, piecewise_hazard, weibull_hazard, hazard_of_rate, hazard_at, piecewise_cumulative, weibull_cumulative}
 use Rattle.hazards.specs.Rates.{cumulative_of_rate, cumulative_hazard, own_rate}
 use Rattle.hazards.specs.declared.rates.HazardRate.{HazardRate}

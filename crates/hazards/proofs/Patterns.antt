@@ -9,15 +9,15 @@ use lib.Ieee.{Float, nan, inf, fin, div, lt, le, ne, of_bits, to_bits, nan_bits,
 use lib.Ieee.Bits.{nan_bits_is, nan_bits_above}
 use lib.Ieee.Compare.{differs_from_itself, nan_differs}
 
-is_nan : (x : Float) → is_nan x ≡ true → x ≡ nan
+is_nan_lem : (x : Float) → is_nan x ≡ true → x ≡ nan
 unfolding is_nan
-is_nan nan h = refl
-is_nan (inf s) h = absurd (subst (λ (b : Bool). T (not b)) h tt)
-is_nan (fin s m e) h = absurd (subst (λ (b : Bool). T (not b)) h tt)
+is_nan_lem nan h = refl
+is_nan_lem (inf s) h = absurd (subst (λ (b : Bool). T (not b)) h tt)
+is_nan_lem (fin s m e) h = absurd (subst (λ (b : Bool). T (not b)) h tt)
 
 pub nan_pattern : (b : ℕ) → 0x7ff0_0000_0000_0000 < b % 2 ^ 63 → of_bits binary64 b ≡ nan
 nan_pattern b h =
-    is_nan (of_bits binary64 b) (sym (nan_bits_is binary64 b) ∙ nan_bits_above binary64 b ∙ lt-ltb 0x7ff0_0000_0000_0000 (b % 2 ^ 63) h)
+    is_nan_lem (of_bits binary64 b) (sym (nan_bits_is binary64 b) ∙ nan_bits_above binary64 b ∙ lt-ltb 0x7ff0_0000_0000_0000 (b % 2 ^ 63) h)
 
 pub number_pattern : (b : ℕ) → b % 2 ^ 63 ≤ 0x7ff0_0000_0000_0000 → T (not (nan_bits binary64 b))
 number_pattern b h =

@@ -12,7 +12,7 @@ use lib.Ieee.{Float, binary64, add, sub, mul, div, lt, le}
 use Rattle.hazards.specs.Floats.{z, not_below_zero, is_finite_wait}
 use Rattle.hazards.specs.Rates.{Piece, first_after, used_pairs, uses_pairs, ends_in, wait_through, wait_from, constant_wait, weibull_wait}
 use Rattle.hazards.specs.Rates.{wait_of_rate, invert_cumulative_hazard}
-use Rattle.hazards.specs.PieceUsed.{rate_of, end_of, capacity_from, left_at, holds_at, EndsIn, PieceUsed, OnePiece, NoPiece, PieceZero}
+use Rattle.hazards.specs.PieceUsed.{rate_of, end_of, capacity_from, left_at, holds_at, EndsIn, PieceUsed, OnePiece, PieceZero}
 use Rattle.hazards.specs.declared.rates.HazardRate.{HazardRate}
 use Rattle.hazards.specs.declared.rates.HazardRate.TheVariants.{Zero, Constant, Gompertz, Piecewise, Weibull}
 use Rattle.hazards.specs.declared.rates.Intervals.{Intervals}

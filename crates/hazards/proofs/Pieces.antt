@@ -1,6 +1,6 @@
 -- Pieces by index, for any curve: one below the count n and none from n on, and those that are left when the first k are dropped.
 -- A piecewise hazard's used pairs are such pieces.
-use mathlib.Core.Path.{◌≡◌, refl, ◌∙◌}
+use mathlib.Core.Path.{◌≡◌, ◌∙◌}
 use mathlib.Core.List.{[], ◌∷◌}
 use Prim.Native.Nat.{ℕ, zero, suc, ◌+◌, ◌-◌, ◌<◌, ◌≤◌, min}
 use native.Mathlib.Nat.{sub-zero, zero-sub, suc-sub-suc, add-zero, zero-add}

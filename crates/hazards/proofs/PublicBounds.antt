@@ -1,18 +1,18 @@
 -- The values of the public calls, whatever they are given: none is a NaN, and none is below 0. A hazard is at most 2^121 and a cumulative
 -- hazard at most 2^160; a wait may be infinite. The delta of the sampler's answer is finite.
 use mathlib.Core.Path.{◌≡◌, refl}
-use mathlib.Core.Bool.{Bool, true, false, not, cond, ◌&&◌}
+use mathlib.Core.Bool.{Bool, true, false, ◌&&◌}
 use mathlib.Core.List.{List, [], ◌∷◌}
 use Prim.Native.Nat.{ℕ, suc, ◌^◌}
 use lib.IntN.{ℤ}
 use lib.Dec.{T, eqb}
 use lib.ListN.{take}
-use lib.Ieee.{Float, fin, inf, binary64, sub, lt, le, fits}
+use lib.Ieee.{Float, inf, binary64, sub, lt, le, fits}
 use lib.Ieee.Fits.{and_i, and_l, and_r}
 use borrow.Author.Tests.{eqb-true}
 use Rattle.hazards.specs.Floats.{z, limit, minus_limit, not_below_zero, in_range, is_time, is_finite_wait}
 use Rattle.hazards.specs.Lists.{foldl}
-use Rattle.hazards.specs.Refusals.{range_fault_unless, joined}
+use Rattle.hazards.specs.Refusals.{range_fault_unless}
 use Rattle.hazards.specs.Checks.{hazard_faults, hazard_of, intervals_of}
 use Rattle.hazards.specs.Rates.{invert_cumulative_hazard}
 use Rattle.hazards.specs.Evaluations.{without_value, without_wait, inverted, evaluation_refusal, unless_refused}

@@ -2,7 +2,7 @@
 -- though document 01's end at 2^40 (document 02, change 9, asks for the room). A scale above 0: from 2^-40 to 2^40.
 use mathlib.Core.Bool.{Bool, true, false, not, cond, ◌&&◌, ◌||◌}
 use mathlib.Core.List.{List, [], ◌∷◌}
-use Prim.Native.Nat.{ℕ, suc, ◌+◌, ◌*◌, ◌^◌, ◌≤◌, ◌<◌}
+use Prim.Native.Nat.{ℕ, suc, ◌*◌, ◌^◌, ◌≤◌, ◌<◌}
 use native.Mathlib.Omega.{arith}
 use lib.Dec.{T, ltb, lit≤}
 use lib.ListN.{drop}
@@ -27,19 +27,24 @@ sound h p = not (range_fault h p) && not (intervals_fault h p)
 
 not_not : (b : Bool) → T (not (not b)) → T b
 not_not true t = tt
+not_not false t = elim t [ ]
 
 neither : (a b : Bool) → T (not (a || not b)) → T b
+neither true b t = elim t [ ]
 neither false b t = not_not b t
 
 first_fails : (a b : Bool) → T (not (not a || b)) → T a
 first_fails true b t = tt
+first_fails false b t = elim t [ ]
 
 second_fails : (a b : Bool) → T (not (not a || b)) → T (not b)
 second_fails true b t = t
+second_fails false b t = elim t [ ]
 
 -- not both, but the one
 not_other : (a b : Bool) → T (not (a && b)) → T a → T (not b)
 not_other true b n t = n
+not_other false b n t = elim t [ ]
 
 -- one piece after another, from an end on
 pub data Following : Float → List Piece → Type 0 where

@@ -8,7 +8,7 @@ use native.Mathlib.Omega.{arith}
 use borrow.Author.Tests.{ne_eqb}
 use lib.IntN.{ℤ}
 use lib.Dec.{T, not_T, eqb, ltb, ltb→lt, lit<}
-use lib.Ieee.{Float, inf, fin, Format, prec, emax, low, binary64, up, size, nearest, odd, units, round, add, sub, mul, div, le}
+use lib.Ieee.{Float, inf, Format, prec, emax, low, binary64, up, size, nearest, odd, units, round, add, sub, mul, div, le}
 use lib.Ieee.Fits.{round_is}
 use lib.Ieee.Order.{round_mono}
 use lib.Ieee.Bits.{cond_no}

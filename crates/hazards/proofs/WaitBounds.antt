@@ -1,9 +1,9 @@
 -- The wait for a sound hazard, from a start with any bound and for a w above 0, is no NaN and not below 0; any wait is a value that
 -- binary64 holds.
-use mathlib.Core.Path.{◌≡◌, refl, sym}
+use mathlib.Core.Path.{refl, sym}
 use mathlib.Core.Bool.{Bool, true, false, not, cond, ◌&&◌}
 use mathlib.Core.List.{List, [], ◌∷◌}
-use Prim.Native.Nat.{ℕ, suc, ◌*◌, ◌^◌}
+use Prim.Native.Nat.{ℕ, ◌*◌, ◌^◌}
 use native.Mathlib.Nat.{le_trans, le_of_eq, mul-one}
 use lib.IntN.{ℤ}
 use lib.ListN.{drop}

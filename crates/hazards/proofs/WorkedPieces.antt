@@ -4,18 +4,18 @@
 use mathlib.Core.Path.{◌≡◌, refl}
 use mathlib.Core.Bool.{Bool, true, false}
 use mathlib.Core.List.{List, [], ◌∷◌, ◌++◌}
-use Prim.Native.Nat.{ℕ, ◌≤◌}
+use Prim.Native.Nat.{ℕ}
 use lib.IntN.{pos, negsuc}
 use native.Mathlib.Omega.{arith}
 use lib.ListN.{replicate, drop}
 use lib.Ieee.{Float, inf, fin, binary64, add, sub, mul, div, lt, le, of_bits, to_bits}
-use Rattle.hazards.specs.Floats.{z, two, limit, not_below_zero, zero_bits, in_range, is_time, is_threshold, is_finite_wait}
+use Rattle.hazards.specs.Floats.{z, two, not_below_zero, zero_bits, in_range, is_time, is_threshold, is_finite_wait}
 use Rattle.hazards.specs.Lists.{all, foldl, insert_by, sort_by}
 use Rattle.hazards.specs.Fields.{little_endian, bytes_of, field_at, f64_at}
 use Rattle.hazards.specs.FirstPlace.{first_of}
 use Rattle.hazards.specs.Roots.{fields_multiple, multiple, square_above, root_pattern, nearest_root}
 use Rattle.hazards.specs.Refusals.{no_cause}
-use Rattle.hazards.specs.Answers.{no_event, event_of, head_bytes, answer_bytes}
+use Rattle.hazards.specs.Answers.{event_of, head_bytes, answer_bytes}
 use Rattle.hazards.specs.Rates.{pieces_by, first_after, used_pairs, weibull_cumulative, weibull_wait, ends_in, wait_from, constant_wait}
 use Rattle.hazards.specs.Rates.{wait_of_rate, invert_cumulative_hazard}
 use Rattle.hazards.specs.Checks.{range_fault, ascending, intervals_fault, choice_fault, hazard_faults}
@@ -28,7 +28,6 @@ use Rattle.hazards.specs.PieceUsed.{EndsIn, rate_of, end_of}
 use Rattle.hazards.specs.declared.answers.Answer.{Answer}
 use Rattle.hazards.specs.declared.checks.HazardFields.{HazardFields}
 use Rattle.hazards.specs.declared.evaluations.Inversion.{Inversion}
-use Rattle.hazards.specs.declared.rates.HazardRate.{HazardRate}
 use Rattle.hazards.specs.declared.rates.HazardRate.TheVariants.{Zero, Constant, Gompertz, Piecewise, Weibull}
 use Rattle.hazards.specs.declared.rates.Intervals.{Intervals}
 use Rattle.hazards.specs.declared.rates.Wait.{Wait}

@@ -2,7 +2,7 @@
 -- two neighbours, subnormal rates, both ends of the rates, and what is outside the limits. Then the two theorems of change 11, applied.
 use mathlib.Core.Path.{◌≡◌, refl}
 use mathlib.Core.Bool.{true, false}
-use Prim.Native.Nat.{ℕ, ◌+◌, ◌<◌}
+use Prim.Native.Nat.{ℕ, ◌+◌}
 use lib.IntN.{pos, negsuc}
 use lib.Dec.{T, ltb, lit<, lit≤}
 use lib.Ieee.{Float, nan, inf, fin, binary64, fits, of_bits, div, lt, le, eq}

@@ -15,7 +15,6 @@ use Rattle.hazards.specs.Rates.{pieces_by, weibull_hazard, weibull_cumulative, w
 use Rattle.hazards.specs.Rates.{cumulative_hazard, wait_of_rate, invert_cumulative_hazard}
 use Rattle.hazards.specs.Checks.{range_fault, intervals_fault, choice_fault, hazard_faults}
 use Rattle.hazards.specs.Refusals.{number_of}
-use Rattle.hazards.specs.declared.checks.HazardFields.{HazardFields}
 use Rattle.hazards.specs.declared.rates.HazardRate.TheVariants.{Weibull}
 use Rattle.hazards.specs.declared.rates.Intervals.{Intervals}
 use Rattle.hazards.specs.declared.rates.Wait.{Wait}

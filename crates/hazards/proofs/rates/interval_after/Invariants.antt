@@ -1,0 +1,14 @@
+-- `rates::interval_after` meets its contract: at each turn i pieces and then those before the first after t, among the pieces from i on,
+-- are those before the first after t.
+use mathlib.Core.Path.{◌≡◌}
+use Prim.Native.Nat.{◌+◌, ◌-◌}
+use Rattle.hazards.specs.Rates.{intervals_from, pieces_by, pair_at, used_pairs, first_after}
+use Rattle.hazards.proofs.rates.interval_after.Given as goal
+
+abbrev pub invariant-loop-i : goal.invariant-loop-i
+invariant-loop-i l =
+    l.i + first_after l.t (pieces_by (pair_at (intervals_from l.ends l.rates l.count)) l.i (l.used - l.i))
+    ≡ first_after l.t (used_pairs (intervals_from l.ends l.rates l.count))
+
+abbrev pub decreases-loop-i : goal.decreases-loop-i
+decreases-loop-i l = l.used - l.i

@@ -1,0 +1,42 @@
+-- `rates::piecewise_wait` meets its contract: at each turn the wait over the pieces from i on, for what is left of w, is the wait
+-- from the start.
+use mathlib.Core.Path.{sym, ◌∙◌}
+use native.Mathlib.Omega.{arith}
+use Rattle.hazards.specs.Rates.{intervals_from, pair_at}
+use Rattle.hazards.proofs.Pieces.{used_after, pieces_next, pieces_end}
+use Rattle.hazards.proofs.Turns.{wait_here, wait_later}
+use Rattle.hazards.proofs.rates.piecewise_wait.Goals as goal
+
+pub loop-i-init : goal.loop-i-init
+loop-i-init c =
+    let a = c.args in
+    let p = intervals_from a.ends.now a.rates.now a.count in
+    rw (used_after p c.at_most_eight-used.ensures a.start c.interval_after-i.ensures, c.interval_after-i.ensures)
+
+pub returns-then-within_capacity : goal.returns-then-within_capacity
+returns-then-within_capacity c =
+    let a = c.args in
+    let p = intervals_from a.ends.now a.rates.now a.count in
+    let next = pieces_next (pair_at p) c.at_most_eight-used.result c.loop-i.i (omega arith) in
+    c.ends_in.ensures
+    ∙ sym (wait_here c.loop-i.i a.trailing a.start c.loop-i.cur_t c.loop-i.remaining_w next
+    c.not_below_zero-rate.ensures
+    (sym c.within_capacity.ensures ∙ c.if-within_capacity.true))
+    ∙ c.loop-i.invariant
+
+pub loop-i-preserved : goal.loop-i-preserved
+loop-i-preserved c =
+    let a = c.args in
+    let p = intervals_from a.ends.now a.rates.now a.count in
+    let next = pieces_next (pair_at p) c.at_most_eight-used.result c.loop-i.i (omega arith) in
+    sym (wait_later c.loop-i.i a.trailing a.start c.loop-i.cur_t c.loop-i.remaining_w next
+    c.not_below_zero-rate.ensures
+    (sym c.within_capacity.ensures ∙ c.if-within_capacity.false))
+    ∙ c.loop-i.invariant
+
+pub returns : goal.returns
+returns c =
+    let a = c.args in
+    let p = intervals_from a.ends.now a.rates.now a.count in
+    c.trailing_wait.ensures
+    ∙ rw (pieces_end (pair_at p) c.at_most_eight-used.result c.loop-i.i (omega arith)) at c.loop-i.invariant
