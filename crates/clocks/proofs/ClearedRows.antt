@@ -1,6 +1,6 @@
 -- The rows of a new clock: its channels cleared one by one, then its own rows.
 use mathlib.Core.Path.{◌≡◌, refl, ◌∙◌}
-use mathlib.Core.Bool.{Bool, true, false, cond}
+use mathlib.Core.Bool.{Bool, true, cond}
 use mathlib.Core.List.{List, [], ◌∷◌}
 use Prim.Native.Nat.{ℕ, ◌+◌, ◌*◌, ◌<◌, ◌≤◌}
 use native.Mathlib.Nat.{mod-eq_of_lt}
@@ -17,7 +17,7 @@ use Rattle.hazards.specs.declared.ties.TieBreaker.TheVariants.{LowestCauseId, Hi
 use Rattle.hazards.proofs.Cases.{by_test}
 use Rattle.clocks.specs.Channels.{empty_channel}
 use Rattle.clocks.specs.Clocks.{policy_number, policy_of, no_entity, one, new_clock, with_channels}
-use Rattle.clocks.specs.Layout.{WordRows, FloatRows, table, flag_from, byte_from, channel_from, channel_at, clock_of, clock_from, present_in}
+use Rattle.clocks.specs.Layout.{WordRows, FloatRows, table, byte_from, channel_from, channel_at, clock_of, clock_from, present_in}
 use Rattle.clocks.specs.Layout.{coded_settings, coded_schedule, coded_times, coded_words, coded_numbers, coded_channel}
 use Rattle.clocks.specs.Layout.{Coded, Sized, Leaves}
 use Rattle.clocks.specs.declared.clocks.EntityId.{EntityId}

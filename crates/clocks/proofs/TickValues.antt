@@ -43,11 +43,11 @@ negative zero t = odd_negative 53 t 0 1074
 negative (suc k) t =
     either (eqb (suc k) 2047) (eqb t 0) (odd 53 true (2 ^ 52 + t) k 1074) (odd_negative 53 (2 ^ 52 + t) k 1074)
 
-is_nan : (x : Float) → is_nan x ≡ true → whole_ticks x ≡ 0
+is_nan_lem : (x : Float) → is_nan x ≡ true → whole_ticks x ≡ 0
 unfolding whole_ticks is_nan
-is_nan nan h = refl
-is_nan (inf s) h = absurd (subst (λ (b : Bool). T (not b)) h tt)
-is_nan (fin s m e) h = absurd (subst (λ (b : Bool). T (not b)) h tt)
+is_nan_lem nan h = refl
+is_nan_lem (inf s) h = absurd (subst (λ (b : Bool). T (not b)) h tt)
+is_nan_lem (fin s m e) h = absurd (subst (λ (b : Bool). T (not b)) h tt)
 
 signed : (b : ℕ) → 2 ^ 63 ≤ b → whole_ticks (of_bits binary64 b) ≡ 0
 unfolding of_bits
@@ -60,7 +60,7 @@ ticks_off b h = go (leb (2 ^ 63) b) refl
     go true e = signed b (omega (arith, leb-true (2 ^ 63) b e))
     go false e =
         let small : b < 2 ^ 63 = leb-false (2 ^ 63) b e in
-        is_nan (of_bits binary64 b)
+        is_nan_lem (of_bits binary64 b)
         (sym (nan_bits_is binary64 b) ∙ nan_bits_above binary64 b
         ∙ lt-ltb 0x7ff0_0000_0000_0000 (b % 2 ^ 63) (rw (mod-eq_of_lt small) h))
 
