@@ -85,7 +85,7 @@ module _ (stream : List ℕ) (n : ℕ) where
       → Holds (feed_all E u is) m'
   unfolding feed_all
   all_hold h none = h
-  all_hold h (next one rest) = all_hold (one_holds h one) rest
+  all_hold {u = u} h (next {i = i} one rest) = all_hold {u = feed E u i} (one_holds h one) rest
 
   each_accepted : {u : Session E} {m m' : Memory} {is : List Bytes} {answers : List Answer} → Holds u m → Gives stream m is answers m'
       → AcceptsEach E u is → all (λ x. eqb x.number 0) answers ≡ true
@@ -94,7 +94,7 @@ module _ (stream : List ℕ) (n : ℕ) where
   each_accepted {u = u} h (next {i = i} {a = a} one rest) k =
       let zero : a.number ≡ 0 =
       ap (λ (x : Answer). x.number) (one_answer h one) ∙ (zero_accepted stream n u.state u.journal i).1 k.0 in
-      rw (eq-eqb a.number 0 zero) (each_accepted (one_holds h one) rest k.1)
+      rw (eq-eqb a.number 0 zero) (each_accepted {u = feed E u i} (one_holds h one) rest k.1)
 
 pub lent_demand_3 : (stream : List ℕ) (n : ℕ) (inputs : List Bytes) (m : Memory) (answers : List Answer) (m' : Memory) → OpensIn n m
     → Gives stream m inputs answers m' → LentDemand3 stream n inputs m'

@@ -38,7 +38,7 @@ module _ (low high low' high' : ℕ) (small : low < 2 ^ 64) (small' : low' < 2 ^
 
 -- ---- a priority, as the code compares it
 pub reads_back : (z : ℤ) → mag z < 2 ^ hbits w32 → z ≡ to_z w32 (of_z w32 z)
-reads_back z f = sym (to_z-of_z (record { sfits = f }))
+reads_back z f = sym (to_z-of_z {w = w32} (record { sfits = f }))
 
 -- ---- which of two comes first
 module _ (a b : Request) where

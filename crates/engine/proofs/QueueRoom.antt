@@ -1,6 +1,6 @@
 -- Where RESCHEDULE or RESUME puts a request in, fewer than sixteen are queued. In a valid state a queued request is the one that its clock
 -- names, and no index is there twice, so no clock has two; and the clock's own is withdrawn first.
-use mathlib.Core.Path.{◌≡◌, refl, sym, ◌∙◌, ap}
+use mathlib.Core.Path.{◌≡◌, refl, sym, ◌∙◌, ap, subst}
 use mathlib.Core.Logic.{inl, inr}
 use mathlib.Core.Bool.{Bool, true, false, true≢false}
 use mathlib.Core.List.{List, [], ◌∷◌}
@@ -53,7 +53,12 @@ fifteen i h l below others few = at-most 16 (own i ∷ l) within once
         (λ y j. by_test (eqb y.clock i) (λ t. absurd (others y j (eqb-true y.clock i t))) (λ t. t))
 
     once : (k : ℕ) → count_for k (own i ∷ l) ≤ 1
-    once k = by_test (eqb i k) (λ t. rw (t, ← eqb-true i k t, none_for) (omega arith)) (λ t. rw t (few k))
+    once k =
+        by_test (eqb i k)
+        (λ t.
+        let none : keep_if (is_for k) l ≡ [] = subst (λ (j : ℕ). keep_if (is_for j) l ≡ []) (eqb-true i k t) none_for in
+        rw (t, none) (omega arith))
+        (λ t. rw t (few k))
 
 module _ (stream : List ℕ) (n : ℕ) (s : EngineState) (v : valid_state stream n s ≡ true) where
   abbrev p : SharedState

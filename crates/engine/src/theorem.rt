@@ -15,8 +15,8 @@ pub fn demand_3()
 
 // Demand 3 holds of the batch run, for any buffers that 18 does not refuse.
 pub fn demand_3_of_runs()
-    ensures* { λ _. ⌜ ((commands stream journal answers result : List ℕ)
-        → ((run_of commands stream journal answers result).number ≡ bad_buffers → ⊥) → RunDemand3 commands stream journal answers result) ⌝ }
+    ensures { (commands stream journal answers outcome : List ℕ)
+        → ((run_of commands stream journal answers outcome).number ≡ bad_buffers → ⊥) → RunDemand3 commands stream journal answers outcome }
 {}
 
 // Demand 3 holds of the calls over lent memory, for any list of inputs given to an engine that was opened there.
