@@ -1,5 +1,5 @@
-// What C links, under names that no other library has: the batch run, an engine that stays open in lent memory, what a program asks of its
-// state, and the rate for a wait.
+// What C links by crates/olgaemuri_c, under names that no other library has: the batch run, an engine that stays open in lent memory, what
+// a program asks of its state, and the rate for a wait.
 // Definitions: specs/, and those of the engine (crates/engine/specs/Run.antt, InPlace.antt) and of hazards (RateForWait.antt).
 #![tactic(auto)]
 
@@ -18,8 +18,7 @@ ghost use Rattle.olgaemuri.specs.Inspection.{counts_of, applied_of, applied, que
 use inspection::{CauseFields, ClockFields, Counts, QueuedRequest};
 
 // The batch run (document 01: run call): returns 18, the 2, 3 or 17 that ended it, or 0.
-#[unsafe(no_mangle)]
-pub extern "C" fn olgaemuri_run(
+pub fn olgaemuri_run(
     commands: &[u8],
     stream: &[u8],
     journal: &mut [u8],
@@ -33,8 +32,7 @@ pub extern "C" fn olgaemuri_run(
 }
 
 // Opens an engine in the rows, with an empty journal: returns 0, or 1 where the rows have other sizes, and then nothing is changed.
-#[unsafe(no_mangle)]
-pub extern "C" fn olgaemuri_open<'a>(
+pub fn olgaemuri_open<'a>(
     words: &'a mut [[u64; 8]],
     floats: &'a mut [[f64; 8]],
     journal: &'a mut [u8],
@@ -50,8 +48,7 @@ pub extern "C" fn olgaemuri_open<'a>(
 
 // One input (document 01: the command door) on the engine in the rows; its answer's bytes, and its number. 17, with nothing done, where
 // the answer has no room.
-#[unsafe(no_mangle)]
-pub extern "C" fn olgaemuri_execute<'a>(
+pub fn olgaemuri_execute<'a>(
     words: &'a mut [[u64; 8]],
     floats: &'a mut [[f64; 8]],
     stream: &'a [u8],
@@ -77,8 +74,7 @@ pub extern "C" fn olgaemuri_execute<'a>(
 
 // The length of the applied commands, which are the first bytes of a journal of so many: returns 0; or 1, with length 0, where they are
 // past its end.
-#[unsafe(no_mangle)]
-pub extern "C" fn olgaemuri_applied<'a>(
+pub fn olgaemuri_applied<'a>(
     words: &'a [[u64; 8]],
     journal_length: usize,
     length: &'a mut u64,
@@ -89,24 +85,21 @@ pub extern "C" fn olgaemuri_applied<'a>(
 }
 
 // Requests queued and made, draw position and length of the applied commands.
-#[unsafe(no_mangle)]
-pub extern "C" fn olgaemuri_counts(words: &[[u64; 8]]) -> Counts
+pub fn olgaemuri_counts(words: &[[u64; 8]]) -> Counts
     ensures { result ≡ counts_of words.now }
 {
     inspection::counts_of(words)
 }
 
 // The request at a place of the queue, in the order in which they were made.
-#[unsafe(no_mangle)]
-pub extern "C" fn olgaemuri_request(words: &[[u64; 8]], place: usize) -> QueuedRequest
+pub fn olgaemuri_request(words: &[[u64; 8]], place: usize) -> QueuedRequest
     ensures { result ≡ queued_request words.now place }
 {
     inspection::request_fields(words, place)
 }
 
 // A clock, where it is present.
-#[unsafe(no_mangle)]
-pub extern "C" fn olgaemuri_clock<'a>(
+pub fn olgaemuri_clock<'a>(
     words: &'a [[u64; 8]],
     floats: &'a [[f64; 8]],
     clock: usize,
@@ -117,8 +110,7 @@ pub extern "C" fn olgaemuri_clock<'a>(
 }
 
 // The cause at a place of a clock, in ascending order.
-#[unsafe(no_mangle)]
-pub extern "C" fn olgaemuri_cause<'a>(
+pub fn olgaemuri_cause<'a>(
     words: &'a [[u64; 8]],
     floats: &'a [[f64; 8]],
     clock: usize,
@@ -130,8 +122,7 @@ pub extern "C" fn olgaemuri_cause<'a>(
 }
 
 // The constant rate that gives a wait (document 02, change 11): returns 23, 24 or 0, and writes the rate, 0.0 where there is none.
-#[unsafe(no_mangle)]
-pub extern "C" fn olgaemuri_rate_for_wait(threshold: f64, wait: f64, rate: &mut f64) -> u8
+pub fn olgaemuri_rate_for_wait(threshold: f64, wait: f64, rate: &mut f64) -> u8
     ensures { Answers threshold wait (answered result rate.new) }
 {
     let found = hazards::rate_for_wait::rate_for_wait(threshold, wait);

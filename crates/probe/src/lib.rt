@@ -150,8 +150,7 @@ fn lesser(a: usize, b: usize) -> usize
 }
 
 // One checked evaluation for each point of 16 bytes (t f64, w f64), while there are points and room; the number of them.
-#[unsafe(no_mangle)]
-pub extern "C" fn probe_evaluate(op: u8, hazard: &[u8], points: &[u8], out: &mut [u8]) -> u64 {
+pub fn probe_evaluate(op: u8, hazard: &[u8], points: &[u8], out: &mut [u8]) -> u64 {
     let fields = hazard_fields(hazard, 0);
     let count = lesser(points.len() / 16, out.len() / EVALUATION_WIDTH);
     let mut i: usize = 0;
@@ -176,8 +175,7 @@ pub extern "C" fn probe_evaluate(op: u8, hazard: &[u8], points: &[u8], out: &mut
 }
 
 // A checked evaluation on numbers; a NaN where it is refused or there is no wait.
-#[unsafe(no_mangle)]
-pub extern "C" fn probe_evaluate_numbers<'a>(
+pub fn probe_evaluate_numbers<'a>(
     op: u8,
     kind: u8,
     first: f64,
@@ -192,8 +190,7 @@ pub extern "C" fn probe_evaluate_numbers<'a>(
 }
 
 // The three evaluations on numbers, without checks.
-#[unsafe(no_mangle)]
-pub extern "C" fn probe_hazard_at<'a>(
+pub fn probe_hazard_at<'a>(
     kind: u8,
     first: f64,
     count: u64,
@@ -207,8 +204,7 @@ pub extern "C" fn probe_hazard_at<'a>(
     hazards::rates::hazard_at(hazard, ends, rates, count as usize, t)
 }
 
-#[unsafe(no_mangle)]
-pub extern "C" fn probe_cumulative_hazard<'a>(
+pub fn probe_cumulative_hazard<'a>(
     kind: u8,
     first: f64,
     count: u64,
@@ -231,8 +227,7 @@ pub struct Inverted {
 }
 
 // A NaN where there is no wait.
-#[unsafe(no_mangle)]
-pub extern "C" fn probe_invert_cumulative_hazard<'a>(
+pub fn probe_invert_cumulative_hazard<'a>(
     kind: u8,
     first: f64,
     count: u64,
@@ -256,8 +251,7 @@ pub extern "C" fn probe_invert_cumulative_hazard<'a>(
 }
 
 // The f64 nearest to the root of x.
-#[unsafe(no_mangle)]
-pub extern "C" fn probe_nearest_root(x: f64) -> f64
+pub fn probe_nearest_root(x: f64) -> f64
     ensures { result ≡ nearest_root x }
 {
     hazards::roots::nearest_root(x)
@@ -276,13 +270,7 @@ fn put_sampled(out: &mut [u8], at: usize, sampled: Sampled)
 
 // One sample for each position of 8 bytes, while there are positions and room; the number of them. A request is n u8, the
 // settings, 8 causes.
-#[unsafe(no_mangle)]
-pub extern "C" fn probe_sample(
-    request: &[u8],
-    stream: &[u8],
-    positions: &[u8],
-    out: &mut [u8],
-) -> u64 {
+pub fn probe_sample(request: &[u8], stream: &[u8], positions: &[u8], out: &mut [u8]) -> u64 {
     let n = u8_at(request, 0) as usize;
     let settings = settings_at(request, 1);
     let causes = causes_at(request, 19);

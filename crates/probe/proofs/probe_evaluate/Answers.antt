@@ -1,0 +1,10 @@
+-- `probe_evaluate` is safe and ends: each turn writes one record within the buffer.
+use borrow.Author.Rules.{rules}
+use native.Mathlib.Omega.{arith}
+use Rattle.probe.proofs.probe_evaluate.Goals as goal
+
+pub loop-i-init : goal.loop-i-init
+loop-i-init c = (search rules, search rules, omega arith)
+
+pub loop-i-preserved : goal.loop-i-preserved
+loop-i-preserved c = (search rules, search rules, omega arith)
