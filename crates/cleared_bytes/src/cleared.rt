@@ -3,16 +3,15 @@
 ghost use Rattle.std.specs.Prelude.{◌≤◌};
 
 use crate::tally::Tally;
+use std::io;
 
 // The bytes 1 to 32, but for zero from one place up to another.
 fn bytes_but(from: usize, to: usize) -> [u8; 32] {
     let mut bytes = [0u8; 32];
-    let mut i: usize = 0;
-    while i < 32 {
+    for i in 0..32 {
         if (i < from) | (i >= to) {
             bytes[i] = (i + 1) as u8;
         }
-        i += 1;
     }
     bytes
 }
@@ -33,7 +32,7 @@ fn clear_part(bytes: &mut [u8], from: usize, to: usize) {
     }
 }
 
-fn try_both_ways(place: usize, length: usize, tally: Tally) -> Tally
+fn try_both_ways(rt: &impl Print, place: usize, length: usize, tally: Tally) -> io::Result<Tally>
     requires { (place ≤ 7) × (length ≤ 17) }
 {
     let end = place + length;
@@ -42,32 +41,28 @@ fn try_both_ways(place: usize, length: usize, tally: Tally) -> Tally
     clear_front(&mut front, place, length);
     let mut part = bytes_but(0, 0);
     clear_part(&mut part, place, end);
-    let front_is_due = check::same(&front, &due);
-    let part_is_due = check::same(&part, &due);
+    let front_is_due = front == due;
+    let part_is_due = part == due;
     if !(front_is_due & part_is_due) {
-        crate::report::print_part(place as u64, length as u64);
+        crate::report::print_part(rt, place as u64, length as u64)?;
     }
-    tally.with(front_is_due).with(part_is_due)
+    Ok(tally.with(front_is_due).with(part_is_due))
 }
 
-fn try_lengths(place: usize, tally: Tally) -> Tally
+fn try_lengths(rt: &impl Print, place: usize, tally: Tally) -> io::Result<Tally>
     requires { place ≤ 7 }
 {
     let mut after = tally;
-    let mut length: usize = 0;
-    while length < 18 {
-        after = try_both_ways(place, length, after);
-        length += 1;
+    for length in 0..18 {
+        after = try_both_ways(rt, place, length, after)?;
     }
-    after
+    Ok(after)
 }
 
-pub fn try_all() -> Tally {
+pub fn try_all(rt: &impl Print) -> io::Result<Tally> {
     let mut tally = Tally::new();
-    let mut place: usize = 0;
-    while place < 8 {
-        tally = try_lengths(place, tally);
-        place += 1;
+    for place in 0..8 {
+        tally = try_lengths(rt, place, tally)?;
     }
-    tally
+    Ok(tally)
 }

@@ -7,7 +7,9 @@ mod reverted;
 mod session;
 mod tally;
 
-fn main() {
-    report::print_tally(b"cleared: ", b" parts, ", cleared::try_all());
-    report::print_tally(b"reverted: ", b" commands, ", reverted::try_all());
+use std::io;
+
+fn main(rt: HostRuntime) -> io::Result<()> {
+    report::print_tally(&rt, "cleared", "parts", cleared::try_all(&rt)?)?;
+    report::print_tally(&rt, "reverted", "commands", reverted::try_all(&rt)?)
 }

@@ -1,33 +1,15 @@
 // What the program writes: each wrong try as it is met, then the counts.
 use crate::tally::Tally;
-use libc::STDOUT_FILENO;
+use std::io;
 
-fn print(text: &[u8]) {
-    io::write_all(STDOUT_FILENO, text);
+pub fn print_tally(rt: &impl Print, label: &str, what: &str, tally: Tally) -> io::Result<()> {
+    println!(rt; "{label}: {} {what}, {} wrong", tally.tries, tally.wrong)
 }
 
-fn print_number(number: u64) {
-    io::print_decimal(STDOUT_FILENO, number);
+pub fn print_part(rt: &impl Print, place: u64, length: u64) -> io::Result<()> {
+    println!(rt; "place {place}, length {length}: not cleared as is due")
 }
 
-pub fn print_tally(label: &[u8], what: &[u8], tally: Tally) {
-    print(label);
-    print_number(tally.tries);
-    print(what);
-    print_number(tally.wrong);
-    print(b" wrong\n");
-}
-
-pub fn print_part(place: u64, length: u64) {
-    print(b"place ");
-    print_number(place);
-    print(b", length ");
-    print_number(length);
-    print(b": not cleared as is due\n");
-}
-
-pub fn print_command(command: u64) {
-    print(b"command ");
-    print_number(command);
-    print(b": not reverted as is due\n");
+pub fn print_command(rt: &impl Print, command: u64) -> io::Result<()> {
+    println!(rt; "command {command}: not reverted as is due")
 }

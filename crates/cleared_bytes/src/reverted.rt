@@ -3,15 +3,14 @@
 use crate::session;
 use crate::tally::Tally;
 use engine::state_rows::{STATE_FLOATS, STATE_WORDS};
+use std::io;
 
 // The session's bytes up to a place, then zero up to its end, then A5 hex.
 fn journal_after(applied: usize) -> [u8; 300] {
     let commands = session::commands();
     let mut journal = [0xa5u8; 300];
-    let mut i: usize = 0;
-    while i < 252 {
+    for i in 0..252 {
         journal[i] = if i < applied { commands[i] } else { 0 };
-        i += 1;
     }
     journal
 }
@@ -21,24 +20,20 @@ fn play(words: &mut [[u64; 8]], floats: &mut [[f64; 8]], stream: &[u8]) {
     let commands = session::commands();
     let mut journal = [0x5au8; 300];
     engine::opening::open(words, floats, &mut journal);
-    let mut i: usize = 0;
-    while i < session::COMMANDS {
+    for i in 0..session::COMMANDS {
         let at = session::place(i);
         engine::execute::execute(words, floats, stream, &mut journal, &commands[at..]);
-        i += 1;
     }
 }
 
-pub fn try_all() -> Tally {
+pub fn try_all(rt: &impl Print) -> io::Result<Tally> {
     let stream = session::stream();
     let mut words = [[0u64; 8]; STATE_WORDS];
     let mut floats = [[0.0; 8]; STATE_FLOATS];
     play(&mut words, &mut floats, &stream);
     let mut journal = journal_after(session::place(session::COMMANDS));
     let mut tally = Tally::new();
-    let mut left: usize = session::COMMANDS;
-    while left > 0 {
-        left -= 1;
+    for left in (0..session::COMMANDS).rev() {
         let answer = engine::execute::execute(
             &mut words,
             &mut floats,
@@ -48,11 +43,11 @@ pub fn try_all() -> Tally {
         );
         let due = journal_after(session::place(left));
         let accepted = answer.number == 0;
-        let right = accepted & check::same(&journal, &due);
+        let right = accepted & (journal == due);
         if !right {
-            crate::report::print_command(left as u64);
+            crate::report::print_command(rt, left as u64)?;
         }
         tally = tally.with(right);
     }
-    tally
+    Ok(tally)
 }

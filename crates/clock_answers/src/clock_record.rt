@@ -53,11 +53,9 @@ fn put_channel(out: &mut [u8], at: usize, c: HazardChannelState)
 fn put_channels<'o, 'a>(out: &'o mut [u8], words: &'a [[u64; 8]], floats: &'a [[f64; 8]])
     requires { Sized words.now floats.now }
 {
-    let mut j: usize = 0;
-    while j < 8 {
+    for j in 0..8 {
         let channel = clocks::channels::channel_at(words, floats, j);
         put_channel(out, 32 + 170 * j, channel);
-        j += 1;
     }
 }
 

@@ -5,13 +5,19 @@
 
 mod agreement;
 mod clock_record;
+mod lists;
 mod steps;
 
 ghost use Rattle.std.specs.Prelude.{◌≤◌};
 
 use clocks::layout::{CLOCK_FLOATS, CLOCK_WORDS};
 use clocks::ticks::Ticks;
-use libc::STDOUT_FILENO;
+use std::fs::File;
+use std::io;
+use std::io::Read;
+
+// The list is not read further than so many steps.
+const MOST_STEPS: u64 = 1000000;
 
 fn one_unless(agrees: bool) -> u64
     ensures { result ≤ 1 }
@@ -26,36 +32,48 @@ struct Count {
     differing: u64,
 }
 
-fn replay(fd: i32, stream: &[u8]) -> Count {
+impl Count {
+    fn new() -> Count {
+        Count {
+            cases: 0,
+            differing: 0,
+        }
+    }
+
+    // One step more.
+    fn with(self, agrees: bool) -> Count {
+        Count {
+            cases: self.cases.saturating_add(1),
+            differing: self.differing.saturating_add(one_unless(agrees)),
+        }
+    }
+}
+
+fn replay(list: &mut impl Read, stream: &[u8]) -> io::Result<Count> {
     let mut case = [0u8; agreement::STEP_WIDTH];
     let mut words = [[0u64; 8]; CLOCK_WORDS];
     let mut floats = [[0.0; 8]; CLOCK_FLOATS];
     let mut ticks = Ticks { low: 0, high: 0 };
-    let mut cases: u64 = 0;
-    let mut differing: u64 = 0;
-    let mut left: u64 = 1000000;
-    while left > 0 {
-        if io::read_full(fd, &mut case) < agreement::STEP_WIDTH {
+    let mut count = Count::new();
+    for _ in 0..MOST_STEPS {
+        if lists::read_full(list, &mut case)? < agreement::STEP_WIDTH {
             break;
         }
         let played = steps::play(&mut words, &mut floats, ticks, &case, stream);
         ticks = played.ticks;
-        cases += 1;
-        differing += one_unless(agreement::agrees(&words, &floats, played, &case));
-        left -= 1;
+        count = count.with(agreement::agrees(&words, &floats, played, &case));
     }
-    Count { cases, differing }
+    Ok(count)
 }
 
-fn main() {
-    let mut stream = io::large_buffer();
-    let thresholds = os::open_read(b"clock_stream.bin");
-    let length = io::read_full(thresholds, &mut stream);
-    let steps = os::open_read(b"clock_steps.bin");
-    let count = replay(steps, &stream[..length]);
-    io::write_all(STDOUT_FILENO, b"clock steps: ");
-    io::print_decimal(STDOUT_FILENO, count.cases);
-    io::write_all(STDOUT_FILENO, b" steps, ");
-    io::print_decimal(STDOUT_FILENO, count.differing);
-    io::write_all(STDOUT_FILENO, b" differ\n");
+fn main(rt: HostRuntime) -> io::Result<()> {
+    let mut stream = [0u8; 65536];
+    let mut thresholds = File::open(&rt, "clock_stream.bin")?;
+    let length = lists::read_full(&mut thresholds, &mut stream)?;
+    let mut steps = File::open(&rt, "clock_steps.bin")?;
+    let count = replay(&mut steps, &stream[..length])?;
+    println!(rt;
+        "clock steps: {} steps, {} differ",
+        count.cases, count.differing
+    )
 }

@@ -7,8 +7,13 @@ ghost use Rattle.std.specs.Prelude.{◌≤◌};
 use hazards::answers::ANSWER_WIDTH;
 use hazards::draws::StreamPosition;
 use hazards::fields::{f64_at, put_f64, put_u64, u8_at, u64_at};
-use libc::STDOUT_FILENO;
 use probe::{EVALUATION_WIDTH, SAMPLED_WIDTH};
+use std::fs::File;
+use std::io;
+use std::io::{ErrorKind, Read};
+
+// No list is read further than so many cases.
+const MOST_CASES: u64 = 1000000;
 
 // The bytes of a case.
 const EVALUATION_CASE: usize = 173;
@@ -64,7 +69,7 @@ fn sample_agrees(case: &[u8]) -> bool {
     if case.len() < SAMPLE_CASE {
         return false;
     }
-    check::same(&out, &case[EXPECTED..SAMPLE_CASE])
+    out.as_slice() == &case[EXPECTED..SAMPLE_CASE]
 }
 
 // threshold f64, wait f64; expected: number u8, rate f64.
@@ -91,67 +96,80 @@ struct Count {
     differing: u64,
 }
 
-fn print_count(label: &[u8], count: Count) {
-    io::write_all(STDOUT_FILENO, label);
-    io::print_decimal(STDOUT_FILENO, count.cases);
-    io::write_all(STDOUT_FILENO, b" cases, ");
-    io::print_decimal(STDOUT_FILENO, count.differing);
-    io::write_all(STDOUT_FILENO, b" differ\n");
+impl Count {
+    fn new() -> Count {
+        Count {
+            cases: 0,
+            differing: 0,
+        }
+    }
+
+    // One case more.
+    fn with(self, agrees: bool) -> Count {
+        Count {
+            cases: self.cases.saturating_add(1),
+            differing: self.differing.saturating_add(one_unless(agrees)),
+        }
+    }
 }
 
-fn replay_evaluations(fd: i32) -> Count {
+fn print_count(rt: &impl Print, label: &str, count: Count) -> io::Result<()> {
+    println!(rt;
+        "{label}: {} cases, {} differ",
+        count.cases, count.differing
+    )
+}
+
+// Reads the list's next case, and tells whether there was a whole one.
+fn read_case(list: &mut impl Read, case: &mut [u8]) -> io::Result<bool> {
+    match list.read_exact(case) {
+        Ok(()) => Ok(true),
+        Err(e) if e.kind() == ErrorKind::UnexpectedEof => Ok(false),
+        Err(e) => Err(e),
+    }
+}
+
+fn replay_evaluations(list: &mut impl Read) -> io::Result<Count> {
     let mut case = [0u8; EVALUATION_CASE];
-    let mut cases: u64 = 0;
-    let mut differing: u64 = 0;
-    let mut left: u64 = 1000000;
-    while left > 0 {
-        if io::read_full(fd, &mut case) < EVALUATION_CASE {
+    let mut count = Count::new();
+    for _ in 0..MOST_CASES {
+        if !read_case(list, &mut case)? {
             break;
         }
-        cases += 1;
-        differing += one_unless(evaluation_agrees(&case));
-        left -= 1;
+        count = count.with(evaluation_agrees(&case));
     }
-    Count { cases, differing }
+    Ok(count)
 }
 
-fn replay_samples(fd: i32) -> Count {
+fn replay_samples(list: &mut impl Read) -> io::Result<Count> {
     let mut case = [0u8; SAMPLE_CASE];
-    let mut cases: u64 = 0;
-    let mut differing: u64 = 0;
-    let mut left: u64 = 1000000;
-    while left > 0 {
-        if io::read_full(fd, &mut case) < SAMPLE_CASE {
+    let mut count = Count::new();
+    for _ in 0..MOST_CASES {
+        if !read_case(list, &mut case)? {
             break;
         }
-        cases += 1;
-        differing += one_unless(sample_agrees(&case));
-        left -= 1;
+        count = count.with(sample_agrees(&case));
     }
-    Count { cases, differing }
+    Ok(count)
 }
 
-fn replay_rates(fd: i32) -> Count {
+fn replay_rates(list: &mut impl Read) -> io::Result<Count> {
     let mut case = [0u8; 25];
-    let mut cases: u64 = 0;
-    let mut differing: u64 = 0;
-    let mut left: u64 = 1000000;
-    while left > 0 {
-        if io::read_full(fd, &mut case) < 25 {
+    let mut count = Count::new();
+    for _ in 0..MOST_CASES {
+        if !read_case(list, &mut case)? {
             break;
         }
-        cases += 1;
-        differing += one_unless(rate_agrees(&case));
-        left -= 1;
+        count = count.with(rate_agrees(&case));
     }
-    Count { cases, differing }
+    Ok(count)
 }
 
-fn main() {
-    let evaluations = os::open_read(b"evaluations.bin");
-    print_count(b"evaluations: ", replay_evaluations(evaluations));
-    let samples = os::open_read(b"samples.bin");
-    print_count(b"samples: ", replay_samples(samples));
-    let rates = os::open_read(b"rates.bin");
-    print_count(b"rates: ", replay_rates(rates));
+fn main(rt: HostRuntime) -> io::Result<()> {
+    let mut evaluations = File::open(&rt, "evaluations.bin")?;
+    print_count(&rt, "evaluations", replay_evaluations(&mut evaluations)?)?;
+    let mut samples = File::open(&rt, "samples.bin")?;
+    print_count(&rt, "samples", replay_samples(&mut samples)?)?;
+    let mut rates = File::open(&rt, "rates.bin")?;
+    print_count(&rt, "rates", replay_rates(&mut rates)?)
 }

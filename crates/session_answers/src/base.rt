@@ -48,12 +48,10 @@ pub fn give<'a>(
     let mut journal = [0x5Au8; 400];
     engine::opening::open(words, floats, &mut journal);
     let mut at: usize = 0;
-    let mut left = count;
-    while left > 0 {
+    for _ in 0..count {
         let input = crate::commands::rest_from(commands, at);
         engine::execute::execute(words, floats, stream, &mut journal, input);
         at = crate::commands::place_after(commands, at);
-        left -= 1;
     }
 }
 

@@ -8,6 +8,7 @@ mod cases;
 mod changes;
 mod commands;
 mod invalid_states;
+mod lists;
 mod older_rule;
 mod other_journals;
 mod other_states;
@@ -20,8 +21,11 @@ mod tally;
 mod tampered;
 mod uncoded_states;
 
-fn main() {
-    let list = os::open_read(b"sessions.bin");
-    report::print_tally(sessions::replay(list));
-    report::print_verdicts(tampered::try_all());
+use std::fs::File;
+use std::io;
+
+fn main(rt: HostRuntime) -> io::Result<()> {
+    let mut list = File::open(&rt, "sessions.bin")?;
+    report::print_tally(&rt, sessions::replay(&rt, &mut list)?)?;
+    report::print_verdicts(&rt, tampered::try_all(&rt)?)
 }

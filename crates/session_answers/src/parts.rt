@@ -1,9 +1,10 @@
 // The front of a buffer.
-ghost use Rattle.io.specs.Counts.{IsPrefixLen};
+ghost use Rattle.std.specs.Prelude.{◌≡◌, ◌≤◌, length, take};
 
-// The length, or the buffer's where that is less.
-pub fn within(length: usize, bytes: &[u8]) -> usize
-    ensures { IsPrefixLen result bytes.now }
+// The count, or the buffer's length where that is less.
+pub fn within(count: usize, bytes: &[u8]) -> usize
+    ensures within { result ≤ length bytes.now }
+    ensures front { result ≡ length (take result bytes.now) }
 {
-    io::count((length % 65536) as isize, bytes)
+    (count % 65536).min(bytes.len())
 }

@@ -1,98 +1,50 @@
 // What the program writes: each difference as it is met, then the counts.
 use crate::tally::Tally;
 use crate::tampered::Verdicts;
-use libc::STDOUT_FILENO;
+use std::io;
 
-fn print(text: &[u8]) {
-    io::write_all(STDOUT_FILENO, text);
+pub fn print_session(rt: &impl Print, session: u64) -> io::Result<()> {
+    println!(rt; "session {session}: the batch run differs")
 }
 
-fn print_number(number: u64) {
-    io::print_decimal(STDOUT_FILENO, number);
+pub fn print_command(rt: &impl Print, session: u64, command: u64) -> io::Result<()> {
+    println!(rt; "session {session}, command {command}: the answer differs")
 }
 
-// A line of two counts.
-fn print_counts(label: &[u8], count: u64, what: &[u8], differing: u64) {
-    print(label);
-    print_number(count);
-    print(what);
-    print_number(differing);
-    print(b" differ\n");
+pub fn print_journal(rt: &impl Print, session: u64) -> io::Result<()> {
+    println!(rt; "session {session}: the journal differs after the last command")
 }
 
-pub fn print_session(session: u64) {
-    print(b"session ");
-    print_number(session);
-    print(b": the batch run differs\n");
+pub fn print_tampered(rt: &impl Print, case: u64, number: u64) -> io::Result<()> {
+    println!(rt; "case {case} is not refused by {number} with everything left as it was")
 }
 
-pub fn print_command(session: u64, command: u64) {
-    print(b"session ");
-    print_number(session);
-    print(b", command ");
-    print_number(command);
-    print(b": the answer differs\n");
+pub fn print_untampered(rt: &impl Print, number: u64) -> io::Result<()> {
+    println!(rt; "UNDO of a state that is not tampered with is refused by {number}")
 }
 
-pub fn print_journal(session: u64) {
-    print(b"session ");
-    print_number(session);
-    print(b": the journal differs after the last command\n");
-}
-
-pub fn print_tampered(case: u64, number: u64) {
-    print(b"case ");
-    print_number(case);
-    print(b" is not refused by ");
-    print_number(number);
-    print(b" with everything left as it was\n");
-}
-
-pub fn print_untampered(number: u64) {
-    print(b"UNDO of a state that is not tampered with is refused by ");
-    print_number(number);
-    print(b"\n");
-}
-
-fn print_refusal(number: u64, count: u64) {
-    print(b"refused by ");
-    print_number(number);
-    print(b": ");
-    print_number(count);
-    print(b"\n");
-}
-
-fn print_refusals(refusals: [u64; 19]) {
-    let mut number: usize = 1;
-    while number < 19 {
-        print_refusal(number as u64, refusals[number]);
-        number += 1;
+fn print_refusals(rt: &impl Print, refusals: [u64; 19]) -> io::Result<()> {
+    for number in 1..19 {
+        println!(rt; "refused by {number}: {}", refusals[number])?;
     }
+    Ok(())
 }
 
-pub fn print_tally(tally: Tally) {
-    print_counts(
-        b"batch run: ",
-        tally.sessions,
-        b" sessions, ",
-        tally.sessions_differing,
-    );
-    print_counts(
-        b"one by one: ",
-        tally.commands,
-        b" commands, ",
-        tally.commands_differing,
-    );
-    let refusals = tally.refusals;
-    print_refusals(refusals);
+pub fn print_tally(rt: &impl Print, tally: Tally) -> io::Result<()> {
+    println!(rt;
+        "batch run: {} sessions, {} differ",
+        tally.sessions, tally.sessions_differing
+    )?;
+    println!(rt;
+        "one by one: {} commands, {} differ",
+        tally.commands, tally.commands_differing
+    )?;
+    print_refusals(rt, tally.refusals)
 }
 
-pub fn print_verdicts(verdicts: Verdicts) {
-    print(b"tampered states: ");
-    print_number(verdicts.invalid);
-    print(b" refused by 1, ");
-    print_number(verdicts.not_replayable);
-    print(b" UNDOs by 13, ");
-    print_number(verdicts.wrong);
-    print(b" wrong\n");
+pub fn print_verdicts(rt: &impl Print, verdicts: Verdicts) -> io::Result<()> {
+    println!(rt;
+        "tampered states: {} refused by 1, {} UNDOs by 13, {} wrong",
+        verdicts.invalid, verdicts.not_replayable, verdicts.wrong
+    )
 }

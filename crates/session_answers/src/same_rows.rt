@@ -1,13 +1,13 @@
 // Whether rows are the same in every number; floats by their bits, with all NaNs alike.
 
 fn same_float(a: f64, b: f64) -> bool {
-    if a != a {
-        return b != b;
+    if a.is_nan() {
+        return b.is_nan();
     }
-    if b != b {
+    if b.is_nan() {
         return false;
     }
-    f64::to_bits(a) == f64::to_bits(b)
+    a.to_bits() == b.to_bits()
 }
 
 fn same_word_row(a: &[u64; 8], b: &[u64; 8]) -> bool {
@@ -24,29 +24,9 @@ fn same_float_row(a: &[f64; 8], b: &[f64; 8]) -> bool {
 }
 
 pub fn same_words(a: &[[u64; 8]], b: &[[u64; 8]]) -> bool {
-    if a.len() != b.len() {
-        return false;
-    }
-    let mut i: usize = 0;
-    while i < a.len() {
-        if !same_word_row(&a[i], &b[i]) {
-            return false;
-        }
-        i += 1;
-    }
-    true
+    (a.len() == b.len()) && a.iter().zip(b).all(|(x, y)| same_word_row(x, y))
 }
 
 pub fn same_floats(a: &[[f64; 8]], b: &[[f64; 8]]) -> bool {
-    if a.len() != b.len() {
-        return false;
-    }
-    let mut i: usize = 0;
-    while i < a.len() {
-        if !same_float_row(&a[i], &b[i]) {
-            return false;
-        }
-        i += 1;
-    }
-    true
+    (a.len() == b.len()) && a.iter().zip(b).all(|(x, y)| same_float_row(x, y))
 }

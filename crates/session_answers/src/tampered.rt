@@ -4,6 +4,7 @@ use crate::cases;
 use crate::tally::one_more;
 use engine::state_rows::{STATE_FLOATS, STATE_WORDS};
 use hazards::answers::{ANSWER_WIDTH, Answer};
+use std::io;
 
 // How many were refused by 1 and by 13, and how many were not.
 #[derive(Clone, Copy)]
@@ -14,18 +15,18 @@ pub struct Verdicts {
 }
 
 impl Verdicts {
-    fn with(self, case: u64, refused: bool) -> Verdicts {
+    fn with(self, rt: &impl Print, case: u64, refused: bool) -> io::Result<Verdicts> {
         let number = cases::number_of(case);
         let mut after = self;
         if !refused {
-            crate::report::print_tampered(case, number as u64);
+            crate::report::print_tampered(rt, case, number as u64)?;
             after.wrong = one_more(self.wrong);
         } else if number == 1 {
             after.invalid = one_more(self.invalid);
         } else {
             after.not_replayable = one_more(self.not_replayable);
         }
-        after
+        Ok(after)
     }
 }
 
@@ -35,7 +36,7 @@ fn is_refusal(answer: Answer, number: u8) -> bool {
     hazards::answers::put_answer(&mut given, 0, answer);
     let mut expected = [0u8; ANSWER_WIDTH];
     expected[0] = number;
-    check::same(&given, &expected)
+    given == expected
 }
 
 // The state and the journal of a case, in the front rows.
@@ -93,7 +94,7 @@ fn is_refused(case: u64, input: &[u8], number: u8) -> bool {
     let journal_before = journal;
     let answer = give(case, &mut words, &mut floats, &mut journal, &stream, input);
     let refused = is_refusal(answer, number);
-    let same_journal = check::same(&journal, &journal_before);
+    let same_journal = journal == journal_before;
     let same_words = crate::same_rows::same_words(&words, &words_before);
     let same_floats = crate::same_rows::same_floats(&floats, &floats_before);
     refused & (same_journal & (same_words & same_floats))
@@ -118,41 +119,41 @@ fn is_refused_as_due(case: u64) -> bool {
 }
 
 fn is_undone(
+    rt: &impl Print,
     words: &mut [[u64; 8]],
     floats: &mut [[f64; 8]],
     journal: &mut [u8],
     stream: &[u8],
-) -> bool {
-    let answer = engine::execute::execute(words, floats, stream, journal, b"\x08");
+) -> io::Result<bool> {
+    let undo = [engine::commands::UNDO];
+    let answer = engine::execute::execute(words, floats, stream, journal, &undo);
     if answer.number != 0 {
-        crate::report::print_untampered(answer.number as u64);
+        crate::report::print_untampered(rt, answer.number as u64)?;
     }
-    answer.number == 0
+    Ok(answer.number == 0)
 }
 
 // Without tampering UNDO is accepted, so that a refusal comes from the change.
-fn try_untampered() -> Verdicts {
+fn try_untampered(rt: &impl Print) -> io::Result<Verdicts> {
     let stream = crate::base::stream();
     let mut words = [[0u64; 8]; STATE_WORDS];
     let mut floats = [[0.0; 8]; STATE_FLOATS];
     let mut journal = [0u8; 400];
     crate::base::play(&mut words, &mut floats, &mut journal, &stream);
-    let one_clock = is_undone(&mut words, &mut floats, &mut journal, &stream);
+    let one_clock = is_undone(rt, &mut words, &mut floats, &mut journal, &stream)?;
     crate::older_rule::play(&mut words, &mut floats, &mut journal);
-    let two_clocks = is_undone(&mut words, &mut floats, &mut journal, &stream);
-    Verdicts {
+    let two_clocks = is_undone(rt, &mut words, &mut floats, &mut journal, &stream)?;
+    Ok(Verdicts {
         invalid: 0,
         not_replayable: 0,
         wrong: if one_clock & two_clocks { 0 } else { 1 },
-    }
+    })
 }
 
-pub fn try_all() -> Verdicts {
-    let mut verdicts = try_untampered();
-    let mut case: u64 = 0;
-    while case < cases::CASES {
-        verdicts = verdicts.with(case, is_refused_as_due(case));
-        case += 1;
+pub fn try_all(rt: &impl Print) -> io::Result<Verdicts> {
+    let mut verdicts = try_untampered(rt)?;
+    for case in 0..cases::CASES {
+        verdicts = verdicts.with(rt, case, is_refused_as_due(case))?;
     }
-    verdicts
+    Ok(verdicts)
 }

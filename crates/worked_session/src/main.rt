@@ -10,7 +10,7 @@ use clocks::scheduling::{Censor, QueueChange};
 use clocks::setting::CauseSetting;
 use hazards::rates::HazardRate;
 use hazards::ties::TieBreaker;
-use libc::STDOUT_FILENO;
+use std::io;
 
 fn create_press(words: &mut [[u64; 8]], floats: &mut [[f64; 8]])
     requires { Sized words.old floats.old }
@@ -50,62 +50,75 @@ fn no_censor() -> Censor {
     }
 }
 
-fn say(what: &[u8], number: u64) {
-    io::write_all(STDOUT_FILENO, what);
-    io::print_decimal(STDOUT_FILENO, number);
-    io::write_all(STDOUT_FILENO, b"\n");
+fn say(rt: &impl Print, what: &str, number: u64) -> io::Result<()> {
+    println!(rt; "{what}{number}")
 }
 
-fn tell(what: &[u8], asked: QueueChange) {
-    io::write_all(STDOUT_FILENO, what);
-    io::write_all(STDOUT_FILENO, b"breakdown by cause ");
-    io::print_decimal(STDOUT_FILENO, asked.event.winning_cause as u64);
-    say(b" at tick ", asked.ticks.low);
+fn tell(rt: &impl Print, what: &str, asked: QueueChange) -> io::Result<()> {
+    print!(rt; "{what}breakdown by cause {}", asked.event.winning_cause)?;
+    say(rt, " at tick ", asked.ticks.low)
 }
 
 // How many thresholds are drawn.
-fn start(words: &mut [[u64; 8]], floats: &mut [[f64; 8]], stream: &[u8]) -> usize
+fn start(
+    rt: &impl Print,
+    words: &mut [[u64; 8]],
+    floats: &mut [[f64; 8]],
+    stream: &[u8],
+) -> io::Result<usize>
     requires { Sized words.old floats.old }
 {
     let set = clocks::setting::set_channel(words, floats, constant(1, 0.5, 0.0), stream, 0);
     say(
-        b"hour 0: cause 1 set at rate 0.5; thresholds drawn: ",
+        rt,
+        "hour 0: cause 1 set at rate 0.5; thresholds drawn: ",
         set.position as u64,
-    );
+    )?;
     let asked = clocks::scheduling::reschedule(words, floats, 0.0, no_censor(), 0);
-    tell(b"hour 0: ", asked);
-    set.position
+    tell(rt, "hour 0: ", asked)?;
+    Ok(set.position)
 }
 
-fn pause_and_resume(words: &mut [[u64; 8]], floats: &mut [[f64; 8]])
+fn pause_and_resume(
+    rt: &impl Print,
+    words: &mut [[u64; 8]],
+    floats: &mut [[f64; 8]],
+) -> io::Result<()>
     requires { Sized words.old floats.old }
 {
     let withdrawn = clocks::scheduling::pause(words, floats, 1.0);
-    say(b"hour 1: paused; withdrawn request: ", withdrawn.index);
+    say(rt, "hour 1: paused; withdrawn request: ", withdrawn.index)?;
     let asked = clocks::scheduling::resume(words, floats, 3.0, no_censor(), 1);
-    tell(b"hour 3: resumed; ", asked);
+    tell(rt, "hour 3: resumed; ", asked)
 }
 
-fn add_cause(words: &mut [[u64; 8]], floats: &mut [[f64; 8]], stream: &[u8], drawn: usize)
+fn add_cause(
+    rt: &impl Print,
+    words: &mut [[u64; 8]],
+    floats: &mut [[f64; 8]],
+    stream: &[u8],
+    drawn: usize,
+) -> io::Result<()>
     requires { Sized words.old floats.old }
 {
     let set = clocks::setting::set_channel(words, floats, constant(2, 1.0, 3.0), stream, drawn);
     say(
-        b"hour 3: cause 2 set at rate 1; thresholds drawn: ",
+        rt,
+        "hour 3: cause 2 set at rate 1; thresholds drawn: ",
         set.position as u64,
-    );
+    )?;
     let asked = clocks::scheduling::reschedule(words, floats, 3.0, no_censor(), 2);
-    tell(b"hour 3: ", asked);
+    tell(rt, "hour 3: ", asked)
 }
 
-fn main() {
+fn main(rt: HostRuntime) -> io::Result<()> {
     let mut words = [[0u64; 8]; CLOCK_WORDS];
     let mut floats = [[0.0; 8]; CLOCK_FLOATS];
     let mut stream = [0u8; 16];
     hazards::fields::put_f64(&mut stream, 0, 2.0);
     hazards::fields::put_f64(&mut stream, 8, 1.0);
     create_press(&mut words, &mut floats);
-    let drawn = start(&mut words, &mut floats, &stream);
-    pause_and_resume(&mut words, &mut floats);
-    add_cause(&mut words, &mut floats, &stream, drawn);
+    let drawn = start(&rt, &mut words, &mut floats, &stream)?;
+    pause_and_resume(&rt, &mut words, &mut floats)?;
+    add_cause(&rt, &mut words, &mut floats, &stream, drawn)
 }
