@@ -1,4 +1,4 @@
-//! Links target/staticlib/libprobe.a of the repository, which `rt staticlib probe` writes.
+//! Links target/staticlib/libprobe.a of the repository, which `tools/staticlib probe` writes.
 //! PROBE_LIB_DIR names another folder to take it from.
 
 use std::env;
@@ -9,7 +9,7 @@ fn main() {
     let folder = env::var_os("PROBE_LIB_DIR").map_or_else(repository_folder, PathBuf::from);
     let archive = folder.join("libprobe.a");
     if !archive.is_file() {
-        println!("cargo::warning=libprobe.a is missing: run `rt staticlib probe` at the root");
+        println!("cargo::warning=libprobe.a is missing: run `tools/staticlib probe` at the root");
     }
     println!("cargo::rerun-if-changed={}", archive.display());
     println!("cargo::rustc-link-search=native={}", folder.display());

@@ -1,4 +1,4 @@
-//! Links libolgaemuri.a. Makes it by `rt staticlib olgaemuri` where target/staticlib/libolgaemuri.a is missing or older than what it is
+//! Links libolgaemuri.a. Makes it by `tools/staticlib olgaemuri` where target/staticlib/libolgaemuri.a is missing or older than what it is
 //! made from. OLGAEMURI_LIB_DIR is the full path of a folder that holds a finished libolgaemuri.a instead.
 
 use std::env;
@@ -9,13 +9,17 @@ use std::process::{self, Command};
 use std::time::SystemTime;
 
 /// What the library is made from, below the repository's root.
-const CRATES: [&str; 4] = [
+const CRATES: [&str; 5] = [
+    "crates/olgaemuri_c",
     "crates/olgaemuri",
     "crates/engine",
     "crates/clocks",
     "crates/hazards",
 ];
 const PARTS: [&str; 3] = ["src", "specs", "proofs"];
+
+/// How `tools/staticlib` ends where there is no `rt`.
+const NO_RT: i32 = 127;
 
 const TO_INSTALL: &str = "libolgaemuri.a is made by the Rattle kit: install the kit, so that its command `rt` is on the PATH, and build \
     again, or set OLGAEMURI_LIB_DIR to a folder that has a libolgaemuri.a";
@@ -47,6 +51,7 @@ fn made_folder(manifest: &Path) -> PathBuf {
         .iter()
         .flat_map(|name| PARTS.iter().map(move |part| Path::new(name).join(part)))
         .map(|part| root.join(part))
+        .filter(|part| part.exists())
         .collect();
     for source in &sources {
         println!("cargo::rerun-if-changed={}", source.display());
@@ -85,26 +90,26 @@ fn newest(path: &Path) -> Option<SystemTime> {
 
 /// Makes the library. Without `rt` an old library is linked as it is.
 fn make(root: &Path, old_is_there: bool) {
-    match Command::new("rt")
-        .args(["staticlib", "olgaemuri"])
-        .current_dir(root)
+    match Command::new(root.join("tools/staticlib"))
+        .arg("olgaemuri")
         .output()
     {
         Ok(output) if output.status.success() => {}
+        Ok(output) if output.status.code() == Some(NO_RT) && old_is_there => {
+            println!(
+                "cargo::warning=libolgaemuri.a is older than the engine's sources, and there is no `rt` to make it anew"
+            );
+        }
+        Ok(output) if output.status.code() == Some(NO_RT) => fail(TO_INSTALL),
         Ok(output) => {
             let said = [output.stdout, output.stderr].concat();
             String::from_utf8_lossy(&said)
                 .lines()
                 .for_each(|line| println!("cargo::error={line}"));
-            fail("`rt staticlib olgaemuri` failed, see above");
-        }
-        Err(_) if old_is_there => {
-            println!(
-                "cargo::warning=libolgaemuri.a is older than the engine's sources, and there is no `rt` to make it anew"
-            );
+            fail("`tools/staticlib olgaemuri` failed, see above");
         }
         Err(error) => fail(&format!(
-            "`rt staticlib olgaemuri` could not be started ({error}); {TO_INSTALL}"
+            "`tools/staticlib olgaemuri` could not be started ({error}); {TO_INSTALL}"
         )),
     }
 }

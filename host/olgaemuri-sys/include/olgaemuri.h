@@ -31,7 +31,7 @@
  *
  * `olgaemuri_rate_for_wait` needs no session: it gives the constant rate with which a threshold is used up on a given day.
  *
- * Link libolgaemuri.a, which `rt staticlib olgaemuri` writes to target/staticlib. It is for x86-64, has nine symbols that others see
+ * Link libolgaemuri.a, which `tools/staticlib olgaemuri` writes to target/staticlib. It is for x86-64, has nine symbols that others see
  * (`olgaemuri_run`, `olgaemuri_open`, `olgaemuri_execute`, `olgaemuri_applied`, `olgaemuri_counts`, `olgaemuri_request`,
  * `olgaemuri_clock`, `olgaemuri_cause` and `olgaemuri_rate_for_wait`), calls nothing but memcpy and memset, and has no state of its own,
  * so that calls may go on at the same time in several threads, each with its own memory. It counts on the floating-point settings with

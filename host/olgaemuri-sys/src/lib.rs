@@ -1,4 +1,4 @@
-//! The nine functions of libolgaemuri.a (`rt staticlib olgaemuri`), declared once, and a safe call over each. The only file with
+//! The nine functions of libolgaemuri.a (`tools/staticlib olgaemuri`), declared once, and a safe call over each. The only file with
 //! `unsafe`.
 //!
 //! [`open`] and [`execute`] are an engine that stays open in its caller's memory, one input at a time; [`applied`], [`counts`],

@@ -68,7 +68,7 @@ def path() -> Path:
     folder = Path(os.environ.get("OLGAEMURI_LIB_DIR", ROOT / "target/staticlib"))
     archive, shared = folder / ARCHIVE, ROOT / "target/python" / SHARED
     if not archive.is_file():
-        raise LibraryMissing(f"there is no {archive}; `rt staticlib {CRATE}` makes it, or set OLGAEMURI_LIB_DIR to its folder")
+        raise LibraryMissing(f"there is no {archive}; `tools/staticlib {CRATE}` makes it, or set OLGAEMURI_LIB_DIR to its folder")
     if not shared.is_file() or shared.stat().st_mtime_ns != archive.stat().st_mtime_ns:
         _make(archive, shared)
     return shared
