@@ -311,6 +311,15 @@ def blocks_of(text):
 SIGNATURE = re.compile(r"^((?:--[^\n]*\n)*)(?:(abbrev|unfoldable) )?(?:pub )?(" + IDENT + r") :\s+(tie\.[^\n]*)\n", re.M)
 
 
+def unfolded(rest):
+    """The lines 'unfolding ..' after a signature, and what follows them."""
+    lines = []
+    while rest.startswith('unfolding'):
+        line, _, rest = rest.partition('\n')
+        lines.append(line)
+    return lines, rest
+
+
 def invariant(block, name, names):
     """Of 'invariant-loop ends i₀ i = body': the loop's new name, and the body over l."""
     loop = None
@@ -322,11 +331,7 @@ def invariant(block, name, names):
     new, variables = loop
     changed = names.record['changed'][k]
     signature = SIGNATURE.match(block)
-    rest = block[signature.end():]
-    unfolding = []
-    while rest.startswith('unfolding'):
-        line, _, rest = rest.partition('\n')
-        unfolding.append(line)
+    unfolding, rest = unfolded(block[signature.end():])
     made = re.match(re.escape(name) + r"((?: [^\s=]+)*) =\s*", rest)
     given = made.group(1).split()
     body = rest[made.end():]
@@ -410,11 +415,7 @@ def turn(folder, path, names):
             continue  # there is no such goal any more
         new = names.needs[index][1]
         place = names.place(names.at[index])
-        rest = block[signature.end():]
-        unfolding = []
-        while rest.startswith('unfolding'):
-            line, _, rest = rest.partition('\n')
-            unfolding.append(line)
+        unfolding, rest = unfolded(block[signature.end():])
         made = re.match(re.escape(name) + r"((?: [^\s=]+)*) =\s*", rest)
         if not made:
             answers.append('-- look:\n' + block)
