@@ -2,15 +2,16 @@
 // a part that is shorter than the count.
 ghost use Rattle.std.specs.Prelude.{◌≤◌};
 
-use crate::tally::Tally;
+use answer_lists::count::Count;
+use engine::journal::clear;
 use std::io;
 
 // The bytes 1 to 32, but for zero from one place up to another.
 fn bytes_but(from: usize, to: usize) -> [u8; 32] {
     let mut bytes = [0u8; 32];
-    for i in 0..32 {
-        if (i < from) | (i >= to) {
-            bytes[i] = (i + 1) as u8;
+    for (i, byte) in bytes.iter_mut().enumerate() {
+        if i < from || to <= i {
+            *byte = i as u8 + 1;
         }
     }
     bytes
@@ -18,21 +19,19 @@ fn bytes_but(from: usize, to: usize) -> [u8; 32] {
 
 // So many bytes from a place on, as the front of all that is behind it.
 fn clear_front(bytes: &mut [u8], place: usize, length: usize) {
-    if place <= bytes.len() {
-        engine::journal::clear(&mut bytes[place..], length);
+    if let Some(behind) = bytes.get_mut(place..) {
+        clear(behind, length);
     }
 }
 
 // The bytes from one place up to another, as a part of their own; the count is above every length.
 fn clear_part(bytes: &mut [u8], from: usize, to: usize) {
-    if from <= to {
-        if to <= bytes.len() {
-            engine::journal::clear(&mut bytes[from..to], 18);
-        }
+    if let Some(part) = bytes.get_mut(from..to) {
+        clear(part, 18);
     }
 }
 
-fn try_both_ways(rt: &impl Print, place: usize, length: usize, tally: Tally) -> io::Result<Tally>
+fn try_both_ways(rt: &impl Print, place: usize, length: usize, count: Count) -> io::Result<Count>
     requires { (place ≤ 7) × (length ≤ 17) }
 {
     let end = place + length;
@@ -41,28 +40,26 @@ fn try_both_ways(rt: &impl Print, place: usize, length: usize, tally: Tally) -> 
     clear_front(&mut front, place, length);
     let mut part = bytes_but(0, 0);
     clear_part(&mut part, place, end);
-    let front_is_due = front == due;
-    let part_is_due = part == due;
-    if !(front_is_due & part_is_due) {
+    if front != due || part != due {
         crate::report::print_part(rt, place as u64, length as u64)?;
     }
-    Ok(tally.with(front_is_due).with(part_is_due))
+    Ok(count.with(front == due).with(part == due))
 }
 
-fn try_lengths(rt: &impl Print, place: usize, tally: Tally) -> io::Result<Tally>
+fn try_lengths(rt: &impl Print, place: usize, count: Count) -> io::Result<Count>
     requires { place ≤ 7 }
 {
-    let mut after = tally;
+    let mut after = count;
     for length in 0..18 {
         after = try_both_ways(rt, place, length, after)?;
     }
     Ok(after)
 }
 
-pub fn try_all(rt: &impl Print) -> io::Result<Tally> {
-    let mut tally = Tally::new();
+pub fn try_all(rt: &impl Print) -> io::Result<Count> {
+    let mut count = Count::default();
     for place in 0..8 {
-        tally = try_lengths(rt, place, tally)?;
+        count = try_lengths(rt, place, count)?;
     }
-    Ok(tally)
+    Ok(count)
 }

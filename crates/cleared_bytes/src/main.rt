@@ -5,11 +5,10 @@ mod cleared;
 mod report;
 mod reverted;
 mod session;
-mod tally;
 
 use std::io;
 
 fn main(rt: HostRuntime) -> io::Result<()> {
-    report::print_tally(&rt, "cleared", "parts", cleared::try_all(&rt)?)?;
-    report::print_tally(&rt, "reverted", "commands", reverted::try_all(&rt)?)
+    report::print_count(&rt, "cleared", "parts", cleared::try_all(&rt)?)?;
+    report::print_count(&rt, "reverted", "commands", reverted::try_all(&rt)?)
 }

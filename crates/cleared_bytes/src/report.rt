@@ -1,9 +1,12 @@
 // What the program writes: each wrong try as it is met, then the counts.
-use crate::tally::Tally;
+use answer_lists::count::Count;
 use std::io;
 
-pub fn print_tally(rt: &impl Print, label: &str, what: &str, tally: Tally) -> io::Result<()> {
-    println!(rt; "{label}: {} {what}, {} wrong", tally.tries, tally.wrong)
+pub fn print_count(rt: &impl Print, label: &str, what: &str, count: Count) -> io::Result<()> {
+    println!(rt;
+        "{label}: {} {what}, {} wrong",
+        count.cases, count.differing
+    )
 }
 
 pub fn print_part(rt: &impl Print, place: u64, length: u64) -> io::Result<()> {

@@ -1,7 +1,7 @@
 // A clock's fields, read where they lie in its rows and written as a record of 1,424 bytes (host/README.md).
 ghost use Rattle.std.specs.Prelude.{◌≤◌};
-ghost use Rattle.clocks.specs.Layout.{Sized};
 
+use crate::steps::Clock;
 use clocks::channels::HazardChannelState;
 use clocks::layout::{
     ACTIVE, COUNT, ENTITY_INDEX, EVENT, EVENT_INDEX, GENERATION, HAS_ENTITY, LAST_UPDATE, POLICY,
@@ -11,18 +11,15 @@ use clocks::layout::{
 use hazards::fields::{put_f64, put_u8, put_u32, put_u64};
 use hazards::rates::{HazardRate, Intervals, kind_number, own_rate};
 
+pub const CLOCK_WIDTH: usize = 1452;
+
 // Eight floats, 16 bytes apart.
 fn put_floats(out: &mut [u8], at: usize, values: &[f64; 8])
     requires { at ≤ 4096 }
 {
-    put_f64(out, at, values[0]);
-    put_f64(out, at + 16, values[1]);
-    put_f64(out, at + 32, values[2]);
-    put_f64(out, at + 48, values[3]);
-    put_f64(out, at + 64, values[4]);
-    put_f64(out, at + 80, values[5]);
-    put_f64(out, at + 96, values[6]);
-    put_f64(out, at + 112, values[7]);
+    for (i, value) in values.iter().enumerate() {
+        put_f64(out, at + 16 * i, *value);
+    }
 }
 
 // kind, first, count and the pairs.
@@ -50,11 +47,9 @@ fn put_channel(out: &mut [u8], at: usize, c: HazardChannelState)
 }
 
 // Every place for a channel, used or not.
-fn put_channels<'o, 'a>(out: &'o mut [u8], words: &'a [[u64; 8]], floats: &'a [[f64; 8]])
-    requires { Sized words.now floats.now }
-{
+fn put_channels(out: &mut [u8], clock: &Clock) {
     for j in 0..8 {
-        let channel = clocks::channels::channel_at(words, floats, j);
+        let channel = clocks::channels::channel_at(&clock.words, &clock.floats, j);
         put_channel(out, 32 + 170 * j, channel);
     }
 }
@@ -81,12 +76,11 @@ fn put_schedule(out: &mut [u8], b: &[u64; 8], times: &[f64; 8]) {
     put_f64(out, 1415, times[LAST_UPDATE]);
 }
 
-pub fn put_clock<'o, 'a>(out: &'o mut [u8], words: &'a [[u64; 8]], floats: &'a [[f64; 8]])
-    requires { Sized words.now floats.now }
-{
+pub fn put_clock(out: &mut [u8], clock: &Clock) {
+    let Clock { words, floats, .. } = clock;
     put_settings(out, &words[SETTINGS], floats[TIMES][SCALE]);
     put_u8(out, 31, byte_from(words[SETTINGS][COUNT]));
-    put_channels(out, words, floats);
+    put_channels(out, clock);
     put_schedule(out, &words[SCHEDULE], &floats[TIMES]);
     put_u8(out, 1423, byte_from(words[SCHEDULE][WINNER_PIECE]));
 }

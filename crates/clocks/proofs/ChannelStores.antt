@@ -7,7 +7,7 @@ use native.Mathlib.Nat.{mod-eq_of_lt}
 use native.Mathlib.Omega.{arith}
 use borrow.Author.Tests.{lt-ltb}
 use lib.Ieee.{Float, to_bits}
-use lib.ListN.{get_or, set, length-set}
+use lib.ListN.{length, get_or, set, length-set}
 use lib.Seq.{get_or-set_same, get_or-set_other}
 use Rattle.hazards.specs.Floats.{z, zero_bits}
 use Rattle.hazards.specs.Rates.{rate_of_kind, kind_number, own_rate}
@@ -122,18 +122,18 @@ module _ (w : WordRows) (f : FloatRows) (j : ℕ) (hj : j < 8) (sized : Sized w 
         (λ h. rw (words_there, numbers_there) (coded h)))
         (ap (with_channel_at (clock_from w f) j) channel_there)
 
-  -- the row of its numbers alone
-  pub numbers_stored : (ns : List Float) → (Coded w f → coded_numbers (get_or (get_or w (2 + j) []) 2 0) ns ≡ true)
-      → Leaves w f w (set f (1 + 3 * j) ns)
-      (with_channel_at (clock_from w f) j (channel_from (get_or w (2 + j) []) ns (get_or f (2 + 3 * j) []) (get_or f (3 + 3 * j) [])))
-  numbers_stored ns coded =
-      let there : get_or (set f (1 + 3 * j) ns) (1 + 3 * j) [] ≡ ns = get_or-set_same f (1 + 3 * j) ns [] (omega (arith, sized.floats)) in
-      leaves_as
-      (channel_changed w w f (set f (1 + 3 * j) ns) j hj (λ r n. refl)
-      (λ r n. get_or-set_other f (1 + 3 * j) r ns [] (λ q. n (omega arith) (omega arith)))
-      (λ h. rw there (words_kept w f j hj h ns (coded h))))
-      (rw (
-        there,
-        get_or-set_other f (1 + 3 * j) (2 + 3 * j) ns [] (λ q. omega arith),
-        get_or-set_other f (1 + 3 * j) (3 + 3 * j) ns [] (λ q. omega arith),
-      ))
+-- the row of its numbers alone
+pub numbers_stored : (w : WordRows) (f : FloatRows) (j : ℕ) → j < 8 → length f ≡ 25 → (ns : List Float) → (Coded w f → coded_numbers (get_or (get_or w (2 + j) []) 2 0) ns ≡ true)
+    → Leaves w f w (set f (1 + 3 * j) ns)
+    (with_channel_at (clock_from w f) j (channel_from (get_or w (2 + j) []) ns (get_or f (2 + 3 * j) []) (get_or f (3 + 3 * j) [])))
+numbers_stored w f j hj rows ns coded =
+    let there : get_or (set f (1 + 3 * j) ns) (1 + 3 * j) [] ≡ ns = get_or-set_same f (1 + 3 * j) ns [] (omega arith) in
+    leaves_as
+    (channel_changed w w f (set f (1 + 3 * j) ns) j hj (λ r n. refl)
+    (λ r n. get_or-set_other f (1 + 3 * j) r ns [] (λ q. n (omega arith) (omega arith)))
+    (λ h. rw there (words_kept w f j hj h ns (coded h))))
+    (rw (
+      there,
+      get_or-set_other f (1 + 3 * j) (2 + 3 * j) ns [] (λ q. omega arith),
+      get_or-set_other f (1 + 3 * j) (3 + 3 * j) ns [] (λ q. omega arith),
+    ))

@@ -1,20 +1,22 @@
--- The rows of a new clock: its channels cleared one by one, then its own rows.
-use mathlib.Core.Path.{◌≡◌, refl, ◌∙◌}
-use mathlib.Core.Bool.{Bool, true, cond}
-use mathlib.Core.List.{List, [], ◌∷◌}
-use Prim.Native.Nat.{ℕ, ◌+◌, ◌*◌, ◌<◌, ◌≤◌}
+-- The rows of a new clock: its channels cleared, then its own rows.
+use mathlib.Core.Path.{◌≡◌, refl, ◌∙◌, ap}
+use mathlib.Core.Bool.{true, cond}
+use mathlib.Core.List.{List, [], ◌∷◌, ◌++◌}
+use Prim.Native.Nat.{ℕ, ◌+◌, ◌-◌, ◌*◌, ◌<◌, ◌≤◌}
 use native.Mathlib.Nat.{mod-eq_of_lt}
 use native.Mathlib.Omega.{arith}
-use borrow.Author.Tests.{eqb-true, eqb-false, lt-ltb}
-use lib.Dec.{eqb, ltb}
+use borrow.Author.Tests.{lt-ltb}
+use lib.Dec.{ltb}
 use lib.Ieee.{Float, le, to_bits}
-use lib.ListN.{length, get_or, set, replicate, length-set}
-use lib.Seq.{get_or-set_same, get_or-set_other}
+use lib.ListN.{length, get_or, set, take, drop, replicate, length-replicate, get_or-append}
+use lib.Seq.{length-take-le, get_or-take}
+use Rattle.std.proofs.lemmas.List.{get_or-append_right, get_or-replicate}
+use Rattle.std.specs.Prelude.{Option, Some, None, is_some, unwrap_or}
+use Rattle.std.specs.Int.{from_bool}
 use Rattle.hazards.specs.Floats.{z, zero_bits}
 use Rattle.hazards.specs.Ties.{tie_breaker_of, tie_number}
 use Rattle.hazards.specs.declared.ties.TieBreaker.{TieBreaker}
 use Rattle.hazards.specs.declared.ties.TieBreaker.TheVariants.{LowestCauseId, HighestCauseId, ExplicitPriority}
-use Rattle.hazards.proofs.Cases.{by_test}
 use Rattle.clocks.specs.Channels.{empty_channel}
 use Rattle.clocks.specs.Clocks.{policy_number, policy_of, no_entity, one, new_clock, with_channels}
 use Rattle.clocks.specs.Layout.{WordRows, FloatRows, table, byte_from, channel_from, channel_at, clock_of, clock_from, present_in}
@@ -41,61 +43,47 @@ cleared_coded : coded_channel zero_words zero_floats ≡ true
 unfolding coded_words coded_numbers zero_bits to_bits
 cleared_coded = refl
 
--- ---- the first n channels are cleared, and the rows that are no channel's are as before
+-- ---- rows that are filled from one on
 
-pub record Cleared (w₀ : WordRows) (f₀ : FloatRows) (n : ℕ) (w : WordRows) (f : FloatRows) : Type 0 where
+module _ {A : Type 0} (row : List A) (a k : ℕ) (xs ys : List (List A)) (h : a ≤ length xs) (filled : ys ≡ replicate k row) where
+  abbrev with_filled : List (List A)
+  with_filled = take a xs ++ (ys ++ drop k (drop a xs))
+
+  before_filled : (r : ℕ) → r < a → get_or with_filled r [] ≡ get_or xs r []
+  before_filled r l =
+      get_or-append (take a xs) (ys ++ drop k (drop a xs)) [] r (omega (arith, length-take-le a xs h)) ∙ get_or-take a xs r [] l
+
+  there_filled : (r : ℕ) → a ≤ r → r < a + k → get_or with_filled r [] ≡ row
+  there_filled r l u =
+      let long = ap length filled ∙ length-replicate k row in
+      get_or-append_right (take a xs) (ys ++ drop k (drop a xs)) a r [] (length-take-le a xs h) l
+      ∙ (get_or-append ys (drop k (drop a xs)) [] (r - a) (omega (arith, long)) ∙ rw filled (get_or-replicate k (r - a) row [] (omega arith)))
+
+-- ---- every channel is cleared, and the rows that are no channel's are as before
+
+pub record Cleared (w₀ : WordRows) (f₀ : FloatRows) (w : WordRows) (f : FloatRows) : Type 0 where
   pub settings : get_or w 0 [] ≡ get_or w₀ 0 []
   pub schedule : get_or w 1 [] ≡ get_or w₀ 1 []
   pub times : get_or f 0 [] ≡ get_or f₀ 0 []
-  pub words : (r : ℕ) → 2 ≤ r → r < 2 + n → get_or w r [] ≡ zero_words
-  pub floats : (r : ℕ) → 1 ≤ r → r < 1 + 3 * n → get_or f r [] ≡ zero_floats
+  pub words : (r : ℕ) → 2 ≤ r → r < 10 → get_or w r [] ≡ zero_words
+  pub floats : (r : ℕ) → 1 ≤ r → r < 25 → get_or f r [] ≡ zero_floats
 
-pub cleared_none : (w : WordRows) (f : FloatRows) → Cleared w f 0 w f
-cleared_none w f = record {
-  settings = refl;
-  schedule = refl;
-  times = refl;
-  words = λ r a b. absurd (omega arith);
-  floats = λ r a b. absurd (omega arith);
-}
-
--- a place holds x after a store of x somewhere, if it held it or is where it is stored
-set-also : {A : Type 0} (xs : List A) (i r : ℕ) (x d : A) → i < length xs → ((r ≡ i → ⊥) → get_or xs r d ≡ x) → get_or (set xs i x) r d ≡ x
-set-also xs i r x d h other =
-    by_test (eqb r i) (λ e. let same : r ≡ i = eqb-true r i e in rw same (get_or-set_same xs i x d h))
-    (λ e. let apart : r ≡ i → ⊥ = eqb-false r i e in get_or-set_other xs i r x d apart ∙ other apart)
-
-module _ (w₀ w : WordRows) (f₀ f : FloatRows) (j : ℕ) (hj : j < 8) (sized : Sized w f) (e : Cleared w₀ f₀ j w f) where
-  abbrev f₁ : FloatRows
-  f₁ = set f (1 + 3 * j) zero_floats
-
-  abbrev f₂ : FloatRows
-  f₂ = set f₁ (2 + 3 * j) zero_floats
-
-  abbrev f₃ : FloatRows
-  f₃ = set f₂ (3 + 3 * j) zero_floats
-
-  pub cleared_more : Cleared w₀ f₀ (j + 1) (set w (2 + j) zero_words) f₃
-  cleared_more =
-      let n₀ = sized.floats in
-      let n₁ = length-set f (1 + 3 * j) zero_floats in
-      let n₂ = length-set f₁ (2 + 3 * j) zero_floats in
+module _ (w : WordRows) (f : FloatRows) (sized : Sized w f) {ws : WordRows} {ns : FloatRows} (words : ws ≡ replicate 8 zero_words)
+    (floats : ns ≡ replicate 24 zero_floats) where
+  pub cleared_filled : Cleared w f (with_filled zero_words 2 8 w ws (omega (arith, sized.words)) words)
+      (with_filled zero_floats 1 24 f ns (omega (arith, sized.floats)) floats)
+  cleared_filled =
+      let w' : 2 ≤ length w = omega (arith, sized.words) in
+      let f' : 1 ≤ length f = omega (arith, sized.floats) in
       record {
-        settings = get_or-set_other w (2 + j) 0 zero_words [] (λ q. omega arith) ∙ e.settings;
-        schedule = get_or-set_other w (2 + j) 1 zero_words [] (λ q. omega arith) ∙ e.schedule;
-        times =
-            get_or-set_other f₂ (3 + 3 * j) 0 zero_floats [] (λ q. omega arith)
-            ∙ (get_or-set_other f₁ (2 + 3 * j) 0 zero_floats [] (λ q. omega arith)
-            ∙ (get_or-set_other f (1 + 3 * j) 0 zero_floats [] (λ q. omega arith) ∙ e.times));
-        words = λ r a b. set-also w (2 + j) r zero_words [] (omega (arith, sized.words)) (λ x. e.words r a (omega arith));
-        floats =
-            λ r a b.
-            set-also f₂ (3 + 3 * j) r zero_floats [] (omega arith)
-            (λ x. set-also f₁ (2 + 3 * j) r zero_floats [] (omega arith)
-            (λ y. set-also f (1 + 3 * j) r zero_floats [] (omega arith) (λ t. e.floats r a (omega arith))));
+        settings = before_filled zero_words 2 8 w ws w' words 0 (omega arith);
+        schedule = before_filled zero_words 2 8 w ws w' words 1 (omega arith);
+        times = before_filled zero_floats 1 24 f ns f' floats 0 (omega arith);
+        words = λ r a b. there_filled zero_words 2 8 w ws w' words r a (omega arith);
+        floats = λ r a b. there_filled zero_floats 1 24 f ns f' floats r a (omega arith);
       }
 
-module _ (w₀ w : WordRows) (f₀ f : FloatRows) (e : Cleared w₀ f₀ 8 w f) where
+module _ (w₀ w : WordRows) (f₀ f : FloatRows) (e : Cleared w₀ f₀ w f) where
   empty_there : (j : ℕ) → j < 8 → channel_at w f j ≡ empty_channel
   empty_there j h =
       rw (
@@ -146,22 +134,27 @@ tie_coded LowestCauseId = refl
 tie_coded HighestCauseId = refl
 tie_coded ExplicitPriority = refl
 
-module _ (process : ℕ) (has : Bool) (entity named : EntityId) (policy : HazardInterruptionPolicy) (tie : TieBreaker) (tick scale : Float)
-    (e : named ≡ cond has entity no_entity) (s : scale ≡ cond (le tick z) one tick) (h : named.generation < 4294967296) where
+-- without an entity none is kept
+entity_kept : (entity : Option EntityId) → unwrap_or entity no_entity ≡ cond (is_some entity) (unwrap_or entity no_entity) no_entity
+entity_kept (Some e) = refl
+entity_kept None = refl
+
+module _ (process : ℕ) (entity : Option EntityId) (named : EntityId) (policy : HazardInterruptionPolicy) (tie : TieBreaker) (tick scale : Float)
+    (e : named ≡ unwrap_or entity no_entity) (s : scale ≡ cond (le tick z) one tick) (h : named.generation < 4294967296) where
   abbrev new_settings : List ℕ
   new_settings =
-      1 ∷ process ∷ cond has 1 0 ∷ named.index ∷ named.generation ∷ policy_number policy ∷ tie_number tie ∷ 0 ∷ []
+      1 ∷ process ∷ from_bool (is_some entity) ∷ named.index ∷ named.generation ∷ policy_number policy ∷ tie_number tie ∷ 0 ∷ []
 
   abbrev new_times : List Float
   new_times = scale ∷ z ∷ z ∷ z ∷ z ∷ z ∷ z ∷ z ∷ []
 
-  new-clock : clock_of new_settings zero_words new_times (replicate 8 empty_channel) ≡ new_clock process has entity policy tie tick
+  new-clock : clock_of new_settings zero_words new_times (replicate 8 empty_channel) ≡ new_clock process (is_some entity) (unwrap_or entity no_entity) policy tie tick
   unfolding clock_of new_clock
-  new-clock = rw (flag_back has, mod-eq_of_lt h, policy_back policy, tie_back tie, e, s)
+  new-clock = rw (flag_back (is_some entity), mod-eq_of_lt h, policy_back policy, tie_back tie, ← entity_kept entity, e, s)
 
   settings_coded : coded_settings new_settings ≡ true
   unfolding coded_settings
-  settings_coded = rw (flag_coded has, lt-ltb _ _ h, policy_coded policy, tie_coded tie)
+  settings_coded = rw (flag_coded (is_some entity), lt-ltb _ _ h, policy_coded policy, tie_coded tie)
 
   schedule_coded : coded_schedule zero_words ≡ true
   unfolding coded_schedule
@@ -173,7 +166,7 @@ module _ (process : ℕ) (has : Bool) (entity named : EntityId) (policy : Hazard
 
   pub new_stored : (w : WordRows) (f : FloatRows) → Sized w f → (clock_from w f).channels ≡ replicate 8 empty_channel
       → ((j : ℕ) → j < 8 → coded_channel (get_or w (2 + j) []) (get_or f (1 + 3 * j) []) ≡ true)
-      → (clock_from (own_words w new_settings zero_words) (set f 0 new_times) ≡ new_clock process has entity policy tie tick)
+      → (clock_from (own_words w new_settings zero_words) (set f 0 new_times) ≡ new_clock process (is_some entity) (unwrap_or entity no_entity) policy tie tick)
       × (present_in (own_words w new_settings zero_words) ≡ true) × Coded (own_words w new_settings zero_words) (set f 0 new_times)
   new_stored w f sized empty coded = (
     own_stored w f sized new_settings zero_words new_times ∙ rw empty new-clock,

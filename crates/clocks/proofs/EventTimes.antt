@@ -6,16 +6,14 @@ use mathlib.Core.List.{List, [], ◌∷◌}
 use Prim.Native.Nat.{ℕ, ◌^◌}
 use lib.Dec.{lit≤}
 use lib.Ieee.{Float, binary64, add, sub, le}
+use Rattle.std.specs.Prelude.{Option, Some, None}
 use Rattle.hazards.specs.Floats.{z, is_finite_wait}
 use Rattle.hazards.specs.Lists.{foldl}
 use Rattle.hazards.specs.Rates.{invert_cumulative_hazard}
 use Rattle.hazards.specs.Ties.{candidate_after, precedes, earlier, earliest}
 use Rattle.hazards.proofs.Bounds.{Upto, largest}
 use Rattle.hazards.specs.declared.rates.Wait.{Wait}
-use Rattle.hazards.specs.declared.rates.Wait.TheVariants.{After, Never}
 use Rattle.hazards.specs.declared.ties.Candidate.{Candidate}
-use Rattle.hazards.specs.declared.ties.Earliest.{Earliest}
-use Rattle.hazards.specs.declared.ties.Earliest.TheVariants.{Nothing, Found}
 use Rattle.hazards.specs.declared.ties.TieBreaker.{TieBreaker}
 use Rattle.hazards.proofs.Signs.{Held}
 use Rattle.hazards.proofs.Upto.{wider, zero_upto}
@@ -26,9 +24,8 @@ use Rattle.hazards.proofs.Largest.{later_upto}
 use Rattle.hazards.proofs.WaitBounds.{invert_held}
 use Rattle.clocks.specs.Channels.{channel_candidate}
 use Rattle.clocks.specs.Clocks.{SurvivalClock, clock_candidates, earliest_event}
-use Rattle.clocks.specs.Scheduling.{final_event, on_event_dispatched}
+use Rattle.clocks.specs.Scheduling.{Censor, final_event, on_event_dispatched}
 use Rattle.clocks.specs.declared.channels.HazardChannelState.{HazardChannelState}
-use Rattle.clocks.specs.declared.scheduling.Censor.{Censor}
 use Rattle.clocks.proofs.Sound.{Each, none, next, SoundClock}
 use Rattle.hazards.proofs.Cases.{by_test}
 use Rattle.clocks.proofs.EachLaws.{each_append}
@@ -38,17 +35,17 @@ abbrev Timed : Candidate → Type 0
 Timed c = Upto largest c.time
 
 -- that of the earliest, if there is one
-abbrev TimedEarliest : Earliest → Type 0
-TimedEarliest Nothing = Unit {0}
-TimedEarliest (Found c) = Timed c
+abbrev TimedEarliest : Option Candidate → Type 0
+TimedEarliest None = Unit {0}
+TimedEarliest (Some c) = Timed c
 
 -- ---- the earliest of timed candidates
-earlier_timed : (tie : TieBreaker) (best : Earliest) (c : Candidate) → TimedEarliest best → Timed c → TimedEarliest (earlier tie best c)
+earlier_timed : (tie : TieBreaker) (best : Option Candidate) (c : Candidate) → TimedEarliest best → Timed c → TimedEarliest (earlier tie best c)
 unfolding earlier
-earlier_timed tie Nothing c b t = t
-earlier_timed tie (Found best) c b t = by_test (precedes tie c best) (λ e. rw e t) (λ e. rw e b)
+earlier_timed tie None c b t = t
+earlier_timed tie (Some best) c b t = by_test (precedes tie c best) (λ e. rw e t) (λ e. rw e b)
 
-best_timed : (tie : TieBreaker) (best : Earliest) {cs : List Candidate} → TimedEarliest best → Each Timed cs
+best_timed : (tie : TieBreaker) (best : Option Candidate) {cs : List Candidate} → TimedEarliest best → Each Timed cs
     → TimedEarliest (foldl (earlier tie) best cs)
 unfolding foldl
 best_timed tie best b none = b
@@ -56,12 +53,12 @@ best_timed tie best b (next {x = c} t ts) = best_timed tie (earlier tie best c) 
 
 module _ (now : Float) (u : Upto (2 ^ 40) now) where
   -- ---- candidates
-  after_timed : (cause priority : ℕ) (wait : Wait) → Held wait → Each Timed (candidate_after cause priority (λ dt. add binary64 now dt) wait)
+  after_timed : (cause priority : ℕ) (wait : Option Wait) → Held wait → Each Timed (candidate_after cause priority (λ dt. add binary64 now dt) wait)
   unfolding candidate_after
-  after_timed cause priority Never h = none
-  after_timed cause priority (After dt piece) h =
-      by_test (is_finite_wait dt)
-      (λ (e : is_finite_wait dt ≡ true). rw e (next (later_upto largest dt u h (rw e tt) later_lands time_lands) none)) (λ e. rw e none)
+  after_timed cause priority None h = none
+  after_timed cause priority (Some wait) h =
+      by_test (is_finite_wait wait.time)
+      (λ (e : is_finite_wait wait.time ≡ true). rw e (next (later_upto largest wait.time u h (rw e tt) later_lands time_lands) none)) (λ e. rw e none)
 
   channel_timed : (c : HazardChannelState) → Each Timed (channel_candidate now c)
   unfolding channel_candidate
@@ -80,20 +77,20 @@ module _ (now : Float) (u : Upto (2 ^ 40) now) where
 
   earliest_timed : (k : SurvivalClock) → TimedEarliest (earliest_event k now)
   unfolding earliest_event earliest
-  earliest_timed k = best_timed k.tie_breaker Nothing tt (candidates_timed _)
+  earliest_timed k = best_timed k.tie_breaker None tt (candidates_timed _)
 
   -- ---- the event
   module _ (censor : Censor) (v : censor.present ≡ true → Upto (2 ^ 40) censor.time) where
-    final_timed : (e : Earliest) → TimedEarliest e → Upto largest (final_event e now censor).delta_time
+    final_timed : (e : Option Candidate) → TimedEarliest e → Upto largest (final_event e now censor).delta_time
     unfolding final_event
-    final_timed Nothing t =
+    final_timed None t =
         by_test censor.present
         (λ (p : censor.present ≡ true).
         by_test (le now censor.time)
         (λ (l : le now censor.time ≡ true). rw (p, l) (sub-upto largest (v p) u (rw l tt) time_lands))
         (λ l. rw (p, l) (zero_upto largest)))
         (λ p. rw p (zero_upto largest))
-    final_timed (Found c) t =
+    final_timed (Some c) t =
         by_test censor.present
         (λ p.
         by_test (le c.time censor.time) (λ l. rw (p, l) (clamped_difference_upto largest t u largest_stays))

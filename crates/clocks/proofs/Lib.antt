@@ -1,6 +1,7 @@
 -- The laws of the clocks crate, one subject to a file.
 pub mod AscendingCauses
 pub mod ChannelStores
+pub mod CensorLaws
 pub mod ChangedPlaces
 pub mod ClearedRows
 pub mod CodedRows

@@ -1,7 +1,7 @@
 -- The rows of a clock that are no channel's: its settings, its schedule and its times.
 use mathlib.Core.Path.{◌≡◌, refl, ◌∙◌}
 use mathlib.Core.Bool.{true}
-use mathlib.Core.List.{List, [], ◌∷◌}
+use mathlib.Core.List.{List, []}
 use Prim.Native.Nat.{ℕ, ◌+◌, ◌*◌, ◌<◌, ◌≤◌}
 use native.Mathlib.Omega.{arith}
 use lib.Ieee.{Float}
@@ -89,13 +89,8 @@ count_in w f = refl
 
 -- ---- the number of channels used, stored
 
-abbrev pub with_count : List ℕ → ℕ → List ℕ
-with_count a n = get_or a 0 0 ∷ get_or a 1 0 ∷ get_or a 2 0 ∷ get_or a 3 0 ∷ get_or a 4 0 ∷ get_or a 5 0 ∷ get_or a 6 0 ∷ n ∷ []
-
-module _ (w : WordRows) (f : FloatRows) (ten : length w ≡ 10) (n : ℕ) where
-  abbrev row : List ℕ
-  row = with_count (get_or w 0 []) n
-
+module _ (w : WordRows) (f : FloatRows) (ten : length w ≡ 10) (row : List ℕ) (n : ℕ) (counted : get_or row 7 0 ≡ n)
+    (kept : (i : ℕ) → (i ≡ 7 → ⊥) → get_or row i 0 ≡ get_or (get_or w 0 []) i 0) where
   there : get_or (set w 0 row) 0 [] ≡ row
   there = get_or-set_same w 0 row [] (omega arith)
 
@@ -104,13 +99,34 @@ module _ (w : WordRows) (f : FloatRows) (ten : length w ≡ 10) (n : ℕ) where
 
   count_clock : clock_from (set w 0 row) f ≡ with_channels (clock_from w f) (clock_from w f).channels n
   unfolding clock_from clock_of
-  count_clock = rw (own_clock w (set w 0 row) f f (λ r h. beside r (omega arith)) (λ r h. refl), there, beside 1 (omega arith))
+  count_clock =
+      rw (own_clock w (set w 0 row) f f (λ r h. beside r (omega arith)) (λ r h. refl), there, beside 1 (omega arith))
+      (rw (
+        counted,
+        kept 1 (λ e. omega arith),
+        kept 2 (λ e. omega arith),
+        kept 3 (λ e. omega arith),
+        kept 4 (λ e. omega arith),
+        kept 5 (λ e. omega arith),
+        kept 6 (λ e. omega arith),
+      ))
+
+  settings_coded : coded_settings (get_or w 0 []) ≡ true → coded_settings row ≡ true
+  unfolding coded_settings
+  settings_coded h =
+      rw (
+        kept 0 (λ e. omega arith),
+        kept 2 (λ e. omega arith),
+        kept 4 (λ e. omega arith),
+        kept 5 (λ e. omega arith),
+        kept 6 (λ e. omega arith),
+      )
+      h
 
   count_coded : Coded w f → Coded (set w 0 row) f
-  unfolding coded_settings
   count_coded h =
       own_coded w (set w 0 row) f f (λ r l. beside r (omega arith)) (λ r l. refl)
-      (rw there h.settings) (rw (beside 1 (omega arith)) h.schedule) h.times h.channels
+      (rw there (settings_coded h.settings)) (rw (beside 1 (omega arith)) h.schedule) h.times h.channels
 
   pub count_stored : Leaves w f (set w 0 row) f (with_channels (clock_from w f) (clock_from w f).channels n)
-  count_stored = record { clock = count_clock; present = rw there; coded = count_coded }
+  count_stored = record { clock = count_clock; present = rw (there, kept 0 (λ e. omega arith)); coded = count_coded }

@@ -10,12 +10,10 @@ use Rattle.clocks.specs.Channels.{settled, restarted, on_used, place_of_cause}
 use Rattle.clocks.specs.Clocks.{not_scheduled, no_winner, new_clock, used_channels, with_channels, with_schedule, remove_channel}
 use Rattle.clocks.specs.Clocks.{SurvivalClock}
 use Rattle.clocks.specs.Setting.{set_channel}
-use Rattle.clocks.specs.Scheduling.{Rescheduled, scheduled_for, reschedule, pause, resume, on_event_dispatched}
+use Rattle.clocks.specs.Scheduling.{Censor, RealizedEvent, Rescheduled, scheduled_for, reschedule, pause, resume, on_event_dispatched}
 use Rattle.clocks.specs.declared.channels.HazardChannelState.{HazardChannelState}
 use Rattle.clocks.specs.declared.clocks.EntityId.{EntityId}
 use Rattle.clocks.specs.declared.clocks.HazardInterruptionPolicy.{HazardInterruptionPolicy}
-use Rattle.clocks.specs.declared.scheduling.Censor.{Censor}
-use Rattle.clocks.specs.declared.scheduling.RealizedEvent.{RealizedEvent}
 use Rattle.clocks.specs.declared.setting.CauseSetting.{CauseSetting}
 use Rattle.hazards.proofs.Cases.{by_test}
 use Rattle.clocks.proofs.Places.{by_place}

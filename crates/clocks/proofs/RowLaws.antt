@@ -1,12 +1,13 @@
 -- What a change of rows leaves of a clock in lent memory, and one call in place after another.
 use mathlib.Core.Path.{◌≡◌, refl, ◌∙◌}
-use mathlib.Core.Bool.{Bool, true, false, cond}
+use mathlib.Core.Bool.{Bool, true, false}
 use mathlib.Core.List.{[]}
 use Prim.Native.Nat.{ℕ, ◌+◌, ◌*◌, ◌<◌, ◌≤◌}
 use native.Mathlib.Omega.{arith}
 use borrow.Author.Tests.{eqb-true, eqb-false}
 use lib.Dec.{eqb}
 use lib.ListN.{length, get_or, set}
+use Rattle.std.specs.Int.{from_bool}
 use Rattle.hazards.proofs.Cases.{by_test}
 use Rattle.clocks.specs.Clocks.{SurvivalClock, with_channels}
 use Rattle.clocks.specs.Layout.{WordRows, FloatRows, flag_from, is_flag, channel_at, clock_of, clock_from, coded_channel, Coded, Leaves}
@@ -80,11 +81,11 @@ module _ (w w' : WordRows) (f f' : FloatRows) (j : ℕ) (hj : j < 8)
 
 -- ---- a flag as it is stored
 
-pub flag_back : (b : Bool) → flag_from (cond b 1 0) ≡ b
+pub flag_back : (b : Bool) → flag_from (from_bool b) ≡ b
 flag_back true = refl
 flag_back false = refl
 
-pub flag_coded : (b : Bool) → is_flag (cond b 1 0) ≡ true
+pub flag_coded : (b : Bool) → is_flag (from_bool b) ≡ true
 flag_coded true = refl
 flag_coded false = refl
 

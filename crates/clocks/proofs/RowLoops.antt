@@ -1,14 +1,15 @@
 -- Loops over the used channels of a clock in lent memory: each channel changed where it lies, and the channels read one after another.
 use mathlib.Core.Path.{◌≡◌, sym, ◌∙◌, ap}
+use mathlib.Core.Bool.{true}
 use mathlib.Core.List.{List, [], ◌∷◌}
-use Prim.Native.Nat.{ℕ, ◌+◌, ◌*◌, ◌<◌, min}
+use Prim.Native.Nat.{ℕ, ◌+◌, ◌*◌, ◌<◌, ◌≤◌, min}
 use native.Mathlib.Omega.{arith}
 use lib.Ieee.{Float, nan}
-use lib.ListN.{get_or, set, drop}
+use lib.ListN.{length, get_or, set, drop}
 use Rattle.hazards.proofs.Cases.{both_true}
 use Rattle.clocks.specs.Channels.{with_accumulated, on_used}
 use Rattle.clocks.specs.Clocks.{used_channels, with_channels}
-use Rattle.clocks.specs.Layout.{WordRows, FloatRows, channel_from, channel_at, clock_from, coded_words, coded_numbers, Sized, Leaves}
+use Rattle.clocks.specs.Layout.{WordRows, FloatRows, channel_from, channel_at, clock_from, coded_words, coded_numbers, Coded, Leaves}
 use Rattle.clocks.specs.declared.channels.HazardChannelState.{HazardChannelState}
 use Rattle.clocks.proofs.ChannelStores.{numbers_stored}
 use Rattle.clocks.proofs.EachChannel.{each_none, each_all, each_turn}
@@ -17,19 +18,24 @@ use Rattle.clocks.proofs.UsedChannels.{past_end, used_next}
 
 -- ---- the row of a channel's numbers, with another accumulated hazard and interval start
 
-abbrev pub progress_row : List Float → Float → Float → List Float
-progress_row ns total start =
-    total ∷ get_or ns 1 nan ∷ start ∷ get_or ns 3 nan ∷ get_or ns 4 nan ∷ get_or ns 5 nan ∷ get_or ns 6 nan ∷ get_or ns 7 nan ∷ []
+module _ (w : WordRows) (f : FloatRows) (j : ℕ) (hj : j < 8) (rows : length f ≡ 25) (ns : List Float)
+    (others : (i : ℕ) → (i ≡ 0 → ⊥) → (i ≡ 2 → ⊥) → get_or ns i nan ≡ get_or (get_or f (1 + 3 * j) []) i nan) where
+  beside : (i : ℕ) → 3 ≤ i → get_or ns i nan ≡ get_or (get_or f (1 + 3 * j) []) i nan
+  beside i h = others i (λ e. omega arith) (λ e. omega arith)
 
-pub progress_stored : (w : WordRows) (f : FloatRows) (j : ℕ) → j < 8 → Sized w f → (total start : Float)
-    → Leaves w f w (set f (1 + 3 * j) (progress_row (get_or f (1 + 3 * j) []) total start))
-    (with_channel_at (clock_from w f) j (with_accumulated (channel_at w f j) total start))
-unfolding channel_from coded_numbers
-progress_stored w f j hj sized total start =
-    let ws = get_or w (2 + j) [] in
-    let ns = get_or f (1 + 3 * j) [] in
-    numbers_stored w f j hj sized (progress_row ns total start)
-    (λ h. (both_true (coded_words ws) (coded_numbers (get_or ws 2 0) ns) (h.channels j hj)).1)
+  numbers_coded : Coded w f → coded_numbers (get_or (get_or w (2 + j) []) 2 0) ns ≡ true
+  unfolding coded_numbers
+  numbers_coded h =
+      let ws = get_or w (2 + j) [] in
+      rw (beside 3 (omega arith), beside 4 (omega arith), beside 5 (omega arith), beside 6 (omega arith), beside 7 (omega arith))
+      (both_true (coded_words ws) (coded_numbers (get_or ws 2 0) (get_or f (1 + 3 * j) [])) (h.channels j hj)).1
+
+  pub progress_stored : (total start : Float) → get_or ns 0 nan ≡ total → get_or ns 2 nan ≡ start
+      → Leaves w f w (set f (1 + 3 * j) ns) (with_channel_at (clock_from w f) j (with_accumulated (channel_at w f j) total start))
+  unfolding channel_from
+  progress_stored total start first third =
+      leaves_as (numbers_stored w f j hj rows ns numbers_coded)
+      (rw (first, third, others 1 (λ e. omega arith) (λ e. omega arith), beside 3 (omega arith)))
 
 -- ---- a loop that changes the used channels one by one: the first j are changed
 

@@ -1,6 +1,6 @@
 -- A clock's schedule and times stored: the clock that is left.
 use mathlib.Core.Path.{◌≡◌}
-use mathlib.Core.Bool.{Bool, true, cond, ◌&&◌}
+use mathlib.Core.Bool.{Bool, true, ◌&&◌}
 use mathlib.Core.List.{List, [], ◌∷◌}
 use Prim.Native.Nat.{ℕ, ◌+◌, ◌*◌, ◌<◌}
 use native.Mathlib.Nat.{mod-eq_of_lt}
@@ -10,6 +10,7 @@ use lib.Dec.{eqb}
 use lib.Ieee.{Float, nan}
 use lib.ListN.{get_or, set}
 use lib.Seq.{get_or-set_same, get_or-set_other}
+use Rattle.std.specs.Int.{from_bool}
 use Rattle.hazards.proofs.Cases.{both_true}
 use Rattle.clocks.specs.Clocks.{with_schedule}
 use Rattle.clocks.specs.Layout.{WordRows, FloatRows, channel_at, channels_from, clock_of, clock_from, Sized, Leaves, Coded}
@@ -95,7 +96,7 @@ module _ (w : WordRows) (f : FloatRows) (sized : Sized w f) (event : ScheduledEv
 
   abbrev pub schedule_row : List ℕ
   schedule_row =
-      cond event.present 1 0 ∷ event.index ∷ cond winner.present 1 0 ∷ winner.cause_id ∷ cond active 1 0 ∷ winner.piece ∷ at b 6
+      from_bool event.present ∷ event.index ∷ from_bool winner.present ∷ winner.cause_id ∷ from_bool active ∷ winner.piece ∷ at b 6
       ∷ at b 7
       ∷ []
 

@@ -4,48 +4,46 @@ use mathlib.Core.Bool.{Bool, true, false}
 use Prim.Native.Nat.{ℕ}
 use borrow.Author.Tests.{eq-eqb, ne_eqb}
 use lib.Ieee.{Float, binary64, add, sub, le}
+use Rattle.std.specs.Prelude.{Some, None}
 use Rattle.hazards.specs.Floats.{not_below_zero}
 use Rattle.hazards.specs.Refusals.{no_cause}
 use Rattle.hazards.specs.declared.ties.Candidate.{Candidate}
-use Rattle.hazards.specs.declared.ties.Earliest.TheVariants.{Nothing, Found}
 use Rattle.clocks.specs.Ticks.{ticks_at}
 use Rattle.clocks.specs.Channels.{settled, on_used}
 use Rattle.clocks.specs.Clocks.{SurvivalClock, not_scheduled, no_winner, with_channels, with_schedule}
-use Rattle.clocks.specs.Scheduling.{Dispatched, not_realized, realized, final_event, scheduled_for, pause, on_event_dispatched}
+use Rattle.clocks.specs.Scheduling.{Censor, RealizedEvent, Dispatched, not_realized, realized, final_event, scheduled_for, pause, on_event_dispatched}
 use Rattle.clocks.specs.Scheduling.{Rescheduled}
 use Rattle.clocks.specs.declared.clocks.ScheduledEvent.{ScheduledEvent}
-use Rattle.clocks.specs.declared.scheduling.Censor.{Censor}
-use Rattle.clocks.specs.declared.scheduling.RealizedEvent.{RealizedEvent}
 
 -- ---- without a candidate
 module _ (now : Float) (censor : Censor) where
-  pub no_candidate_no_censor : censor.present ≡ false → final_event Nothing now censor ≡ not_realized
+  pub no_candidate_no_censor : censor.present ≡ false → final_event None now censor ≡ not_realized
   unfolding final_event
   no_candidate_no_censor p = rw p
 
-  pub no_candidate_late : censor.present ≡ true → le now censor.time ≡ false → final_event Nothing now censor ≡ not_realized
+  pub no_candidate_late : censor.present ≡ true → le now censor.time ≡ false → final_event None now censor ≡ not_realized
   unfolding final_event
   no_candidate_late p l = rw (p, l)
 
   pub no_candidate_censored : censor.present ≡ true → le now censor.time ≡ true
-      → final_event Nothing now censor ≡ realized no_cause (sub binary64 censor.time now) true 0
+      → final_event None now censor ≡ realized no_cause (sub binary64 censor.time now) true 0
   unfolding final_event
   no_candidate_censored p l = rw (p, l)
 
 -- ---- with a candidate
 module _ (c : Candidate) (now : Float) (censor : Censor) where
   pub found_no_censor : censor.present ≡ false
-      → final_event (Found c) now censor ≡ realized c.cause_id (not_below_zero (sub binary64 c.time now)) false c.piece
+      → final_event (Some c) now censor ≡ realized c.cause_id (not_below_zero (sub binary64 c.time now)) false c.piece
   unfolding final_event
   found_no_censor p = rw p
 
   pub found_in_time : censor.present ≡ true → le c.time censor.time ≡ true
-      → final_event (Found c) now censor ≡ realized c.cause_id (not_below_zero (sub binary64 c.time now)) false c.piece
+      → final_event (Some c) now censor ≡ realized c.cause_id (not_below_zero (sub binary64 c.time now)) false c.piece
   unfolding final_event
   found_in_time p l = rw (p, l)
 
   pub found_censored : censor.present ≡ true → le c.time censor.time ≡ false
-      → final_event (Found c) now censor ≡ realized no_cause (not_below_zero (sub binary64 censor.time now)) true 0
+      → final_event (Some c) now censor ≡ realized no_cause (not_below_zero (sub binary64 censor.time now)) true 0
   unfolding final_event
   found_censored p l = rw (p, l)
 

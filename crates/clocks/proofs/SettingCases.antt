@@ -8,13 +8,12 @@ use lib.ListN.{length, get_or, set}
 use lib.Ieee.{Float}
 use Rattle.hazards.specs.Floats.{z}
 use Rattle.hazards.specs.Refusals.{too_many_causes}
-use Rattle.hazards.specs.Draws.{draw_at}
-use Rattle.hazards.specs.declared.draws.DrawAndPosition.{DrawAndPosition}
+use Rattle.hazards.specs.Draws.{DrawAndPosition, draw_at}
+use Rattle.std.specs.Prelude.{Some, None}
 use Rattle.clocks.specs.Channels.{empty_channel, settled_hazard, place_of_cause, place_for_new, insert_at}
 use Rattle.clocks.specs.Clocks.{SurvivalClock, used_channels, with_channels}
 use Rattle.clocks.specs.Setting.{channel_of, draws_again, not_set, after_draw, set_again, set_new, set_channel}
 use Rattle.clocks.specs.declared.channels.HazardChannelState.{HazardChannelState}
-use Rattle.clocks.specs.declared.channels.CausePlace.TheVariants.{At, Absent}
 use Rattle.clocks.specs.declared.setting.CauseSetting.{CauseSetting}
 use Rattle.clocks.proofs.UsedChannels.{get_d_any}
 
@@ -90,12 +89,12 @@ module _ (k : SurvivalClock) (s : CauseSetting) (stream : List ℕ) (position : 
       ∙ rw q (new_draws h))
 
   -- which of the two: a used channel has the cause, or none has
-  pub set-held : {at : ℕ} → At at ≡ place_of_cause s.cause_id (used_channels k)
+  pub set-held : {at : ℕ} → Some at ≡ place_of_cause s.cause_id (used_channels k)
       → set_again k s stream position at ≡ set_channel k s stream position
   unfolding set_channel
   set-held h = rw (set_channel, ← h)
 
-  pub set-absent : Absent ≡ place_of_cause s.cause_id (used_channels k)
+  pub set-absent : None ≡ place_of_cause s.cause_id (used_channels k)
       → set_new k s stream position ≡ set_channel k s stream position
   unfolding set_channel
   set-absent h = rw (set_channel, ← h)

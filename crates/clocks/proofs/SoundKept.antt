@@ -13,12 +13,10 @@ use Rattle.hazards.proofs.Upto.{zero_upto}
 use Rattle.hazards.proofs.Limits.{time_upto}
 use Rattle.clocks.specs.Channels.{settled, restarted, place_of_cause}
 use Rattle.clocks.specs.Clocks.{SurvivalClock, not_scheduled, no_winner, new_clock, used_channels, remove_channel, earliest_event, one}
-use Rattle.clocks.specs.Scheduling.{final_event, scheduled_for, reschedule, pause, resume, on_event_dispatched}
+use Rattle.clocks.specs.Scheduling.{Censor, RealizedEvent, final_event, scheduled_for, reschedule, pause, resume, on_event_dispatched}
 use Rattle.clocks.specs.Validation.{is_finite, ascending_from}
 use Rattle.clocks.specs.declared.clocks.EntityId.{EntityId}
 use Rattle.clocks.specs.declared.clocks.HazardInterruptionPolicy.{HazardInterruptionPolicy}
-use Rattle.clocks.specs.declared.scheduling.Censor.{Censor}
-use Rattle.clocks.specs.declared.scheduling.RealizedEvent.{RealizedEvent}
 use Rattle.clocks.proofs.Sound.{none, SoundClock}
 use Rattle.hazards.proofs.Cases.{by_test}
 use Rattle.clocks.proofs.Places.{by_place}

@@ -4,10 +4,10 @@ use Prim.Native.Nat.{ℕ, ◌+◌, ◌<◌, ◌≤◌, zero-le, suc, ◌-◌}
 use native.Mathlib.Omega.{arith}
 use lib.ListN.{get_or, set, length-take, length-set}
 use lib.Seq.{take-set-lt, drop-set-lt, get_or-take}
+use Rattle.std.specs.Prelude.{Some, None}
 use Rattle.clocks.specs.Channels.{empty_channel, place_of_cause, place_for_new, insert_at, remove_at}
 use Rattle.clocks.specs.Clocks.{SurvivalClock, used_channels, with_channels}
 use Rattle.clocks.specs.declared.channels.HazardChannelState.{HazardChannelState}
-use Rattle.clocks.specs.declared.channels.CausePlace.TheVariants.{At, Absent}
 use Rattle.clocks.proofs.Sound.{next, SoundChannel, SoundClock}
 use Rattle.clocks.proofs.AscendingCauses.{inserted_ascend, set-ascend, removed_ascend}
 use Rattle.clocks.proofs.ChangedPlaces.{inserted_places, inserted_used, inserted_unused}
@@ -18,7 +18,7 @@ use Rattle.clocks.proofs.SoundClocks.{channels_sound}
 
 module _ (k : SurvivalClock) (sk : SoundClock k) where
   -- ---- the place of a cause is used, and its channel is sound
-  module _ (at cause : ℕ) (h : place_of_cause cause (used_channels k) ≡ At at) where
+  module _ (at cause : ℕ) (h : place_of_cause cause (used_channels k) ≡ Some at) where
     used_place : at < k.channel_count
     used_place =
         let below = place_below cause (used_channels k) h in
@@ -52,7 +52,7 @@ module _ (k : SurvivalClock) (sk : SoundClock k) where
         (removed_unused cs sk.places at n used_place few sk.unused) (rw r (removed_ascend 0 at (used_channels k) sk.causes))
 
   -- ---- a channel of a new cause put in at its place
-  pub added_sound : (c : HazardChannelState) → k.channel_count < 8 → place_of_cause c.cause_id (used_channels k) ≡ Absent
+  pub added_sound : (c : HazardChannelState) → k.channel_count < 8 → place_of_cause c.cause_id (used_channels k) ≡ None
       → SoundChannel c
       → SoundClock (with_channels k (insert_at (place_for_new c.cause_id (used_channels k)) c k.channels) (k.channel_count + 1))
   added_sound c room h sc =

@@ -14,11 +14,11 @@ use Rattle.hazards.proofs.Bounds.{Upto, largest}
 use Rattle.hazards.proofs.Upto.{zero_upto}
 use Rattle.hazards.proofs.Limits.{time_upto}
 use Rattle.hazards.proofs.DrawLaws.{accepted_threshold}
+use Rattle.std.specs.Prelude.{Some, None}
 use Rattle.clocks.specs.Channels.{empty_channel, settled_hazard, place_of_cause}
 use Rattle.clocks.specs.Clocks.{SurvivalClock, used_channels}
 use Rattle.clocks.specs.Setting.{channel_of, draws_again, set_again, set_new, set_channel}
 use Rattle.clocks.specs.declared.channels.HazardChannelState.{HazardChannelState}
-use Rattle.clocks.specs.declared.channels.CausePlace.TheVariants.{At, Absent}
 use Rattle.clocks.specs.declared.setting.CauseSetting.{CauseSetting}
 use Rattle.clocks.proofs.Sound.{SoundChannel, SoundClock}
 use Rattle.hazards.proofs.Cases.{by_test}
@@ -44,7 +44,7 @@ module _ (k : SurvivalClock) (sk : SoundClock k) (s : CauseSetting) (range : ran
       made_sound (zero_upto largest) (rw (accepted_threshold stream position (eqb-true (draw_at stream position).number 0 d)) tt)
 
   -- a cause that the clock has
-  again_sound : (at : ℕ) → place_of_cause cause (used_channels k) ≡ At at → SoundClock (set_again k s stream position at).clock
+  again_sound : (at : ℕ) → place_of_cause cause (used_channels k) ≡ Some at → SoundClock (set_again k s stream position at).clock
   unfolding set_again
   again_sound at h =
       let old = get_or k.channels at empty_channel in
@@ -61,7 +61,7 @@ module _ (k : SurvivalClock) (sk : SoundClock k) (s : CauseSetting) (range : ran
       (made_sound (settled_hazard_upto old so s.now (time_upto s.now time)) so.threshold)))
 
   -- a cause that is new to the clock
-  new_cause_sound : place_of_cause cause (used_channels k) ≡ Absent → SoundClock (set_new k s stream position).clock
+  new_cause_sound : place_of_cause cause (used_channels k) ≡ None → SoundClock (set_new k s stream position).clock
   unfolding set_new
   new_cause_sound h =
       by_test (ltb k.channel_count 8)

@@ -8,8 +8,7 @@ use native.Mathlib.Omega.{arith}
 use lib.Dec.{T, leb, ltb, eqb, lit≤}
 use lib.Pow.{pow-add, pow_pos, pow_mono, shl_lt, le_ones}
 use borrow.Author.Tests.{lt-leb, le-leb, lt-ltb, ne_eqb, leb-true, leb-false, ltb-true, ltb-false}
-use lib.Ieee.{Float, nan, inf, fin, up, down, odd, of_fields, of_bits, is_nan, ne, binary64}
-use lib.Ieee.Compare.{differs_from_itself}
+use lib.Ieee.{Float, nan, inf, fin, up, down, odd, of_fields, of_bits, is_nan, binary64}
 use lib.Ieee.Exact.{HasValue, odd_sign}
 use lib.Ieee.Fits.{down_pos}
 use lib.Ieee.Bits.{nan_bits_is, nan_bits_above}
@@ -43,11 +42,11 @@ negative zero t = odd_negative 53 t 0 1074
 negative (suc k) t =
     either (eqb (suc k) 2047) (eqb t 0) (odd 53 true (2 ^ 52 + t) k 1074) (odd_negative 53 (2 ^ 52 + t) k 1074)
 
-is_nan_lem : (x : Float) → is_nan x ≡ true → whole_ticks x ≡ 0
+pub nan_ticks : (x : Float) → is_nan x ≡ true → whole_ticks x ≡ 0
 unfolding whole_ticks is_nan
-is_nan_lem nan h = refl
-is_nan_lem (inf s) h = absurd (subst (λ (b : Bool). T (not b)) h tt)
-is_nan_lem (fin s m e) h = absurd (subst (λ (b : Bool). T (not b)) h tt)
+nan_ticks nan h = refl
+nan_ticks (inf s) h = absurd (subst (λ (b : Bool). T (not b)) h tt)
+nan_ticks (fin s m e) h = absurd (subst (λ (b : Bool). T (not b)) h tt)
 
 signed : (b : ℕ) → 2 ^ 63 ≤ b → whole_ticks (of_bits binary64 b) ≡ 0
 unfolding of_bits
@@ -60,7 +59,7 @@ ticks_off b h = go (leb (2 ^ 63) b) refl
     go true e = signed b (omega (arith, leb-true (2 ^ 63) b e))
     go false e =
         let small : b < 2 ^ 63 = leb-false (2 ^ 63) b e in
-        is_nan_lem (of_bits binary64 b)
+        nan_ticks (of_bits binary64 b)
         (sym (nan_bits_is binary64 b) ∙ nan_bits_above binary64 b
         ∙ lt-ltb 0x7ff0_0000_0000_0000 (b % 2 ^ 63) (rw (mod-eq_of_lt small) h))
 
@@ -157,11 +156,3 @@ ticks_large b h k = fields b h ∙ go (ltb (b / 2 ^ 52) 2047) refl
         let x : b / 2 ^ 52 ≡ 2047 = omega (arith, ltb-false (b / 2 ^ 52) 2047 e) in
         let y : b % 2 ^ 52 ≡ 0 = omega (arith, ltb-false (b / 2 ^ 52) 2047 e) in
         rw (x, y) infinite
-
--- ---- the test x != x
-nan_is : whole_ticks nan ≡ 0
-unfolding whole_ticks
-nan_is = refl
-
-pub nan_ticks : (x : Float) → ne x x ≡ true → whole_ticks x ≡ 0
-nan_ticks x h = ap whole_ticks (differs_from_itself x (subst T (sym h) tt)) ∙ nan_is

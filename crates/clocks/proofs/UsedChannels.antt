@@ -9,9 +9,8 @@ use lib.Ieee.{nan}
 use lib.ListN.{length, get_or, take, drop, length-take, drop_of_length-le}
 use lib.Seq.{drop-cons, get_or-take}
 use Rattle.hazards.specs.declared.rates.HazardRate.TheVariants.{Zero}
+use Rattle.std.specs.Prelude.{Option, Some, None}
 use Rattle.clocks.specs.Channels.{further, place_of_cause, place_for_new}
-use Rattle.clocks.specs.declared.channels.CausePlace.{CausePlace}
-use Rattle.clocks.specs.declared.channels.CausePlace.TheVariants.{At, Absent}
 use Rattle.clocks.specs.declared.channels.HazardChannelState.{HazardChannelState}
 
 -- what a read past the last place is taken to give; no code reads there
@@ -46,27 +45,20 @@ module _ (cs : List HazardChannelState) (count : ℕ) (eight : length cs ≡ 8) 
   used_end i h = drop_of_length-le (take count cs) {i = i} (rw used-length h)
 
 -- ---- the search for a cause: `at` channels do not have it, and the next has it, or not, or there is none
-none_further : (p : CausePlace) → further 0 p ≡ p
-none_further (At at) = ap At (omega arith)
-none_further Absent = refl
-
-one_further : (n : ℕ) (p : CausePlace) → further n (further 1 p) ≡ further (n + 1) p
-one_further n (At at) = ap At (omega arith)
-one_further n Absent = refl
+one_further : (n : ℕ) (p : Option ℕ) → further n (further 1 p) ≡ further (n + 1) p
+one_further n (Some at) = ap Some (omega arith)
+one_further n None = refl
 
 module _ (us : List HazardChannelState) (cause : ℕ) where
   abbrev pub Searched : ℕ → Type 0
   Searched at = further at (place_of_cause cause (drop at us)) ≡ place_of_cause cause us
 
-  pub search_start : Searched 0
-  search_start = none_further (place_of_cause cause us)
-
   module _ (at : ℕ) (searched : Searched at) where
     module _ {c : HazardChannelState} (first : drop at us ≡ c ∷ drop (at + 1) us) where
-      pub search_here : c.cause_id ≡ cause → At at ≡ place_of_cause cause us
+      pub search_here : c.cause_id ≡ cause → Some at ≡ place_of_cause cause us
       search_here h =
-          let e : place_of_cause cause (drop at us) ≡ At 0 = unfold place_of_cause in rw (first, eq-eqb _ _ h) in
-          ap At (omega arith) ∙ rw e at searched
+          let e : place_of_cause cause (drop at us) ≡ Some 0 = unfold place_of_cause in rw (first, eq-eqb _ _ h) in
+          ap Some (omega arith) ∙ rw e at searched
 
       pub search_later : (c.cause_id ≡ cause → ⊥) → Searched (at + 1)
       search_later h =
@@ -74,9 +66,9 @@ module _ (us : List HazardChannelState) (cause : ℕ) where
           let e : place_of_cause cause (drop at us) ≡ further 1 rest = unfold place_of_cause in rw (first, ne_eqb _ _ h) in
           sym (one_further at rest) ∙ rw e at searched
 
-    pub search_end : drop at us ≡ [] → Absent ≡ place_of_cause cause us
+    pub search_end : drop at us ≡ [] → None ≡ place_of_cause cause us
     search_end end =
-        let e : place_of_cause cause (drop at us) ≡ Absent = unfold place_of_cause in rw end in
+        let e : place_of_cause cause (drop at us) ≡ None = unfold place_of_cause in rw end in
         rw e at searched
 
 -- ---- the place of a new cause: the first of these has a higher one, or not, or there is none

@@ -6,7 +6,8 @@ use Prim.Native.Nat.{ℕ, suc, ◌+◌, ◌<◌, ◌≤◌}
 use native.Mathlib.Numerals.{add-one}
 use borrow.Author.Tests.{le-leb, lt-leb}
 use lib.Dec.{ltb, leb, leb-suc-suc}
-use lib.Ieee.{nan}
+use lib.Ieee.{Float, nan, inf, fin, lt}
+use Rattle.std.specs.Float.{float_is_finite}
 use lib.ListN.{get_or}
 use Rattle.hazards.specs.Lists.{all}
 use Rattle.clocks.specs.Clocks.{SurvivalClock, used_channels}
@@ -93,6 +94,15 @@ module _ (w : WordRows) (f : FloatRows) where
         && (is_finite (get_or (get_or f 0 []) 2 nan) && cond (flag_from (get_or (get_or w 1 []) 2 0)) (is_finite (get_or (get_or f 0 []) 1 nan)) true))
     unfolding clock_from clock_of
     clock_rest e = clock_is k (rw (count_in w f) h) ∙ rw e
+
+-- ---- the library's test of a float that is neither infinite nor a NaN
+
+pub finite_is : (x : Float) → float_is_finite x ≡ is_finite x
+unfolding is_finite float_is_finite lt
+finite_is nan = refl
+finite_is (inf true) = refl
+finite_is (inf false) = refl
+finite_is (fin s m e) = refl
 
 -- ---- three tests, of which two are made first
 

@@ -1,6 +1,6 @@
 -- Document 01, "Clocks": the channels of a survival clock (HazardChannelState of hazard_clock.rs), eight places by ascending cause, of
 -- which the first count are used.
-use Rattle.std.specs.Prelude.{cond, List, [], ◌∷◌, ◌++◌, map, ℕ, suc, ◌+◌, ◌-◌, eqb, ltb, take, drop, replicate, Float}
+use Rattle.std.specs.Prelude.{cond, List, [], ◌∷◌, ◌++◌, map, ℕ, suc, ◌+◌, ◌-◌, eqb, ltb, take, drop, replicate, Float, Option, Some, None}
 use Rattle.std.specs.Float.{binary64}
 use Rattle.std.specs.Float.Ieee.{add, sub, le}
 use Rattle.hazards.specs.Floats.{z, not_below_zero}
@@ -10,8 +10,6 @@ use Rattle.hazards.specs.declared.rates.Intervals.{Intervals}
 use Rattle.hazards.specs.Ties.{candidate_after}
 use Rattle.hazards.specs.declared.ties.Candidate.{Candidate}
 use Rattle.clocks.specs.declared.channels.HazardChannelState.{HazardChannelState}
-use Rattle.clocks.specs.declared.channels.CausePlace.{CausePlace}
-use Rattle.clocks.specs.declared.channels.CausePlace.TheVariants.{At, Absent}
 
 -- what an unused place holds
 abbrev pub empty_intervals : Intervals
@@ -61,14 +59,14 @@ on_used f count cs = map f (take count cs) ++ drop count cs
 -- ---- by cause
 
 -- a place among channels, counted with n more before them
-abbrev pub further : ℕ → CausePlace → CausePlace
-further n (At at) = At (n + at)
-further n Absent = Absent
+abbrev pub further : ℕ → Option ℕ → Option ℕ
+further n (Some at) = Some (n + at)
+further n None = None
 
 -- the place of the channel with a cause, if any (should several have it, of the first)
-unfoldable pub place_of_cause : ℕ → List HazardChannelState → CausePlace
-place_of_cause cause [] = Absent
-place_of_cause cause (c ∷ cs) = cond (eqb c.cause_id cause) (At 0) (further 1 (place_of_cause cause cs))
+unfoldable pub place_of_cause : ℕ → List HazardChannelState → Option ℕ
+place_of_cause cause [] = None
+place_of_cause cause (c ∷ cs) = cond (eqb c.cause_id cause) (Some 0) (further 1 (place_of_cause cause cs))
 
 -- the place of a new cause: before the first channel with a higher one, or after them all
 unfoldable pub place_for_new : ℕ → List HazardChannelState → ℕ

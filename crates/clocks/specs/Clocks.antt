@@ -1,15 +1,13 @@
 -- Document 01, "Clocks": SurvivalClock of hazard_clock.rs as a record, and the methods new, remove_channel and compute_earliest_event.
 -- set_channel is in Setting; reschedule, pause, resume and on_event_dispatched are in Scheduling.
-use Rattle.std.specs.Prelude.{Bool, false, cond, List, [], ◌∷◌, ◌++◌, ℕ, ◌-◌, eqb, take, replicate, pos, Float}
+use Rattle.std.specs.Prelude.{Bool, false, cond, List, [], ◌∷◌, ◌++◌, ℕ, ◌-◌, eqb, take, replicate, pos, Float, Option, Some, None}
 use Rattle.std.specs.Float.{fin}
 use Rattle.std.specs.Float.Ieee.{le}
 use Rattle.hazards.specs.Floats.{z}
 use Rattle.hazards.specs.Ties.{earliest}
 use Rattle.hazards.specs.declared.ties.TieBreaker.{TieBreaker}
 use Rattle.hazards.specs.declared.ties.Candidate.{Candidate}
-use Rattle.hazards.specs.declared.ties.Earliest.{Earliest}
 use Rattle.clocks.specs.Channels.{empty_channel, place_of_cause, remove_at, channel_candidate}
-use Rattle.clocks.specs.declared.channels.CausePlace.TheVariants.{At, Absent}
 use Rattle.clocks.specs.declared.channels.HazardChannelState.{HazardChannelState}
 use Rattle.clocks.specs.declared.clocks.EntityId.{EntityId}
 use Rattle.clocks.specs.declared.clocks.HazardInterruptionPolicy.{HazardInterruptionPolicy}
@@ -111,8 +109,8 @@ with_schedule k scheduled winner active last = record {
 unfoldable pub remove_channel : SurvivalClock → ℕ → SurvivalClock
 remove_channel k cause =
     elim (place_of_cause cause (used_channels k)) [
-      | At at ↦ with_channels k (remove_at at k.channels) (k.channel_count - 1)
-      | Absent ↦ k
+      | Some at ↦ with_channels k (remove_at at k.channels) (k.channel_count - 1)
+      | None ↦ k
     ]
 
 -- the candidates of the used channels, in their order
@@ -121,5 +119,5 @@ clock_candidates now [] = []
 clock_candidates now (c ∷ cs) = channel_candidate now c ++ clock_candidates now cs
 
 -- compute_earliest_event: ties are on the rounded now + wait
-unfoldable pub earliest_event : SurvivalClock → Float → Earliest
+unfoldable pub earliest_event : SurvivalClock → Float → Option Candidate
 earliest_event k now = earliest k.tie_breaker (clock_candidates now (used_channels k))

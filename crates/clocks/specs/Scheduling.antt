@@ -1,19 +1,29 @@
 -- Document 01, "Clocks": reschedule, pause, resume and on_event_dispatched of hazard_clock.rs. The queue is the engine's: each method says
 -- which scheduled event it withdraws and what it asks to have scheduled. Document 02, change 6: "Clock … carry the winner's piece on".
-use Rattle.std.specs.Prelude.{Bool, true, false, cond, ℕ, eqb, Float}
+use Rattle.std.specs.Prelude.{Bool, true, false, cond, ℕ, eqb, Float, Option, Some, None}
 use Rattle.std.specs.Float.{binary64}
 use Rattle.std.specs.Float.Ieee.{add, sub, le}
 use Rattle.hazards.specs.Floats.{z, not_below_zero}
 use Rattle.hazards.specs.Refusals.{no_cause}
-use Rattle.hazards.specs.declared.ties.Earliest.{Earliest}
-use Rattle.hazards.specs.declared.ties.Earliest.TheVariants.{Nothing, Found}
+use Rattle.hazards.specs.declared.ties.Candidate.{Candidate}
 use Rattle.clocks.specs.Ticks.{ticks_at}
 use Rattle.clocks.specs.Channels.{settled, restarted, on_used}
 use Rattle.clocks.specs.Clocks.{SurvivalClock, not_scheduled, no_winner, with_channels, with_schedule, earliest_event}
 use Rattle.clocks.specs.declared.clocks.ScheduledEvent.{ScheduledEvent}
-use Rattle.clocks.specs.declared.scheduling.Censor.{Censor}
-use Rattle.clocks.specs.declared.scheduling.RealizedEvent.{RealizedEvent}
 use Rattle.clocks.specs.declared.ticks.Ticks.{Ticks}
+
+-- a censor time, where there is one
+pub record Censor : Type 0 where
+  pub present : Bool
+  pub time : Float
+
+-- the event that a clock waits for from now on, where there is one
+pub record RealizedEvent : Type 0 where
+  pub present : Bool
+  pub winning_cause : ℕ
+  pub delta_time : Float
+  pub is_censored : Bool
+  pub piece : ℕ
 
 -- the clock, the event that is withdrawn, and the event that is asked for, with its ticks
 pub record Rescheduled : Type 0 where
@@ -46,14 +56,14 @@ realized cause delta censored piece = record {
 
 -- the event that a clock is rescheduled to: an event after the censor time is censored at it, one at the censor time is not; without a
 -- candidate a censor time from now on is answered
-unfoldable pub final_event : Earliest → Float → Censor → RealizedEvent
-final_event (Found c) now censor =
+unfoldable pub final_event : Option Candidate → Float → Censor → RealizedEvent
+final_event (Some c) now censor =
     let event = realized c.cause_id (not_below_zero (sub binary64 c.time now)) false c.piece in
     cond censor.present
     (cond (le c.time censor.time) event
     (realized no_cause (not_below_zero (sub binary64 censor.time now)) true 0))
     event
-final_event Nothing now censor =
+final_event None now censor =
     cond censor.present
     (cond (le now censor.time) (realized no_cause (sub binary64 censor.time now) true 0) not_realized)
     not_realized

@@ -1,15 +1,13 @@
 -- Document 01, "Clocks": set_channel of hazard_clock.rs, with its draw, refused by 10, 15 and 16 (and by 1 for a position past the stream)
 -- with nothing changed.
-use Rattle.std.specs.Prelude.{Bool, true, cond, List, ℕ, ◌+◌, eqb, ltb, get_or, set, Float}
+use Rattle.std.specs.Prelude.{Bool, true, cond, List, ℕ, ◌+◌, eqb, ltb, get_or, set, Float, Some, None}
 use Rattle.std.specs.Float.Ieee.{le}
 use Rattle.hazards.specs.Floats.{z}
 use Rattle.hazards.specs.Refusals.{too_many_causes}
-use Rattle.hazards.specs.Draws.{draw_at}
-use Rattle.hazards.specs.declared.draws.DrawAndPosition.{DrawAndPosition}
+use Rattle.hazards.specs.Draws.{DrawAndPosition, draw_at}
 use Rattle.clocks.specs.Channels.{empty_channel, settled_hazard, place_of_cause, place_for_new, insert_at}
 use Rattle.clocks.specs.Clocks.{SurvivalClock, used_channels, with_channels}
 use Rattle.clocks.specs.declared.channels.HazardChannelState.{HazardChannelState}
-use Rattle.clocks.specs.declared.channels.CausePlace.TheVariants.{At, Absent}
 use Rattle.clocks.specs.declared.clocks.HazardInterruptionPolicy.{HazardInterruptionPolicy}
 use Rattle.clocks.specs.declared.clocks.HazardInterruptionPolicy.TheVariants.{Restart, RetainResidual}
 use Rattle.clocks.specs.declared.setting.CauseSetting.{CauseSetting}
@@ -75,6 +73,6 @@ set_new k s stream position =
 unfoldable pub set_channel : SurvivalClock → CauseSetting → List ℕ → ℕ → ChannelSet
 set_channel k s stream position =
     elim (place_of_cause s.cause_id (used_channels k)) [
-      | At at ↦ set_again k s stream position at
-      | Absent ↦ set_new k s stream position
+      | Some at ↦ set_again k s stream position at
+      | None ↦ set_new k s stream position
     ]

@@ -4,16 +4,16 @@ ghost use Rattle.std.specs.Prelude.{◌≡◌, ◌<◌, set};
 ghost use Rattle.std.specs.Float.{binary64};
 ghost use Rattle.std.specs.Float.Ieee.{add, sub};
 ghost use Rattle.hazards.specs.Floats.{not_below_zero};
-ghost use Rattle.hazards.specs.Rates.{intervals_from, cumulative_hazard};
+ghost use Rattle.hazards.specs.Rates.{lent_pairs, cumulative_hazard};
 ghost use Rattle.clocks.specs.Channels.{empty_intervals, empty_channel, settled_hazard};
 ghost use Rattle.clocks.specs.Clocks.{with_channels};
-ghost use Rattle.clocks.specs.Layout.{Sized, Leaves, channel_at, clock_from};
+ghost use Rattle.clocks.specs.Layout.{Leaves, channel_at, clock_from};
 
 use crate::layout::{
-    ACCUMULATED, CAUSE, CHANNEL_FLOATS, CHANNELS, ENDS, KIND, NUMBERS, PAIRS, PRIORITY, RATE,
-    RATES, START, THRESHOLD, byte_from, u32_from,
+    ACCUMULATED, CAUSE, CHANNEL_FLOATS, CHANNELS, ClockFloats, ClockWords, ENDS, KIND, NUMBERS,
+    PAIRS, PRIORITY, RATE, RATES, START, THRESHOLD, byte_from, u32_from,
 };
-use hazards::rates::{HazardRate, Intervals};
+use hazards::rates::{HazardRate, Intervals, Pairs};
 
 #[derive(Clone, Copy)]
 pub struct HazardChannelState {
@@ -24,13 +24,6 @@ pub struct HazardChannelState {
     pub accumulated_hazard: f64,
     pub target_threshold: f64,
     pub interval_start_time: f64,
-}
-
-// The place of the used channel with a cause, if any.
-#[derive(Clone, Copy)]
-pub enum CausePlace {
-    At(usize),
-    Absent,
 }
 
 // No pairs.
@@ -61,20 +54,18 @@ pub fn empty_channel() -> HazardChannelState
 }
 
 // The hazard of the time since an interval's start, added to what was accumulated before.
-pub(crate) fn accumulated_at<'a>(
+pub(crate) fn accumulated_at(
     accumulated: f64,
     hazard: HazardRate,
-    ends: &'a [f64; 8],
-    rates: &'a [f64; 8],
-    count: usize,
+    pairs: Pairs<'_>,
     start: f64,
     time: f64,
 ) -> f64
-    ensures { result ≡ add binary64 accumulated (cumulative_hazard hazard (intervals_from ends.now rates.now count)
+    ensures { result ≡ add binary64 accumulated (cumulative_hazard hazard (lent_pairs pairs.entry)
         (not_below_zero (sub binary64 time start))) }
 {
     let elapsed = hazards::floats::not_below_zero(time - start);
-    let added = hazards::rates::cumulative_hazard(hazard, ends, rates, count, elapsed);
+    let added = hazards::rates::cumulative_hazard(hazard, pairs, elapsed);
     accumulated + added
 }
 
@@ -82,19 +73,22 @@ pub(crate) fn accumulated_at<'a>(
 pub(crate) fn settled_hazard(channel: HazardChannelState, now: f64) -> f64
     ensures { result ≡ settled_hazard channel now }
 {
+    let pairs = Pairs {
+        ends: &channel.intervals.ends,
+        rates: &channel.intervals.rates,
+        count: channel.intervals.count,
+    };
     accumulated_at(
         channel.accumulated_hazard,
         channel.hazard,
-        &channel.intervals.ends,
-        &channel.intervals.rates,
-        channel.intervals.count,
+        pairs,
         channel.interval_start_time,
         now,
     )
 }
 
-pub fn channel_at<'a>(words: &'a [[u64; 8]], floats: &'a [[f64; 8]], j: usize) -> HazardChannelState
-    requires { (j < 8) × Sized words.now floats.now }
+pub fn channel_at(words: &ClockWords, floats: &ClockFloats, j: usize) -> HazardChannelState
+    requires { j < 8 }
     ensures { result ≡ channel_at words.now floats.now j }
 {
     let ws = words[CHANNELS + j];
@@ -117,13 +111,13 @@ pub fn channel_at<'a>(words: &'a [[u64; 8]], floats: &'a [[f64; 8]], j: usize) -
     }
 }
 
-pub(crate) fn put_channel<'a>(
-    words: &'a mut [[u64; 8]],
-    floats: &'a mut [[f64; 8]],
+pub(crate) fn put_channel(
+    words: &mut ClockWords,
+    floats: &mut ClockFloats,
     j: usize,
     c: HazardChannelState,
 )
-    requires { (j < 8) × Sized words.old floats.old }
+    requires { j < 8 }
     ensures { Leaves words.old floats.old words.new floats.new
         (with_channels (clock_from words.old floats.old)
         (set (clock_from words.old floats.old).channels j c)
@@ -162,24 +156,17 @@ pub(crate) fn put_channel<'a>(
 }
 
 // The hazard that channel j has accumulated at a time.
-pub(crate) fn settled_at<'a>(
-    words: &'a [[u64; 8]],
-    floats: &'a [[f64; 8]],
-    j: usize,
-    time: f64,
-) -> f64
-    requires { (j < 8) × Sized words.now floats.now }
+pub(crate) fn settled_at(words: &ClockWords, floats: &ClockFloats, j: usize, time: f64) -> f64
+    requires { j < 8 }
     ensures { result ≡ settled_hazard (channel_at words.now floats.now j) time }
 {
     let ws = words[CHANNELS + j];
     let ns = floats[NUMBERS + CHANNEL_FLOATS * j];
-    accumulated_at(
-        ns[ACCUMULATED],
-        hazards::rates::rate_of_kind(byte_from(ws[KIND]), ns[RATE]),
-        &floats[ENDS + CHANNEL_FLOATS * j],
-        &floats[RATES + CHANNEL_FLOATS * j],
-        ws[PAIRS] as usize,
-        ns[START],
-        time,
-    )
+    let pairs = Pairs {
+        ends: &floats[ENDS + CHANNEL_FLOATS * j],
+        rates: &floats[RATES + CHANNEL_FLOATS * j],
+        count: ws[PAIRS] as usize,
+    };
+    let hazard = hazards::rates::rate_of_kind(byte_from(ws[KIND]), ns[RATE]);
+    accumulated_at(ns[ACCUMULATED], hazard, pairs, ns[START], time)
 }

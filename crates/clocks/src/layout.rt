@@ -1,11 +1,16 @@
 // Where a clock lies in lent memory: rows of eight words and rows of eight floats, every place by its name.
-ghost use Rattle.std.specs.Prelude.{◌≡◌, cond};
+ghost use Rattle.std.specs.Prelude.{◌≡◌};
 ghost use Rattle.clocks.specs.Layout.{u32_from, byte_from};
 
 // The rows of a clock.
 pub const CLOCK_WORDS: usize = 10;
 
 pub const CLOCK_FLOATS: usize = 25;
+
+// Kept: a struct of the two lent arrays would be taken apart at each call, and every clause names both.
+pub type ClockWords = [[u64; 8]; CLOCK_WORDS];
+
+pub type ClockFloats = [[f64; 8]; CLOCK_FLOATS];
 
 // Words: the row of what CREATE sets, and the number of channels used.
 pub const SETTINGS: usize = 0;
@@ -78,14 +83,8 @@ pub const START: usize = 2;
 
 pub const RATE: usize = 3;
 
-// 1 where a flag is set.
-pub fn flag_word(flag: bool) -> u64
-    ensures { result ≡ cond flag 1 0 }
-{
-    if flag { 1 } else { 0 }
-}
-
 // A word cut to 32 bits.
+// Kept: the definition Layout.u32_from cuts, where `as` may lose nothing and TryFrom refuses.
 pub fn u32_from(word: u64) -> u32
     ensures { result ≡ u32_from word }
 {
@@ -93,6 +92,7 @@ pub fn u32_from(word: u64) -> u32
 }
 
 // A word cut to a byte: a kind's number, a choice's, or a piece.
+// Kept: the definition Layout.byte_from cuts, as u32_from does.
 pub fn byte_from(word: u64) -> u8
     ensures { result ≡ byte_from word }
 {

@@ -2,30 +2,23 @@
 // piece is document 02's.
 ghost use Rattle.std.specs.Prelude.{◌≡◌};
 ghost use Rattle.clocks.specs.Clocks.{not_scheduled, no_winner, with_schedule};
-ghost use Rattle.clocks.specs.Scheduling.{not_realized, realized, final_event, scheduled_for};
+ghost use Rattle.clocks.specs.Scheduling.{realized, final_event, scheduled_for};
 ghost use Rattle.clocks.specs.Scheduling.{reschedule, pause, resume, on_event_dispatched};
-ghost use Rattle.clocks.specs.RowsInternals.{queue_change};
-ghost use Rattle.clocks.specs.Layout.{Sized, Leaves, event_in, winner_in, clock_from};
+ghost use Rattle.clocks.specs.RowsInternals.{censor_from, event_from, change_from, queue_change};
+ghost use Rattle.clocks.specs.Layout.{Leaves, event_in, winner_in, clock_from};
 
 use crate::clocks::{ScheduledEvent, Winner};
 use crate::layout::{
-    ACTIVE, EVENT, EVENT_INDEX, LAST_UPDATE, SCALE, SCHEDULE, TIMES, WINNER, WINNER_CAUSE,
-    WINNER_PIECE, WINNER_TIME, byte_from, flag_word, u32_from,
+    ACTIVE, ClockFloats, ClockWords, EVENT, EVENT_INDEX, LAST_UPDATE, SCALE, SCHEDULE, TIMES,
+    WINNER, WINNER_CAUSE, WINNER_PIECE, WINNER_TIME, byte_from, u32_from,
 };
 use crate::ticks::Ticks;
 use hazards::floats::not_below_zero;
 use hazards::refusals::NO_CAUSE;
-use hazards::ties::Earliest;
-
-#[derive(Clone, Copy)]
-pub struct Censor {
-    pub present: bool,
-    pub time: f64,
-}
+use hazards::ties::Candidate;
 
 #[derive(Clone, Copy)]
 pub struct RealizedEvent {
-    pub present: bool,
     pub winning_cause: u32,
     pub delta_time: f64,
     pub is_censored: bool,
@@ -33,10 +26,11 @@ pub struct RealizedEvent {
 }
 
 // The event that is withdrawn, and the event that is asked for, with its ticks.
+// Kept: the definition RowsInternals.QueueChange holds ticks beside an event that is not there too.
 #[derive(Clone, Copy)]
 pub struct QueueChange {
     pub withdrawn: ScheduledEvent,
-    pub event: RealizedEvent,
+    pub event: Option<RealizedEvent>,
     pub ticks: Ticks,
 }
 
@@ -60,28 +54,15 @@ fn no_winner() -> Winner
     }
 }
 
-pub(crate) fn not_realized() -> RealizedEvent
-    ensures { result ≡ not_realized }
-{
-    RealizedEvent {
-        present: false,
-        winning_cause: 0,
-        delta_time: 0.0,
-        is_censored: false,
-        piece: 0,
-    }
-}
-
 pub(crate) fn realized(
     winning_cause: u32,
     delta_time: f64,
     is_censored: bool,
     piece: u8,
 ) -> RealizedEvent
-    ensures { result ≡ realized winning_cause delta_time is_censored piece }
+    ensures { event_from (Some result) ≡ realized winning_cause delta_time is_censored piece }
 {
     RealizedEvent {
-        present: true,
         winning_cause,
         delta_time,
         is_censored,
@@ -90,33 +71,37 @@ pub(crate) fn realized(
 }
 
 // Without a candidate a censor time from now on is answered.
-fn censored_only(now: f64, censor: Censor) -> RealizedEvent
-    ensures { result ≡ final_event Earliest.Nothing now censor }
+fn censored_only(now: f64, censor: Option<f64>) -> Option<RealizedEvent>
+    ensures { event_from result ≡ final_event None now (censor_from censor) }
 {
-    if !censor.present {
-        return not_realized();
+    let Some(end) = censor else {
+        return None;
+    };
+    if end >= now {
+        return Some(realized(NO_CAUSE, end - now, true, 0));
     }
-    if censor.time >= now {
-        realized(NO_CAUSE, censor.time - now, true, 0)
-    } else {
-        not_realized()
-    }
+    None
 }
 
 // An event after the censor time is censored at it; one at the censor time is not.
-pub(crate) fn final_event(earliest: Earliest, now: f64, censor: Censor) -> RealizedEvent
-    ensures { result ≡ final_event earliest now censor }
+pub(crate) fn final_event(
+    earliest: Option<Candidate>,
+    now: f64,
+    censor: Option<f64>,
+) -> Option<RealizedEvent>
+    ensures { event_from result ≡ final_event earliest now (censor_from censor) }
 {
-    match earliest {
-        Earliest::Nothing => censored_only(now, censor),
-        Earliest::Found(c) => {
-            if censor.present && !(c.time <= censor.time) {
-                realized(NO_CAUSE, not_below_zero(censor.time - now), true, 0)
-            } else {
-                realized(c.cause_id, not_below_zero(c.time - now), false, c.piece)
-            }
-        }
+    let Some(c) = earliest else {
+        return censored_only(now, censor);
+    };
+    if let Some(end) = censor
+        && !(c.time <= end)
+    {
+        let delta = not_below_zero(end - now);
+        return Some(realized(NO_CAUSE, delta, true, 0));
     }
+    let delta = not_below_zero(c.time - now);
+    Some(realized(c.cause_id, delta, false, c.piece))
 }
 
 // The event in the row of a schedule.
@@ -142,26 +127,25 @@ fn winner_in(row: &[u64; 8], time: f64) -> Winner
 }
 
 // Event, winner, active flag and time of the last update; the rest of the clock stays.
-fn put_schedule<'a>(
-    words: &'a mut [[u64; 8]],
-    floats: &'a mut [[f64; 8]],
+fn put_schedule(
+    words: &mut ClockWords,
+    floats: &mut ClockFloats,
     event: ScheduledEvent,
     winner: Winner,
     active: bool,
     last_update: f64,
 )
-    requires { Sized words.old floats.old }
     ensures { Leaves words.old floats.old words.new floats.new
         (with_schedule (clock_from words.old floats.old) event winner active last_update) }
 {
     let b = words[SCHEDULE];
     let ts = floats[TIMES];
     words[SCHEDULE] = [
-        flag_word(event.present),
+        u64::from(event.present),
         event.index,
-        flag_word(winner.present),
+        u64::from(winner.present),
         winner.cause_id as u64,
-        flag_word(active),
+        u64::from(active),
         winner.piece as u64,
         b[6],
         b[7],
@@ -179,22 +163,21 @@ fn put_schedule<'a>(
 }
 
 // The old event is withdrawn in any case; without a new one winner and active flag stay.
-fn schedule_event<'a>(
-    words: &'a mut [[u64; 8]],
-    floats: &'a mut [[f64; 8]],
+fn schedule_event(
+    words: &mut ClockWords,
+    floats: &mut ClockFloats,
     time: f64,
-    event: RealizedEvent,
+    event: Option<RealizedEvent>,
     index: u64,
 ) -> QueueChange
-    requires { Sized words.old floats.old }
     ensures { Leaves words.old floats.old words.new floats.new
-        (scheduled_for (clock_from words.old floats.old) time event index).clock
-        × (result ≡ queue_change (scheduled_for (clock_from words.old floats.old) time event index)) }
+        (scheduled_for (clock_from words.old floats.old) time (event_from event) index).clock
+        × (change_from result ≡ queue_change (scheduled_for (clock_from words.old floats.old) time (event_from event) index)) }
 {
     let b = words[SCHEDULE];
     let ts = floats[TIMES];
     let withdrawn = event_in(&b);
-    if !event.present {
+    let Some(next) = event else {
         let winner = winner_in(&b, ts[WINNER_TIME]);
         put_schedule(words, floats, not_scheduled(), winner, b[ACTIVE] == 1, time);
         return QueueChange {
@@ -202,19 +185,19 @@ fn schedule_event<'a>(
             event,
             ticks: Ticks { low: 0, high: 0 },
         };
-    }
+    };
     let winner = Winner {
         present: true,
-        cause_id: event.winning_cause,
-        time: time + event.delta_time,
-        piece: event.piece,
+        cause_id: next.winning_cause,
+        time: time + next.delta_time,
+        piece: next.piece,
     };
     let scheduled = ScheduledEvent {
         present: true,
         index,
     };
     put_schedule(words, floats, scheduled, winner, true, time);
-    let ticks = crate::ticks::ticks_at(time, event.delta_time, ts[SCALE]);
+    let ticks = crate::ticks::ticks_at(time, next.delta_time, ts[SCALE]);
     QueueChange {
         withdrawn,
         event,
@@ -223,17 +206,16 @@ fn schedule_event<'a>(
 }
 
 // Nothing is settled. `index` is that of the next request.
-pub fn reschedule<'a>(
-    words: &'a mut [[u64; 8]],
-    floats: &'a mut [[f64; 8]],
+pub fn reschedule(
+    words: &mut ClockWords,
+    floats: &mut ClockFloats,
     time: f64,
-    censor: Censor,
+    censor: Option<f64>,
     index: u64,
 ) -> QueueChange
-    requires { Sized words.old floats.old }
     ensures { Leaves words.old floats.old words.new floats.new
-        (reschedule (clock_from words.old floats.old) time censor index).clock
-        × (result ≡ queue_change (reschedule (clock_from words.old floats.old) time censor index)) }
+        (reschedule (clock_from words.old floats.old) time (censor_from censor) index).clock
+        × (change_from result ≡ queue_change (reschedule (clock_from words.old floats.old) time (censor_from censor) index)) }
 {
     let earliest = crate::clocks::compute_earliest_event(words, floats, time);
     let event = final_event(earliest, time, censor);
@@ -241,8 +223,7 @@ pub fn reschedule<'a>(
 }
 
 // An active clock settles every channel and withdraws its event; any other is left as it is.
-pub fn pause<'a>(words: &'a mut [[u64; 8]], floats: &'a mut [[f64; 8]], time: f64) -> ScheduledEvent
-    requires { Sized words.old floats.old }
+pub fn pause(words: &mut ClockWords, floats: &mut ClockFloats, time: f64) -> ScheduledEvent
     ensures { Leaves words.old floats.old words.new floats.new
         (pause (clock_from words.old floats.old) time).clock
         × (result ≡ (pause (clock_from words.old floats.old) time).withdrawn) }
@@ -258,31 +239,29 @@ pub fn pause<'a>(words: &'a mut [[u64; 8]], floats: &'a mut [[f64; 8]], time: f6
 }
 
 // Every channel starts a new interval, and the clock is rescheduled.
-pub fn resume<'a>(
-    words: &'a mut [[u64; 8]],
-    floats: &'a mut [[f64; 8]],
+pub fn resume(
+    words: &mut ClockWords,
+    floats: &mut ClockFloats,
     time: f64,
-    censor: Censor,
+    censor: Option<f64>,
     index: u64,
 ) -> QueueChange
-    requires { Sized words.old floats.old }
     ensures { Leaves words.old floats.old words.new floats.new
-        (resume (clock_from words.old floats.old) time censor index).clock
-        × (result ≡ queue_change (resume (clock_from words.old floats.old) time censor index)) }
+        (resume (clock_from words.old floats.old) time (censor_from censor) index).clock
+        × (change_from result ≡ queue_change (resume (clock_from words.old floats.old) time (censor_from censor) index)) }
 {
     crate::clocks::restart(words, floats, time);
     reschedule(words, floats, time, censor, index)
 }
 
 // The winner is taken with its piece, and the clock is idle; a censored event has piece 0.
-pub fn on_event_dispatched<'a>(
-    words: &'a mut [[u64; 8]],
-    floats: &'a mut [[f64; 8]],
-) -> RealizedEvent
-    requires { Sized words.old floats.old }
+pub fn on_event_dispatched(
+    words: &mut ClockWords,
+    floats: &mut ClockFloats,
+) -> Option<RealizedEvent>
     ensures { Leaves words.old floats.old words.new floats.new
         (on_event_dispatched (clock_from words.old floats.old)).clock
-        × (result ≡ (on_event_dispatched (clock_from words.old floats.old)).event) }
+        × (event_from result ≡ (on_event_dispatched (clock_from words.old floats.old)).event) }
 {
     let b = words[SCHEDULE];
     let ts = floats[TIMES];
@@ -290,11 +269,11 @@ pub fn on_event_dispatched<'a>(
     let last = ts[LAST_UPDATE];
     put_schedule(words, floats, not_scheduled(), no_winner(), false, last);
     if !winner.present {
-        return not_realized();
+        return None;
     }
     let delta = not_below_zero(winner.time - last);
     if winner.cause_id == NO_CAUSE {
-        return realized(winner.cause_id, delta, true, 0);
+        return Some(realized(winner.cause_id, delta, true, 0));
     }
-    realized(winner.cause_id, delta, false, winner.piece)
+    Some(realized(winner.cause_id, delta, false, winner.piece))
 }

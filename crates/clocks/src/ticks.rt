@@ -4,6 +4,7 @@ ghost use Rattle.std.specs.Float.{binary64};
 ghost use Rattle.std.specs.Float.Ieee.{of_bits};
 ghost use Rattle.clocks.specs.Ticks.{nearest_up, whole_ticks, ticks_of, ticks_at};
 
+// Kept: an answer of the C interface holds two words of 64 bits.
 #[derive(Clone, Copy)]
 pub struct Ticks {
     pub low: u64,
@@ -81,10 +82,10 @@ fn ticks_of_bits(bits: u64) -> Ticks
 fn words_of(x: f64) -> Ticks
     ensures { result.low + 2 ^ 64 * result.high ≡ whole_ticks x }
 {
-    if x != x {
+    if x.is_nan() {
         return Ticks { low: 0, high: 0 };
     }
-    ticks_of_bits(f64::to_bits(x))
+    ticks_of_bits(x.to_bits())
 }
 
 // A time in whole ticks.

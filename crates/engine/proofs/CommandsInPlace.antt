@@ -4,7 +4,7 @@ use mathlib.Core.Bool.{Bool, true}
 use mathlib.Core.List.{List, []}
 use Prim.Native.Nat.{ℕ, ◌+◌, ◌*◌, ◌-◌, ◌<◌}
 use native.Mathlib.Omega.{arith}
-use borrow.Author.Tests.{eq-eqb, ne_eqb, eqb-true, eqb-false}
+use borrow.Author.Tests.{eq-eqb, ne_eqb}
 use lib.Dec.{eqb}
 use lib.ListN.{length, get_or, take, drop, length-take, length-drop}
 use lib.Seq.{get_or-take, get_or-drop}
@@ -21,8 +21,6 @@ use Rattle.engine.specs.State.{slot_at, with_slot, queued_requests, ClockSlot, S
 use Rattle.engine.specs.Execution.{OnSlot, refused, done, holding, stored, unless_faulty, on_clock, clock_of_request}
 use Rattle.engine.specs.Execution.{target, perform_on, perform}
 use Rattle.engine.specs.StateRows.{slot_of, shared_from, state_from, CodedState, SizedState, LeavesShared, LeavesClock, Performs}
-use Rattle.hazards.proofs.Cases.{by_test}
-use Rattle.engine.proofs.CommandLaws.{no_width}
 use Rattle.engine.proofs.ExecutionCases.{refusal_of, not_done, there, there_present, target_named, target_deliver}
 use Rattle.engine.proofs.ListParts.{put}
 use Rattle.engine.proofs.StateParts.{slot-at, shared_same, rest_same, clock_put, clock_coded, shared_put, shared_coded}
@@ -197,14 +195,3 @@ module _ (w : WordRows) (f : FloatRows) (stream : List ℕ) (n : ℕ) (b : List 
       → d ≡ perform_on stream n (slot_at state (clock_of_request (next_request (queued_requests (shared_from w))))) (shared_from w) b
       → stored state (clock_of_request (next_request (queued_requests (shared_from w)))) d ≡ perform stream n state b
   by_delivery h q = at_target (sym (target_deliver (shared_from w) b h)) q
-
--- a code that has a width and is none of the others is DELIVER's
-pub only_delivery : (b : List ℕ) {code : ℕ} → code ≡ byte_at b 0 → (code ≡ 1 → ⊥) → (code ≡ 2 → ⊥) → (code ≡ 3 → ⊥) → (code ≡ 4 → ⊥)
-    → (code ≡ 5 → ⊥) → (code ≡ 6 → ⊥) → 0 < width_of (byte_at b 0) → (byte_at b 0 ≡ 8 → ⊥) → byte_at b 0 ≡ commands.deliver
-only_delivery b e h₁ h₂ h₃ h₄ h₅ h₆ wide h₈ =
-    by_test (eqb (byte_at b 0) commands.deliver) (λ q. eqb-true (byte_at b 0) commands.deliver q)
-    (λ q.
-    let none =
-    no_width (byte_at b 0) (λ z. h₁ (e ∙ z)) (λ z. h₂ (e ∙ z)) (λ z. h₃ (e ∙ z)) (λ z. h₄ (e ∙ z)) (λ z. h₅ (e ∙ z)) (λ z. h₆ (e ∙ z))
-    (eqb-false (byte_at b 0) commands.deliver q) h₈ in
-    absurd (omega (arith, none, wide)))

@@ -19,12 +19,11 @@ use Rattle.clocks.specs.Clocks.{remove_channel, SurvivalClock}
 use Rattle.clocks.specs.Scheduling as scheduling
 use Rattle.clocks.specs.Setting.{set_channel, ChannelSet}
 use Rattle.clocks.specs.declared.clocks.ScheduledEvent.{ScheduledEvent}
-use Rattle.clocks.specs.declared.scheduling.Censor.{Censor}
+use Rattle.clocks.specs.Scheduling.{Censor}
 use Rattle.clocks.specs.Scheduling.{Dispatched, Paused, Rescheduled}
 use Rattle.engine.specs.Commands as commands
 use Rattle.engine.specs.Refusals.{clock_present, clock_absent, queue_empty, journal_full}
 use Rattle.engine.specs.Queue.{next_request, without, is_queued}
-use Rattle.engine.specs.QueueInternals.{pick_of}
 use Rattle.engine.specs.State.{queued_requests, with_queue, with_request, with_position, with_applied_bytes, ClockSlot, SharedState}
 use Rattle.engine.specs.Execution.{OnSlot, refused, done, unless_full, unless_faulty, on_clock, holding, acknowledged, is_withdrawn}
 use Rattle.engine.specs.Execution.{withdraw, request_of, event_answer, withdrawn_answer, clock_of_request, target, after_set}
@@ -33,7 +32,6 @@ use Rattle.engine.specs.Execution.{perform_reschedule, perform_resume, perform_p
 use Rattle.engine.specs.Commands.{byte_at, clock_of, create_faults, set_faults, cause_faults, reschedule_faults, pause_faults, faults_of}
 use Rattle.engine.specs.Commands.{created_clock, setting_of, now_of, censor_of}
 use Rattle.engine.specs.ExecutionInternals.{Countable}
-use Rattle.engine.specs.declared.queue.Pick.{Pick}
 use Rattle.engine.specs.declared.state.Request.{Request}
 use Rattle.engine.proofs.QueueLaws.{without-length}
 
@@ -292,39 +290,33 @@ module _ (n : ℕ) (p : SharedState) (c : List ℕ) (r : Paused) where
   pause_done l out w q = ap₂ pausing out (q ∙ ap withdrawn_answer w) ∙ room n p c paused l
 
 -- ---- DELIVER
-module _ (next : Pick) {o : Option Request} (e : pick_of next ≡ o) where
-  not_found : next.found ≡ false → none ≡ o
-  not_found h = ap (λ (t : Bool). cond t (some next.request) none) (sym h) ∙ e
-
-  pub found : next.found ≡ true → some next.request ≡ o
-  found h = ap (λ (t : Bool). cond t (some next.request) none) (sym h) ∙ e
-
-module _ (n : ℕ) (slot : ClockSlot) (p : SharedState) (c : List ℕ) (next : Pick) (e : pick_of next ≡ next_request (queued_requests p)) where
-  pub deliver_none : next.found ≡ false → refused queue_empty ≡ perform_deliver n slot p c
+module _ (n : ℕ) (slot : ClockSlot) (p : SharedState) (c : List ℕ) where
+  pub deliver_none : none ≡ next_request (queued_requests p) → refused queue_empty ≡ perform_deliver n slot p c
   unfolding perform_deliver
-  deliver_none h = ap (delivered n slot p c) (not_found next e h)
+  deliver_none e = ap (delivered n slot p c) e
 
+module _ (n : ℕ) (slot : ClockSlot) (p : SharedState) (c : List ℕ) (r : Request) (e : some r ≡ next_request (queued_requests p)) where
   abbrev leaves_with : Dispatched → SharedState → Answer → OnSlot
   leaves_with d left a = done (holding d.clock) (with_applied_bytes (length c) left) a
 
   abbrev delivered_as : Dispatched → OnSlot
   delivered_as d =
-      leaves_with d (with_queue p (without next.request.index (queued_requests p))) (event_answer d.event false next.request.ticks)
+      leaves_with d (with_queue p (without r.index (queued_requests p))) (event_answer d.event false r.ticks)
 
   abbrev delivery : OnSlot
   delivery = delivered_as (scheduling.on_event_dispatched slot.clock)
 
-  deliver_room : next.found ≡ true → unless_full n p c delivery ≡ perform_deliver n slot p c
+  deliver_room : unless_full n p c delivery ≡ perform_deliver n slot p c
   unfolding perform_deliver
-  deliver_room h = ap (delivered n slot p c) (found next e h)
+  deliver_room = ap (delivered n slot p c) e
 
-  pub deliver_full : next.found ≡ true → leb (p.applied_length + length c) n ≡ false → refused journal_full ≡ perform_deliver n slot p c
-  deliver_full h l = full n p c delivery l ∙ deliver_room h
+  pub deliver_full : leb (p.applied_length + length c) n ≡ false → refused journal_full ≡ perform_deliver n slot p c
+  deliver_full l = full n p c delivery l ∙ deliver_room
 
-  pub deliver_done : next.found ≡ true → leb (p.applied_length + length c) n ≡ true → {d : Dispatched} {left : SharedState} {a : Answer}
-      → d ≡ scheduling.on_event_dispatched slot.clock → left ≡ with_queue p (without next.request.index (queued_requests p))
-      → a ≡ event_answer d.event false next.request.ticks → leaves_with d left a ≡ perform_deliver n slot p c
-  deliver_done h l {d} q out r = ap₂ (leaves_with d) out r ∙ ap delivered_as q ∙ room n p c delivery l ∙ deliver_room h
+  pub deliver_done : leb (p.applied_length + length c) n ≡ true → {d : Dispatched} {left : SharedState} {a : Answer}
+      → d ≡ scheduling.on_event_dispatched slot.clock → left ≡ with_queue p (without r.index (queued_requests p))
+      → a ≡ event_answer d.event false r.ticks → leaves_with d left a ≡ perform_deliver n slot p c
+  deliver_done l {d} q out a = ap₂ (leaves_with d) out a ∙ ap delivered_as q ∙ room n p c delivery l ∙ deliver_room
 
 -- ---- the clock that a command is about
 module _ (p : SharedState) (c : List ℕ) where
@@ -339,14 +331,9 @@ module _ (p : SharedState) (c : List ℕ) where
   unfolding target
   target_deliver h = ap aimed (eq-eqb (byte_at c 0) commands.deliver h)
 
-  module _ (h : byte_at c 0 ≡ commands.deliver) (next : Pick) (e : pick_of next ≡ next_request (queued_requests p)) where
-    pub target_next : next.found ≡ true → next.request.clock ≡ target p c
-    unfolding target
-    target_next f = ap clock_of_request (found next e f) ∙ ap aimed (sym (eq-eqb (byte_at c 0) commands.deliver h))
-
-    pub target_none : next.found ≡ false → 0 ≡ target p c
-    unfolding target
-    target_none f = ap clock_of_request (not_found next e f) ∙ ap aimed (sym (eq-eqb (byte_at c 0) commands.deliver h))
+  pub target_next : byte_at c 0 ≡ commands.deliver → {o : Option Request} → o ≡ next_request (queued_requests p)
+      → clock_of_request o ≡ target p c
+  target_next h e = ap clock_of_request e ∙ sym (target_deliver h)
 
 -- ---- by its code
 module _ (stream : List ℕ) (n : ℕ) (slot : ClockSlot) (p : SharedState) (c : List ℕ) where
@@ -374,11 +361,9 @@ module _ (stream : List ℕ) (n : ℕ) (slot : ClockSlot) (p : SharedState) (c :
   unfolding perform_on
   on_resume h = rw h
 
-  pub on_rest : {code : ℕ} → code ≡ byte_at c 0 → (code ≡ 1 → ⊥) → (code ≡ 2 → ⊥) → (code ≡ 3 → ⊥) → (code ≡ 4 → ⊥) → (code ≡ 5 → ⊥)
-      → (code ≡ 6 → ⊥) → perform_deliver n slot p c ≡ perform_on stream n slot p c
+  pub on_deliver : byte_at c 0 ≡ 7 → perform_deliver n slot p c ≡ perform_on stream n slot p c
   unfolding perform_on
-  on_rest {code} e a b d f g h =
-      rw (← e, ne_eqb code 1 a, ne_eqb code 2 b, ne_eqb code 3 d, ne_eqb code 4 f, ne_eqb code 5 g, ne_eqb code 6 h)
+  on_deliver h = rw h
 
   -- 4 to 7 come before every other refusal of a command
   abbrev faults_by : Bool → Bool → Bool → Bool → Bool → Bool → Faults

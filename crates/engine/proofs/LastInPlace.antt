@@ -1,8 +1,7 @@
 -- The replay in lent memory that keeps what its last command changes: the commands before the last, then the last.
 use mathlib.Core.Path.{◌≡◌, refl, sym, ap, ◌∙◌, subst}
-use mathlib.Core.Bool.{Bool, true, false, cond, true≢false}
 use mathlib.Core.List.{List}
-use mathlib.Core.Option.{Option, none, some}
+use mathlib.Core.Option.{none, some}
 use Prim.Native.Nat.{ℕ, ◌-◌, ◌<◌, ◌≤◌, ◌^◌}
 use native.Mathlib.Omega.{arith}
 use borrow.Author.Tests.{ltb-true, ltb-false}
@@ -17,11 +16,10 @@ use Rattle.engine.specs.Engine.{Bytes, Engine, code}
 use Rattle.engine.specs.State.{slot_at, with_slot, ClockSlot, SharedState, EngineState}
 use Rattle.engine.specs.Execution.{target, perform}
 use Rattle.engine.specs.Instance.{engine_of}
-use Rattle.engine.specs.ReplayInternals.{whole_width, ReplayEnd, fails, ends, replay_all, end_state, kept_end}
+use Rattle.engine.specs.ReplayInternals.{whole_width, ReplayEnd, fails, ends, replay_all, end_state}
 use Rattle.engine.specs.StateRows.{shared_from, state_from, SizedState, CodedState, Performs}
-use Rattle.engine.specs.KeptRows.{kept_slot, kept_shared, CodedKept}
+use Rattle.engine.specs.KeptRows.{kept_slot, kept_shared}
 use Rattle.engine.specs.ExecutionInternals.{Ready}
-use Rattle.engine.specs.declared.replay.LastCommand.{LastCommand}
 use Rattle.engine.proofs.SoundKept.{engine_sound}
 use Rattle.engine.proofs.CommandLists.{Whole}
 use Rattle.engine.proofs.JournalBytes.{rest_of, part_of, part-all, part-of}
@@ -30,17 +28,6 @@ use Rattle.engine.proofs.ReplayParts.{none_some, all_sound, all-front, LastOf, a
 use Rattle.engine.proofs.ReplayInPlace.{Replaying, command_whole, command_ready, refused_fails, ends_here}
 use Rattle.engine.proofs.SlotLaws.{put_back}
 use Rattle.engine.proofs.RevertedInPlace.{ChangesOne, changes_one}
-
--- the state that a flag says to be there
-module _ (s : EngineState) (ok : Bool) {x : Option EngineState} (e : cond ok (some s) none ≡ x) where
-  abbrev flagged : Bool → Option EngineState
-  flagged b = cond b (some s) none
-
-  pub is_there : ok ≡ true → some s ≡ x
-  is_there h = sym (ap flagged h) ∙ e
-
-  pub is_missing : ok ≡ false → none ≡ x
-  is_missing h = sym (ap flagged h) ∙ e
 
 module _ (stream : List ℕ) (n : ℕ) where
   abbrev E : Engine
@@ -89,6 +76,16 @@ module _ (stream : List ℕ) (n : ℕ) where
         let whole : whole_width (drop place bytes) ≡ width_of (code (drop place bytes)) =
         width_whole (drop place bytes) (omega (arith, g.wide, g.long)) g.other (omega (arith, g.width, g.long)) in
         h (ap whole_width rest ∙ (whole ∙ (sym g.width ∙ (sym (length-drop place bytes) ∙ ap length (sym rest))))))
+
+    -- no command is there
+    pub none_fails : 0 ≡ whole_width (rest_of bytes place) → replay_all E bytes ≡ fails
+    none_fails h =
+        only_fails (replay_all E bytes)
+        (λ t prior l e.
+        let g = (last_of t prior l e).turn in
+        let whole : whole_width (drop place bytes) ≡ width_of (code (drop place bytes)) =
+        width_whole (drop place bytes) (omega (arith, g.wide, g.long)) g.other (omega (arith, g.width, g.long)) in
+        absurd (omega (arith, h, ap whole_width (part-all bytes place), whole, g.wide, g.width, g.long)))
 
   -- the rows hold the state before the last command, and the rest is that command
   pub record BeforeLast (bytes : Bytes) (place : ℕ) (w : WordRows) (f : FloatRows) : Type 0 where
@@ -171,11 +168,3 @@ module _ (stream : List ℕ) (n : ℕ) where
           ∙ (ap (λ (j : ℕ). with_slot s' j (slot_at s j) (shared_from w)) (near change.below)
           ∙ (ap (λ (x : EngineState). with_slot x i (slot_at s i) (shared_from w)) change.state
           ∙ put_back s i change.slot change.shared)))
-
-  -- what is returned where the replay fails
-  pub no_last_kept : (bytes : Bytes) (r : LastCommand) → (r.ok ≡ false) × (r.place ≡ 0) × (r.clock ≡ 0) → replay_all E bytes ≡ fails
-      → (w : WordRows) (f : FloatRows) (kept : WordRows) (y : FloatRows)
-      → (kept_end stream n r w f kept y ≡ replay_all E bytes) × (r.place ≤ length bytes) × (r.clock < 16)
-      × (r.ok ≡ true → CodedState w f × CodedKept kept y)
-  no_last_kept bytes r h e w f kept y =
-      (rw h.0 (sym e), omega (arith, h.1), omega (arith, h.2), λ t. absurd (true≢false (sym t ∙ h.0)))

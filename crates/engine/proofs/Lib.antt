@@ -4,11 +4,16 @@
 pub mod Conjunctions
 pub mod ListParts
 pub mod Overwritten
-pub mod NotItself
 pub mod ComparisonLaws
 pub mod JournalBytes
 pub mod PartLaws
+pub mod PlaceByPlace
 -- commands: fields, faults, and what each does
+pub mod Outcomes
+pub mod EventOptions
+pub mod FrontCommands
+pub mod TriedInPlace
+pub mod CommandCodes
 pub mod CommandLaws
 pub mod AcceptedFields
 pub mod ExecutionCases

@@ -91,7 +91,7 @@ module _ (w : WordRows) (f : FloatRows) (e : w ≡ replicate 177 zero_words) (o 
   clock_zeros : (k r : ℕ) → k < 16 → 0 < r → r < 25 → get_or (part_at 25 k f) r [] ≡ zero_floats
   clock_zeros k r hk a b = get_or-take 25 (drop (25 * k) f) r [] b ∙ (get_or-drop (25 * k) f r [] ∙ o.zeros k r hk a b)
 
-  blank : (k : ℕ) → k < 16 → Cleared (part_at 10 k w) (part_at 25 k f) 8 (part_at 10 k w) (part_at 25 k f)
+  blank : (k : ℕ) → k < 16 → Cleared (part_at 10 k w) (part_at 25 k f) (part_at 10 k w) (part_at 25 k f)
   blank k hk = record {
     settings = refl;
     schedule = refl;

@@ -1,80 +1,27 @@
--- Laws of the queue: the order of two requests case by case, the queued ones one after another, and what is left without one.
-use mathlib.Core.Path.{◌≡◌, refl, sym, ◌∙◌, ap}
+-- Laws of the queue: the queued requests one after another, and what is left without one.
+use mathlib.Core.Path.{◌≡◌, refl, sym, ap}
 use mathlib.Core.Bool.{Bool, true, false, not, cond}
 use mathlib.Core.List.{List, [], ◌∷◌, ◌++◌, append-nil}
 use mathlib.Core.Option.{none, some}
-use Prim.Native.Nat.{ℕ, suc, ◌+◌, ◌*◌, ◌-◌, ◌^◌, ◌<◌, ◌≤◌, min}
+use Prim.Native.Nat.{ℕ, suc, ◌+◌, ◌-◌, ◌^◌, ◌<◌, ◌≤◌, min}
 use native.Mathlib.Numerals.{add-one}
 use native.Mathlib.Omega.{arith}
-use lib.Dec.{eqb, ltb, lit≤}
+use lib.Dec.{eqb, lit≤}
 use lib.IntN.{ℤ}
 use lib.ListN.{length, get_or, take, drop, length-take, drop_of_length-le}
 use lib.Seq.{drop-cons, take-suc, take_all, get_or-take}
-use lib.Signed.{lt_z, mag}
+use lib.Signed.{mag}
 use mir.Facts.{to_z-of_z}
 use mir.Syntax.{w32}
 use mir.Val.{to_z, of_z, hbits}
-use borrow.Author.Tests.{ltb-true, ltb-false, lt-ltb, le-ltb, eq-eqb, ne_eqb}
-use Rattle.engine.specs.Queue.{request_ticks, comes_first, earlier_of, next_request, keep_if, without, is_queued}
+use borrow.Author.Tests.{eq-eqb, ne_eqb}
+use Rattle.engine.specs.Queue.{earlier_of, next_request, keep_if, without, is_queued}
 use Rattle.engine.specs.State.{empty_request}
-use Rattle.engine.specs.QueueInternals.{pick_of}
-use Rattle.engine.specs.declared.queue.Pick.{Pick}
 use Rattle.engine.specs.declared.state.Request.{Request}
-
--- ---- ticks in two words
-module _ (low high low' high' : ℕ) (small : low < 2 ^ 64) (small' : low' < 2 ^ 64) where
-  pub high_below : high < high' → ltb (low + 2 ^ 64 * high) (low' + 2 ^ 64 * high') ≡ true
-  high_below h = lt-ltb (low + 2 ^ 64 * high) (low' + 2 ^ 64 * high') (omega arith)
-
-  pub high_above : high' < high → ltb (low + 2 ^ 64 * high) (low' + 2 ^ 64 * high') ≡ false
-  high_above h = le-ltb (low + 2 ^ 64 * high) (low' + 2 ^ 64 * high') (omega arith)
-
-  pub high_same : high ≡ high' → ltb (low + 2 ^ 64 * high) (low' + 2 ^ 64 * high') ≡ ltb low low'
-  high_same h = go (ltb low low') refl
-    where
-      go : (t : Bool) → ltb low low' ≡ t → ltb (low + 2 ^ 64 * high) (low' + 2 ^ 64 * high') ≡ ltb low low'
-      go true e = lt-ltb (low + 2 ^ 64 * high) (low' + 2 ^ 64 * high') (omega (arith, ltb-true low low' e)) ∙ sym e
-      go false e = le-ltb (low + 2 ^ 64 * high) (low' + 2 ^ 64 * high') (omega (arith, ltb-false low low' e)) ∙ sym e
 
 -- ---- a priority, as the code compares it
 pub reads_back : (z : ℤ) → mag z < 2 ^ hbits w32 → z ≡ to_z w32 (of_z w32 z)
 reads_back z f = sym (to_z-of_z {w = w32} (record { sfits = f }))
-
--- ---- which of two comes first
-module _ (a b : Request) where
-  pub fewer_first : ltb (request_ticks a) (request_ticks b) ≡ true → comes_first a b ≡ true
-  unfolding comes_first
-  fewer_first t = rw t
-
-  module _ (t : ltb (request_ticks a) (request_ticks b) ≡ false) where
-    pub more_later : ltb (request_ticks b) (request_ticks a) ≡ true → comes_first a b ≡ false
-    unfolding comes_first
-    more_later u = rw (t, u)
-
-    module _ (u : ltb (request_ticks b) (request_ticks a) ≡ false) where
-      pub higher_first : lt_z b.priority a.priority ≡ true → comes_first a b ≡ true
-      unfolding comes_first
-      higher_first p = rw (t, u, p)
-
-      module _ (p : lt_z b.priority a.priority ≡ false) where
-        pub lower_later : lt_z a.priority b.priority ≡ true → comes_first a b ≡ false
-        unfolding comes_first
-        lower_later q = rw (t, u, p, q)
-
-        pub by_index : lt_z a.priority b.priority ≡ false → comes_first a b ≡ ltb a.index b.index
-        unfolding comes_first
-        by_index q = rw (t, u, p, q)
-
--- ---- the earlier of a request and the best so far
-module _ (a : Request) (best : Pick) where
-  pub best_stays : best.found ≡ true → comes_first best.request a ≡ true → pick_of best ≡ earlier_of (some a) (pick_of best)
-  best_stays f t = rw (f, t)
-
-  pub best_loses : best.found ≡ true → comes_first best.request a ≡ false → some a ≡ earlier_of (some a) (pick_of best)
-  best_loses f t = rw (f, t)
-
-  pub no_best : best.found ≡ false → some a ≡ earlier_of (some a) (pick_of best)
-  no_best f = rw f
 
 -- ---- the queued requests, of sixteen places
 module _ (rs : List Request) (n : ℕ) (sixteen : length rs ≡ 16) where

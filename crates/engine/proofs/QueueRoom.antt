@@ -14,7 +14,7 @@ use lib.Ieee.{Float}
 use Rattle.hazards.specs.Lists.{all}
 use Rattle.clocks.specs.Scheduling as scheduling
 use Rattle.clocks.specs.declared.clocks.ScheduledEvent.{ScheduledEvent}
-use Rattle.clocks.specs.declared.scheduling.Censor.{Censor}
+use Rattle.clocks.specs.Scheduling.{Censor}
 use Rattle.hazards.proofs.Cases.{by_test, both_true}
 use Rattle.clocks.proofs.RequestLaws.{reschedule_requests, resume_requests}
 use Rattle.engine.specs.Queue.{keep_if, without, is_queued, count_for}

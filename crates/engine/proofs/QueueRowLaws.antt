@@ -2,11 +2,12 @@
 use mathlib.Core.Path.{◌≡◌, refl, sym, ◌∙◌, ap, ap₂}
 use mathlib.Core.Bool.{true}
 use mathlib.Core.List.{List, [], ◌∷◌, ◌++◌, append_assoc, append-nil}
-use Prim.Native.Nat.{ℕ, ◌+◌, ◌-◌, ◌<◌, ◌≤◌, min}
+use Prim.Native.Nat.{ℕ, zero, suc, ◌+◌, ◌-◌, ◌<◌, ◌≤◌, min}
 use native.Mathlib.Numerals.{add-one}
 use native.Mathlib.Omega.{arith}
-use lib.ListN.{length, get_or, set, take, drop, replicate, length-append, replicate-append-replicate}
-use lib.Seq.{set_out, take-suc-set, take_all, drop-set-lt, drop-drop, get_or-drop}
+use lib.ListN.{length, get_or, set, take, drop, replicate, length-append, length-replicate, replicate-append-replicate}
+use lib.Seq.{paste, paste-zero, length-paste, set_out, take-suc-set, take_all, drop-set-lt, drop-drop, get_or-drop}
+use Rattle.std.proofs.lemmas.List.Edits.{fill_from_more}
 use Rattle.clocks.specs.Layout.{WordRows}
 use Rattle.engine.specs.Queue.{without}
 use Rattle.engine.specs.State.{empty_request, queued_requests, with_queue, with_request}
@@ -15,7 +16,7 @@ use Rattle.engine.specs.QueueInternals.{KeepsRest, MovedUp, ClearedFrom}
 use Rattle.engine.specs.declared.state.Request.{Request}
 use Rattle.engine.proofs.QueueLaws.{without_kept, without_left}
 use Rattle.engine.proofs.RequestRows.{count_at, request_in, index_in, queue_sixteen, request-in, row_first, row-all}
-use Rattle.engine.proofs.RequestRows.{request_stored, rest_stored, rest_none, rest_then, with_counts, counted}
+use Rattle.engine.proofs.RequestRows.{request_stored, rest_stored, rest_none, rest_then, counted_as, counted}
 
 -- one place more among the first ones
 place_stored : (w : WordRows) → length w ≡ 177 → (i : ℕ) → i < 16 → (row : List ℕ)
@@ -63,6 +64,28 @@ module _ (w₀ w : WordRows) (from i : ℕ) (c : Clearing w₀ from i w) where
     queue = sym (take_all 16 (queue_from w) (omega (arith, queue_sixteen w))) ∙ rw e at c.first;
     rest = c.rest;
   }
+
+-- so many places from one on
+module _ (w : WordRows) (sized : length w ≡ 177) (from : ℕ) where
+  abbrev emptied_rows : ℕ → WordRows
+  emptied_rows n = paste w (161 + from) (replicate n no_words) n
+
+  one_more : (n m : ℕ) → m ≡ n + 1 → from + m ≤ 16 → Clearing w from (from + n) (emptied_rows n) → Clearing w from (from + m) (emptied_rows m)
+  one_more n m e h c =
+      let there : from + m ≡ from + n + 1 = omega arith in
+      let place : 161 + from + n ≡ 161 + (from + n) = omega arith in
+      let long = length-paste w (161 + from) (replicate n no_words) n (omega arith) (omega (arith, length-replicate n no_words)) ∙ sized in
+      let next = clearing_more w (emptied_rows n) from (from + n) c long (omega arith) (omega arith) in
+      rw (there, e) (rw (← place, fill_from_more w (161 + from) n no_words (omega arith)) at next)
+
+  emptied_places : (n : ℕ) → from + n ≤ 16 → Clearing w from (from + n) (emptied_rows n)
+  emptied_places zero h =
+      let e : from + 0 ≡ from = omega arith in
+      rw (e, ← paste-zero w (161 + from) []) (clearing_none w from)
+  emptied_places (suc n) h = one_more n (suc n) (sym (add-one n)) h (emptied_places n (omega arith))
+
+  pub emptied : from ≤ 16 → ClearedFrom w (paste w (161 + from) (replicate (16 - from) no_words) (16 - from)) from
+  emptied h = clearing-all w _ from (from + (16 - from)) (emptied_places (16 - from) (omega arith)) (omega arith)
 
 -- ---- requests moved up
 
@@ -144,11 +167,11 @@ module _ (w w₁ w₂ w₃ : WordRows) (rs : List Request) (kept : ℕ) (m : Mov
   places_left : queue_from w₂ ≡ rs ++ replicate (16 - length rs) empty_request
   places_left = c.queue ∙ ap₂ (λ (l : List Request) (k : ℕ). l ++ replicate (16 - k) empty_request) m.first m.many
 
-  requests_left : with_counts (shared_from w₂).queue kept (count_at w₂ 1) (count_at w₂ 2) (count_at w₂ 3) ≡ with_queue (shared_from w) rs
+  requests_left : counted_as (shared_from w₂).queue kept (count_at w₂ 1) (count_at w₂ 2) (count_at w₂ 3) ≡ with_queue (shared_from w) rs
   unfolding shared_from shared_of
   requests_left = rw (places_left, c.rest.counts ∙ m.rest.counts, m.many)
 
-  pub taken_out : LeavesShared w₂ w₃ (with_counts (shared_from w₂).queue kept (count_at w₂ 1) (count_at w₂ 2) (count_at w₂ 3))
+  pub taken_out : LeavesShared w₂ w₃ (counted_as (shared_from w₂).queue kept (count_at w₂ 1) (count_at w₂ 2) (count_at w₂ 3))
       → LeavesShared w w₃ (with_queue (shared_from w) rs)
   taken_out s = counted (rest_then m.rest c.rest) s requests_left
 
@@ -174,11 +197,11 @@ module _ (w : WordRows) (r : Request) where
   }
 
 module _ (w w₁ w₂ : WordRows) (r : Request) (p : PutIn w w₁ r) where
-  request_more : with_counts (shared_from w₁).queue (count_at w 0 + 1) (count_at w 1 + 1) (count_at w 2) (count_at w 3)
+  request_more : counted_as (shared_from w₁).queue (count_at w 0 + 1) (count_at w 1 + 1) (count_at w 2) (count_at w 3)
       ≡ with_request (shared_from w) r
   unfolding shared_from shared_of
   request_more = rw p.queue
 
-  pub put_in_left : LeavesShared w₁ w₂ (with_counts (shared_from w₁).queue (count_at w 0 + 1) (count_at w 1 + 1) (count_at w 2) (count_at w 3))
+  pub put_in_left : LeavesShared w₁ w₂ (counted_as (shared_from w₁).queue (count_at w 0 + 1) (count_at w 1 + 1) (count_at w 2) (count_at w 3))
       → LeavesShared w w₂ (with_request (shared_from w) r)
   put_in_left s = counted p.rest s request_more

@@ -124,8 +124,8 @@ rest_then p q = record { counts = q.counts ∙ p.counts; clocks = q.clocks ∙ p
 
 -- ---- the row of the counts stored
 
-abbrev pub with_counts : List Request → ℕ → ℕ → ℕ → ℕ → SharedState
-with_counts queue queued made position applied = record {
+abbrev pub counted_as : List Request → ℕ → ℕ → ℕ → ℕ → SharedState
+counted_as queue queued made position applied = record {
   queue = queue;
   queued = queued;
   request_count = made;
@@ -154,7 +154,7 @@ module _ (w : WordRows) (sized : length w ≡ 177) (queued made position applied
     requests = λ i h. rw (counts_beside i) (k.requests i h);
   }
 
-  pub counts_stored : LeavesShared w (set w 160 row) (with_counts (shared_from w).queue queued made position applied)
+  pub counts_stored : LeavesShared w (set w 160 row) (counted_as (shared_from w).queue queued made position applied)
   unfolding shared_from shared_of
   counts_stored = record {
     shared = rw (counts_there, queue_same);

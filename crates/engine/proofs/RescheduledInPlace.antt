@@ -13,8 +13,8 @@ use Rattle.clocks.specs.Layout.{WordRows, FloatRows}
 use Rattle.clocks.specs.Scheduling.{Rescheduled}
 use Rattle.clocks.specs.RowsInternals.{queue_change}
 use Rattle.clocks.specs.Clocks.{SurvivalClock}
-use Rattle.clocks.specs.declared.scheduling.QueueChange.{QueueChange}
-use Rattle.clocks.specs.declared.scheduling.Censor.{Censor}
+use Rattle.clocks.specs.RowsInternals.{QueueChange}
+use Rattle.clocks.specs.Scheduling.{Censor}
 use Rattle.engine.specs.Commands.{clock_of, now_of, censor_of, reschedule_faults}
 use Rattle.engine.specs.Refusals.{journal_full}
 use Rattle.engine.specs.State.{slot_at, with_applied_bytes, ClockSlot, EngineState, SharedState}

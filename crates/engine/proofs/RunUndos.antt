@@ -1,12 +1,14 @@
 -- UNDO in a batch run changes the journal alone. The state is stale after it: it is replayed from the journal when a command needs it.
 use mathlib.Core.Path.{◌≡◌, refl, sym, ap, ◌∙◌}
 use mathlib.Core.Bool.{Bool, true, false, cond, true≢false}
-use mathlib.Core.Option.{Option, none, some}
+use mathlib.Core.Option.{Option, some}
 use Prim.Native.Nat.{ℕ, ◌+◌, ◌*◌, ◌<◌, ◌^◌}
 use native.Mathlib.Omega.{arith}
 use borrow.Author.Tests.{eqb-true, eqb-false}
 use lib.Dec.{eqb}
 use lib.ListN.{length, take, drop, replicate}
+use Rattle.std.specs.Prelude as std
+use Rattle.std.specs.Prelude.{Some, None}
 use Rattle.hazards.specs.Answers.{answer_width, no_event, with_answer}
 use Rattle.engine.specs.Commands as commands
 use Rattle.engine.specs.Commands.{width_of}
@@ -14,7 +16,7 @@ use Rattle.engine.specs.Refusals.{nothing_applied}
 use Rattle.engine.specs.Opening.{opened_state}
 use Rattle.engine.specs.Engine.{Bytes, Engine, code}
 use Rattle.engine.specs.Replay.{cleared, undo}
-use Rattle.engine.specs.ReplayInternals.{ends, replay_all, end_state}
+use Rattle.engine.specs.ReplayInternals.{ends, replay_all, state_if, end_state}
 use Rattle.engine.specs.Instance.{engine_of}
 use Rattle.engine.specs.Answers.{after}
 use Rattle.engine.specs.Run.{Ran}
@@ -24,9 +26,9 @@ use Rattle.engine.proofs.Asking.{undo_nothing}
 use Rattle.engine.proofs.RunStates.{reached_undo, reached_replays, replay_nothing}
 use Rattle.engine.proofs.RunTurns.{leaving, Running, Input, running_begins, next_undo}
 
-by_some : (state s : EngineState) (ok : Bool) → ◌≡◌ {A = Option EngineState} (cond ok (some state) none) (some s) → state ≡ s
-by_some state s true e = cc
-by_some state s false e = let z : ◌≡◌ {A = ℕ} 0 1 = cc in absurd (omega arith)
+by_some : (state s : EngineState) (ok : std.Option Unit) → ◌≡◌ {A = Option EngineState} (state_if ok state) (some s) → state ≡ s
+by_some state s (Some _) e = cc
+by_some state s None e = let z : ◌≡◌ {A = ℕ} 0 1 = cc in absurd (omega arith)
 
 module _ (bytes stream : Bytes) (n size : ℕ) (all : Ran) where
   abbrev E : Engine
@@ -46,8 +48,8 @@ module _ (bytes stream : Bytes) (n size : ℕ) (all : Ran) where
 
   -- what the code replays is the state of the definition
   pub replayed_current : {j answers : Bytes} {s : EngineState} {count at : ℕ} → Running bytes stream n size all j answers s count at
-      → (applied : ℕ) → applied ≡ s.shared.applied_length → (state : EngineState) (ok : Bool)
-      → cond ok (some state) none ≡ end_state stream n (replay_all E (take applied j)) → state ≡ s
+      → (applied : ℕ) → applied ≡ s.shared.applied_length → (state : EngineState) (ok : std.Option Unit)
+      → state_if ok state ≡ end_state stream n (replay_all E (take applied j)) → state ≡ s
   replayed_current {j = j} {s = s} r applied counted state ok e =
       let own = reached_replays stream n s j r.reached in
       let all : replay_all E (take applied j) ≡ ends s own.before own.last =

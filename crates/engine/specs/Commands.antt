@@ -1,6 +1,6 @@
 -- Document 01, "A command comes in": the commands' codes and widths, their fields, and what refusals 4 to 7 say of them. A command is its
 -- own bytes, cut to its width.
-use Rattle.std.specs.Prelude.{cond, false, not, ◌&&◌, ◌||◌, ℕ, ◌+◌, eqb, ltb, leb, List, [], ◌∷◌, length, get_or, ℤ, Float}
+use Rattle.std.specs.Prelude.{◌≡◌, ◌≤◌, Result, MatchResult, cond, false, not, ◌&&◌, ◌||◌, ℕ, ◌+◌, eqb, ltb, leb, List, [], ◌∷◌, length, get_or, ℤ, Float}
 use Rattle.hazards.specs.Floats.{in_range, is_time, zero_bits}
 use Rattle.hazards.specs.Fields.{field_at, f64_at, i32_at}
 use Rattle.hazards.specs.Refusals.{no_faults, range_fault_unless, identifier_fault_if, is_reserved, joined}
@@ -10,8 +10,12 @@ use Rattle.hazards.specs.declared.refusals.Faults.{Faults}
 use Rattle.hazards.specs.declared.checks.HazardFields.{HazardFields}
 use Rattle.clocks.specs.Clocks.{policy_of, new_clock, SurvivalClock}
 use Rattle.engine.specs.Refusals.{cut_short, no_command}
+use Rattle.hazards.specs.declared.refusals.Refusal.{Refusal}
+use Rattle.hazards.specs.declared.refusals.Refusal.TheVariants.{NoCommand}
+use Rattle.engine.specs.declared.commands.Command.{Command}
+use Rattle.engine.specs.declared.commands.Command.TheVariants.{Create, Set, Remove, Reschedule, Pause, Resume, Deliver, Undo}
 use Rattle.clocks.specs.declared.setting.CauseSetting.{CauseSetting}
-use Rattle.clocks.specs.declared.scheduling.Censor.{Censor}
+use Rattle.clocks.specs.Scheduling.{Censor}
 
 abbrev pub create : ℕ
 create = 0x01
@@ -37,6 +41,16 @@ deliver = 0x07
 abbrev pub undo : ℕ
 undo = 0x08
 
+abbrev pub code_of : Command → ℕ
+code_of Create = create
+code_of Set = set
+code_of Remove = remove
+code_of Reschedule = reschedule
+code_of Pause = pause
+code_of Resume = resume
+code_of Deliver = deliver
+code_of Undo = undo
+
 -- the bytes of a command by its code, its code byte among them; 0 where it is no code
 unfoldable pub width_of : ℕ → ℕ
 width_of code =
@@ -51,6 +65,14 @@ unfoldable pub front_refusal : List ℕ → ℕ
 front_refusal i =
     let width = width_of (get_or i 0 0) in
     cond (ltb 0 (length i)) (cond (ltb 0 width) (cond (leb width (length i)) 0 cut_short) no_command) cut_short
+
+-- the command with this code, or refusal 2 of a code that none has
+abbrev pub Decodes : ℕ → Result Command Refusal → Type 0
+Decodes code r = MatchResult r (λ command. code_of command ≡ code) (λ e. (e ≡ NoCommand) × (width_of code ≡ 0))
+
+-- the bytes begin with a whole command
+abbrev pub Begins : List ℕ → Command → Type 0
+Begins i command = (code_of command ≡ get_or i 0 0) × (width_of (code_of command) ≤ length i)
 
 -- ---- the places of the fields
 

@@ -11,7 +11,7 @@ use Rattle.clocks.specs.Clocks.{remove_channel, SurvivalClock}
 use Rattle.clocks.specs.Setting.{set_channel, ChannelSet}
 use Rattle.clocks.specs.Scheduling as scheduling
 use Rattle.clocks.specs.declared.clocks.ScheduledEvent.{ScheduledEvent}
-use Rattle.clocks.specs.declared.scheduling.RealizedEvent.{RealizedEvent}
+use Rattle.clocks.specs.Scheduling.{RealizedEvent}
 use Rattle.clocks.specs.Scheduling.{Rescheduled, Paused}
 use Rattle.clocks.specs.declared.ticks.Ticks.{Ticks}
 use Rattle.engine.specs.Commands as commands

@@ -1,6 +1,7 @@
 -- Document 01, "Journal and undo": what is written over the front of a part of the journal, and the part that the applied commands fill.
 -- UNDO is in Replay, the copy of an accepted command into the free part in Execute (write), the commands that stand in Sessions.
-use Rattle.std.specs.Prelude.{cond, List, [], ◌++◌, ℕ, min, leb, length, take, drop, replicate}
+use Rattle.std.specs.Prelude.{cond, Option, Some, None, List, [], ◌++◌, ℕ, min, leb, length, take, drop, replicate}
+use denote.Ref.{Bor}
 use Rattle.hazards.specs.Refusals.{invalid_state}
 
 -- a command over the first bytes of the free part; one that is longer than the free part changes nothing
@@ -16,9 +17,13 @@ pub record Part : Type 0 where
   pub bytes : List ℕ
   pub number : ℕ
 
--- as the code gives them
 abbrev pub part : List ℕ → ℕ → Part
 part bytes number = record { bytes = bytes; number = number }
+
+-- as the code gives them: none is an empty part with refusal 1
+abbrev pub part_of : Option (Bor (List ℕ)) → Part
+part_of None = part [] invalid_state
+part_of (Some bytes) = part bytes.now 0
 
 -- the applied commands (document 01: standing commands) as that part of the journal; a length above the journal's is refused by 1 with an
 -- empty part

@@ -1,15 +1,16 @@
 -- What the code's answers mean: the request that the queue gives, and what its inner functions leave of the rows: requests moved to the
 -- first places, and places emptied.
-use Rattle.std.specs.Prelude.{cond, ◌≡◌, List, [], ◌++◌, ℕ, ◌-◌, ◌≤◌, length, get_or, take, replicate}
+use Rattle.std.specs.Prelude as std
+use Rattle.std.specs.Prelude.{Some, None, ◌≡◌, List, [], ◌++◌, ℕ, ◌-◌, ◌≤◌, length, get_or, take, replicate}
 use Rattle.std.proofs.Math.Option.{Option, none, some}
-use Rattle.engine.specs.declared.queue.Pick.{Pick}
 use Rattle.engine.specs.declared.state.Request.{Request}
 use Rattle.clocks.specs.Layout.{WordRows}
 use Rattle.engine.specs.State.{empty_request}
 use Rattle.engine.specs.StateRows.{queue_from, CodedShared}
 
-abbrev pub pick_of : Pick → Option Request
-pick_of p = cond p.found (some p.request) none
+abbrev pub pick_of : std.Option Request → Option Request
+pick_of None = none
+pick_of (Some r) = some r
 
 -- only rows of requests are changed: the counts and the clocks' rows are those of w
 pub record KeepsRest (w w' : WordRows) : Type 0 where

@@ -1,7 +1,10 @@
 -- What the code's answers mean: the width of the whole command at the front of some bytes, and where a replay ends.
 use Rattle.std.specs.Prelude.{cond, List, [], ◌∷◌, ℕ, zero, suc, ◌+◌, eqb, ltb, leb, length, take, drop}
 use Rattle.std.proofs.Math.Option.{Option, none, some}
-use Rattle.engine.specs.Commands.{width_of}
+use Rattle.std.specs.Prelude as std
+use Rattle.std.specs.Prelude.{Some, None}
+use Rattle.engine.specs.Commands.{code_of, width_of}
+use Rattle.engine.specs.declared.commands.Command.{Command}
 use Rattle.engine.specs.Commands as commands
 use Rattle.engine.specs.State.{with_slot, EngineState}
 use Rattle.engine.specs.Refusals.{nothing_applied, replay_fails}
@@ -65,13 +68,25 @@ whole_width bytes =
     cond (ltb 0 (length bytes))
     (cond (eqb (code bytes) commands.undo) 0 (cond (leb (width_of (code bytes)) (length bytes)) (width_of (code bytes)) 0)) 0
 
+-- the width of a command, where there is one
+abbrev pub width_in : std.Option Command → ℕ
+width_in (Some command) = width_of (code_of command)
+width_in None = 0
+
 -- the state after all commands, if the replay does not fail
 abbrev pub end_state : (stream : List ℕ) (n : ℕ) → ReplayEnd (engine_of stream n) → Option EngineState
 end_state stream n fails = none
 end_state stream n (ends s before last) = some s
 
+-- the state that a replay has left, if it did not fail
+abbrev pub state_if : std.Option Unit → EngineState → Option EngineState
+state_if (Some _) s = some s
+state_if None s = none
+
 -- where a replay that keeps what the last command changes has ended: the rows are read as the state after all commands, and with what is
 -- kept as the state before the last
-abbrev pub kept_end : (stream : List ℕ) (n : ℕ) → LastCommand → WordRows → FloatRows → WordRows → FloatRows → ReplayEnd (engine_of stream n)
-kept_end stream n r w f kw kf =
-    cond r.ok (ends (state_from w f) (with_slot (state_from w f) r.clock (kept_slot kw kf) (kept_shared kw)) r.place) fails
+abbrev pub kept_end : (stream : List ℕ) (n : ℕ) → std.Option LastCommand → WordRows → FloatRows → WordRows → FloatRows
+    → ReplayEnd (engine_of stream n)
+kept_end stream n None w f kw kf = fails
+kept_end stream n (Some r) w f kw kf =
+    ends (state_from w f) (with_slot (state_from w f) r.clock (kept_slot kw kf) (kept_shared kw)) r.place

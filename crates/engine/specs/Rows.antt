@@ -1,18 +1,17 @@
 -- Document 01, "Rows of the table to prove": the single table of twelve rows, in its order and words. Rows 1 to 8 are of the definitions of
 -- hazards and clocks; rows 9 to 12 give command bytes to a newly opened engine, by the definition that the contract of `execute` cites.
-use Rattle.std.specs.Prelude.{◌≡◌, false, List, [], ◌∷◌, ◌++◌, map, ℕ, pos, negsuc, get_or, replicate, Float}
+use Rattle.std.specs.Prelude.{◌≡◌, false, List, [], ◌∷◌, ◌++◌, map, ℕ, pos, negsuc, get_or, replicate, Float, None}
 use Rattle.std.specs.Float.{fin, binary64}
 use Rattle.std.specs.Float.Ieee.{of_bits, to_bits}
 use Rattle.hazards.specs.Floats.{z}
 use Rattle.hazards.specs.Fields.{bytes_of}
 use Rattle.hazards.specs.Answers.{event_of, answer_bytes}
-use Rattle.hazards.specs.Rates.{hazard_at, cumulative_hazard, invert_cumulative_hazard}
+use Rattle.hazards.specs.Rates.{hazard_at, cumulative_hazard, invert_cumulative_hazard, some_wait}
 use Rattle.hazards.specs.Sampler.{sample_next}
 use Rattle.hazards.specs.declared.answers.Answer.{Answer}
 use Rattle.hazards.specs.declared.rates.HazardRate.{HazardRate}
 use Rattle.hazards.specs.declared.rates.HazardRate.TheVariants.{Zero, Constant, Piecewise}
 use Rattle.hazards.specs.declared.rates.Intervals.{Intervals}
-use Rattle.hazards.specs.declared.rates.Wait.TheVariants.{After, Never}
 use Rattle.hazards.specs.declared.sampler.CompetingCause.{CompetingCause}
 use Rattle.hazards.specs.declared.sampler.SampleSettings.{SampleSettings}
 use Rattle.hazards.specs.declared.sampler.Sampled.{Sampled}
@@ -200,11 +199,11 @@ pub record TwelveRows : Type 0 where
   -- P, cumulative at 2.0: 2.0; at 6.0: 2.5
   pub row_3 : (cumulative_hazard trailing P two ≡ two) × (cumulative_hazard trailing P six ≡ two_and_half)
   -- P from 0, w 2.0: 2.0; w 2.5: 6.0
-  pub row_4 : (invert_cumulative_hazard trailing P z two ≡ After two 0) × (invert_cumulative_hazard trailing P z two_and_half ≡ After six 2)
+  pub row_4 : (invert_cumulative_hazard trailing P z two ≡ some_wait two 0) × (invert_cumulative_hazard trailing P z two_and_half ≡ some_wait six 2)
   -- P from 2.0, w 0.5: 4.0
-  pub row_5 : invert_cumulative_hazard trailing P two half ≡ After four 2
+  pub row_5 : invert_cumulative_hazard trailing P two half ≡ some_wait four 2
   -- Zero, w 0: 0.0; w 1.0: no wait
-  pub row_6 : (invert_cumulative_hazard Zero empty_intervals z z ≡ After z 0) × (invert_cumulative_hazard Zero empty_intervals z one ≡ Never)
+  pub row_6 : (invert_cumulative_hazard Zero empty_intervals z z ≡ some_wait z 0) × (invert_cumulative_hazard Zero empty_intervals z one ≡ None)
   -- Both waits 4.0, cause 3 priority 1, cause 7 priority 9: ties 0, 1, 2 give 3, 7, 7
   pub row_7 : (sampled_by 0 ≡ event_after_four 3) × (sampled_by 1 ≡ event_after_four 7) × (sampled_by 2 ≡ event_after_four 7)
   -- Ticks of 0.5, 2.5: 1, 3; of the f64 just below 0.5: 0; of 2^64: low 0, high 1

@@ -4,6 +4,7 @@ use Rattle.hazards.specs.Floats.{z}
 use Rattle.hazards.specs.declared.ties.TieBreaker.TheVariants.{LowestCauseId}
 use Rattle.clocks.specs.Clocks.{new_clock, SurvivalClock}
 use Rattle.clocks.specs.declared.clocks.HazardInterruptionPolicy.TheVariants.{Restart}
+use Rattle.engine.specs.declared.state.Counts.{Counts}
 use Rattle.engine.specs.declared.state.Request.{Request}
 
 -- ---- the state's records
@@ -48,6 +49,24 @@ with_slot s i slot p = record { slots = set s.slots i slot; shared = p }
 -- the requests that are queued, in their order
 abbrev pub queued_requests : SharedState → List Request
 queued_requests p = take p.queued p.queue
+
+-- the counts beside the queue, and with others in their place
+abbrev pub counts_of : SharedState → Counts
+counts_of p = record {
+  queued = p.queued;
+  request_count = p.request_count;
+  position = p.position;
+  applied_length = p.applied_length;
+}
+
+abbrev pub with_counts : SharedState → Counts → SharedState
+with_counts p counts = record {
+  queue = p.queue;
+  queued = counts.queued;
+  request_count = counts.request_count;
+  position = counts.position;
+  applied_length = counts.applied_length;
+}
 
 -- with these requests queued and none else
 abbrev pub with_queue : SharedState → List Request → SharedState

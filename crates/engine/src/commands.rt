@@ -1,32 +1,91 @@
 // The commands' codes and widths, their fields, and what refusals 4 to 7 say of them. A command is its own bytes, cut to its width.
-ghost use Rattle.std.specs.Prelude.{◌≡◌, not, ◌&&◌, ◌||◌, ◌≤◌, eqb, ltb};
+ghost use Rattle.std.specs.Prelude.{◌≡◌, ◌<◌, IfOk, not, ◌&&◌, ◌||◌, ◌≤◌, eqb, ltb};
 ghost use Rattle.hazards.specs.Fields.{field_at};
-ghost use Rattle.engine.specs.Commands.{width_of, entity_index_field, generation_field, byte_at, floats_at, hazard_fields, setting_of};
+ghost use Rattle.engine.specs.Commands.{code_of, Decodes, Begins, width_of, entity_index_field, generation_field};
+ghost use Rattle.engine.specs.Commands.{byte_at, floats_at, hazard_fields, setting_of};
 ghost use Rattle.engine.specs.Commands.{censor_of, clock_faults, create_faults, cause_faults, set_faults, reschedule_faults};
 ghost use Rattle.engine.specs.Commands.{pause_faults, front_refusal};
+ghost use Rattle.engine.specs.Refusals.{refused_number};
+ghost use Rattle.clocks.specs.RowsInternals.{censor_time};
 
-use crate::refusals::{CUT_SHORT, NO_COMMAND};
-use clocks::scheduling::Censor;
 use clocks::setting::CauseSetting;
 use hazards::checks::HazardFields;
 use hazards::fields::{f64_at, u32_at, u64_at};
-use hazards::refusals::Faults;
+use hazards::refusals::{Faults, Refusal};
 
-pub const CREATE: u8 = 0x01;
+// The commands, by their codes.
+#[derive(Clone, Copy, Debug, PartialEq, Eq)]
+pub enum Command {
+    Create = 0x01,
+    Set = 0x02,
+    Remove = 0x03,
+    Reschedule = 0x04,
+    Pause = 0x05,
+    Resume = 0x06,
+    Deliver = 0x07,
+    Undo = 0x08,
+}
 
-pub const SET: u8 = 0x02;
+// Kept: the codes as bytes have names, as commands are laid out and told apart by bytes; u8::from(Command::Set) at each place is no plainer.
+pub const CREATE: u8 = Command::Create as u8;
 
-pub const REMOVE: u8 = 0x03;
+pub const SET: u8 = Command::Set as u8;
 
-pub const RESCHEDULE: u8 = 0x04;
+pub const REMOVE: u8 = Command::Remove as u8;
 
-pub const PAUSE: u8 = 0x05;
+pub const RESCHEDULE: u8 = Command::Reschedule as u8;
 
-pub const RESUME: u8 = 0x06;
+pub const PAUSE: u8 = Command::Pause as u8;
 
-pub const DELIVER: u8 = 0x07;
+pub const RESUME: u8 = Command::Resume as u8;
 
-pub const UNDO: u8 = 0x08;
+pub const DELIVER: u8 = Command::Deliver as u8;
+
+pub const UNDO: u8 = Command::Undo as u8;
+
+impl From<Command> for u8 {
+    ghost from_gives = { λ command code. code ≡ code_of command };
+
+    fn from(command: Command) -> u8 {
+        command as u8
+    }
+}
+
+impl TryFrom<u8> for Command {
+    type Error = Refusal;
+
+    ghost try_from_gives = { Decodes };
+
+    fn try_from(code: u8) -> Result<Command, Refusal> {
+        match code {
+            CREATE => Ok(Command::Create),
+            SET => Ok(Command::Set),
+            REMOVE => Ok(Command::Remove),
+            RESCHEDULE => Ok(Command::Reschedule),
+            PAUSE => Ok(Command::Pause),
+            RESUME => Ok(Command::Resume),
+            DELIVER => Ok(Command::Deliver),
+            UNDO => Ok(Command::Undo),
+            _ => Err(Refusal::NoCommand),
+        }
+    }
+}
+
+impl Command {
+    // How many bytes the command has, its code byte among them.
+    pub fn width(self) -> usize
+        ensures { (result ≡ width_of (code_of self)) × (0 < result) }
+    {
+        match self {
+            Command::Create => 33,
+            Command::Set => 156,
+            Command::Remove => 6,
+            Command::Reschedule | Command::Resume => 23,
+            Command::Pause => 10,
+            Command::Deliver | Command::Undo => 1,
+        }
+    }
+}
 
 // The places of the fields.
 pub const CLOCK_FIELD: usize = 1;
@@ -77,43 +136,34 @@ pub const PRIORITY_FIELD: usize = 19;
 pub fn width(code: u8) -> usize
     ensures { result ≡ width_of code }
 {
-    match code {
-        CREATE => 33,
-        SET => 156,
-        REMOVE => 6,
-        RESCHEDULE => 23,
-        PAUSE => 10,
-        RESUME => 23,
-        DELIVER => 1,
-        UNDO => 1,
-        _ => 0,
+    match Command::try_from(code) {
+        Ok(command) => command.width(),
+        Err(_) => 0,
     }
 }
 
-// The refusal of bytes that do not begin with a whole command: 2 where they are no command, 3 where it is cut short; else 0.
-pub fn front_refusal(input: &[u8]) -> u8
-    ensures { result ≡ front_refusal input.now }
+// The command that the bytes begin with: refused by 3 where there is no byte, by 2 where it is no command, by 3 where it is cut short.
+pub fn front_command(input: &[u8]) -> Result<Command, Refusal>
+    ensures { (refused_number result ≡ front_refusal input.now) × IfOk result (λ command. Begins input.now command) }
 {
-    if input.len() == 0 {
-        return CUT_SHORT;
+    let Some(code) = input.first() else {
+        return Err(Refusal::CutShort);
+    };
+    let command = Command::try_from(*code)?;
+    if input.len() < command.width() {
+        return Err(Refusal::CutShort);
     }
-    let width = width(input[0]);
-    if width == 0 {
-        return NO_COMMAND;
-    }
-    if input.len() < width {
-        return CUT_SHORT;
-    }
-    0
+    Ok(command)
 }
 
 // A byte past the end is 0.
 pub fn byte_at(bytes: &[u8], at: usize) -> u8
     ensures { result ≡ byte_at bytes.now at }
 {
-    if at < bytes.len() { bytes[at] } else { 0 }
+    bytes.get(at).copied().unwrap_or(0)
 }
 
+// Kept: array::from_fn was tried; its contract did not give the eight elements, and the proof didn't close.
 fn floats_at(command: &[u8], at: usize) -> [f64; 8]
     requires { at ≤ 1024 }
     ensures { result ≡ floats_at command.now at }
@@ -144,14 +194,11 @@ fn hazard_fields(command: &[u8]) -> HazardFields
     }
 }
 
-// The censor of a RESCHEDULE or RESUME.
-pub fn censor_of(command: &[u8]) -> Censor
-    ensures { result ≡ censor_of command.now }
+// The censor time of a RESCHEDULE or RESUME, where it has one.
+pub fn censor_time(command: &[u8]) -> Option<f64>
+    ensures { result ≡ censor_time (censor_of command.now) }
 {
-    Censor {
-        present: byte_at(command, HAS_CENSOR_FIELD) == 1,
-        time: f64_at(command, CENSOR_FIELD),
-    }
+    (byte_at(command, HAS_CENSOR_FIELD) == 1).then_some(f64_at(command, CENSOR_FIELD))
 }
 
 fn clock_faults(command: &[u8]) -> Faults
@@ -165,22 +212,14 @@ fn unused_entity(command: &[u8]) -> bool
     ensures { result
         ≡ (eqb (field_at 8 command.now entity_index_field) 0 && eqb (field_at 4 command.now generation_field) 0) }
 {
-    let index = u64_at(command, ENTITY_INDEX_FIELD) == 0;
-    let generation = u32_at(command, GENERATION_FIELD) == 0;
-    index & generation
+    u64_at(command, ENTITY_INDEX_FIELD) == 0 && u32_at(command, GENERATION_FIELD) == 0
 }
 
 // A has-byte off its list, or one of 0 before a field whose bits are not all zero.
 fn has_fault(has: u8, empty: bool) -> bool
     ensures { result ≡ (ltb 1 has || (eqb has 0 && not empty)) }
 {
-    if has > 1 {
-        return true;
-    }
-    if has == 1 {
-        return false;
-    }
-    !empty
+    has > 1 || (has == 0 && !empty)
 }
 
 // Of CREATE: policy, tie, entity and scale, and its clock.

@@ -2,83 +2,50 @@
 ghost use Rattle.std.specs.Prelude.{◌≡◌, length};
 ghost use Rattle.engine.specs.Comparison.{same_float, same_state};
 ghost use Rattle.engine.specs.StateRows.{state_from, SizedState, CodedState};
-ghost use Rattle.engine.specs.ComparisonInternals.{same_word_row, same_float_row, same_word_rows, same_float_rows};
+ghost use Rattle.engine.specs.ComparisonInternals.{same_float_row, same_word_rows, same_float_rows};
+
+use crate::state_rows::{STATE_FLOATS, STATE_WORDS};
 
 pub(crate) fn same_float(a: f64, b: f64) -> bool
     ensures { result ≡ same_float a b }
 {
-    if a != a {
-        return b != b;
+    if a.is_nan() {
+        return b.is_nan();
     }
-    if b != b {
+    if b.is_nan() {
         return false;
     }
-    f64::to_bits(a) == f64::to_bits(b)
+    a.to_bits() == b.to_bits()
 }
 
-fn same_word_row<'a, 'b>(a: &'a [u64; 8], b: &'b [u64; 8]) -> bool
-    ensures { result ≡ same_word_row a.now b.now }
-{
-    let mut i: usize = 0;
-    while i < 8 {
-        if a[i] != b[i] {
-            return false;
-        }
-        i += 1;
-    }
-    true
-}
-
-fn same_words<'a, 'b>(a: &'a [[u64; 8]], b: &'b [[u64; 8]]) -> bool
+fn same_words(a: &[[u64; 8]], b: &[[u64; 8]]) -> bool
     requires { length a.now ≡ length b.now }
     ensures { result ≡ same_word_rows a.now b.now }
 {
-    let mut i: usize = 0;
-    while i < a.len() {
-        if !same_word_row(&a[i], &b[i]) {
-            return false;
-        }
-        i += 1;
-    }
-    true
+    a == b
 }
 
-fn same_float_row<'a, 'b>(a: &'a [f64; 8], b: &'b [f64; 8]) -> bool
+fn same_float_row(a: &[f64; 8], b: &[f64; 8]) -> bool
     ensures { result ≡ same_float_row a.now b.now }
 {
-    let mut i: usize = 0;
-    while i < 8 {
-        if !same_float(a[i], b[i]) {
-            return false;
-        }
-        i += 1;
-    }
-    true
+    a.iter().zip(b).all(|(x, y)| same_float(*x, *y))
 }
 
-fn same_floats<'a, 'b>(a: &'a [[f64; 8]], b: &'b [[f64; 8]]) -> bool
+fn same_floats(a: &[[f64; 8]], b: &[[f64; 8]]) -> bool
     requires { length a.now ≡ length b.now }
     ensures { result ≡ same_float_rows a.now b.now }
 {
-    let mut i: usize = 0;
-    while i < a.len() {
-        if !same_float_row(&a[i], &b[i]) {
-            return false;
-        }
-        i += 1;
-    }
-    true
+    a.iter().zip(b).all(|(x, y)| same_float_row(x, y))
 }
 
 // Coded rows are the same in every number exactly where what they are read as is the same in every field.
-pub(crate) fn same_state<'a, 'b>(
-    a: &'a [[u64; 8]],
-    a_floats: &'a [[f64; 8]],
-    b: &'b [[u64; 8]],
-    b_floats: &'b [[f64; 8]],
+pub(crate) fn same_state(
+    a: &[[u64; 8]; STATE_WORDS],
+    a_floats: &[[f64; 8]; STATE_FLOATS],
+    b: &[[u64; 8]; STATE_WORDS],
+    b_floats: &[[f64; 8]; STATE_FLOATS],
 ) -> bool
-    requires { SizedState a.now a_floats.now × SizedState b.now b_floats.now × CodedState a.now a_floats.now
-        × CodedState b.now b_floats.now }
+    requires { CodedState a.now a_floats.now × CodedState b.now b_floats.now }
     ensures { result ≡ same_state (state_from a.now a_floats.now)
         (state_from b.now b_floats.now) }
 {

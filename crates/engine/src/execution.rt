@@ -1,181 +1,172 @@
 // What each command but UNDO does to the state, in place, and the refusals that it meets, in the table's order. A refusal comes before the
 // first store, so it changes nothing.
-ghost use Rattle.std.specs.Prelude.{◌≡◌, cond, true, ◌+◌, ◌<◌, ◌^◌, eqb, leb, length};
+ghost use Rattle.std.specs.Prelude.{◌≡◌, IfOk, cond, true, ◌+◌, ◌<◌, ◌^◌, eqb, leb, length};
 ghost use Rattle.hazards.specs.Refusals.{number_of};
-ghost use Rattle.engine.specs.Refusals.{clock_absent};
+ghost use Rattle.engine.specs.Refusals.{clock_absent, journal_full, refused_number, answer_from};
 ghost use Rattle.engine.specs.State.{with_request, with_applied_bytes, slot_at, queued_requests, with_position};
 ghost use Rattle.engine.specs.Execution.{is_withdrawn, withdraw, request_of, event_answer, clock_of_request, target, stored};
 ghost use Rattle.engine.specs.Execution.{perform_create, perform_set, perform_remove, perform_reschedule};
 ghost use Rattle.engine.specs.Execution.{perform_resume, perform_pause, perform_deliver, perform};
-ghost use Rattle.engine.specs.ExecutionInternals.{Countable, Ready, TakenBack, requeued};
+ghost use Rattle.engine.specs.ExecutionInternals.{Countable, Ready, IsCommand, Tries, TakenBack, requeued};
 ghost use Rattle.clocks.specs.Layout.{FloatRows};
-ghost use Rattle.engine.specs.Commands.{width_of, byte_at, clock_of};
+ghost use Rattle.clocks.specs.RowsInternals.{event_from, change_from};
+ghost use Rattle.engine.specs.Commands.{clock_of};
 ghost use Rattle.engine.specs.Queue.{next_request};
-ghost use Rattle.engine.specs.StateRows.{shared_from, state_from, LeavesShared, Performs};
+ghost use Rattle.engine.specs.StateRows.{shared_from, state_from, LeavesShared};
 
 use crate::clock_calls::{
     create_in, dispatch_in, pause_in, remove_in, reschedule_in, resume_in, set_in, takes_cause,
 };
 use crate::commands::{
-    CAUSE_FIELD, CLOCK_FIELD, CREATE, DELIVER, NOW_FIELD, PAUSE, PRIORITY_FIELD, REMOVE,
-    RESCHEDULE, RESUME, SET, byte_at,
+    CAUSE_FIELD, CLOCK_FIELD, Command, DELIVER, NOW_FIELD, PRIORITY_FIELD, byte_at,
 };
 use crate::kept_rows::KEPT_WORDS;
-use crate::refusals::{CLOCK_ABSENT, CLOCK_PRESENT, JOURNAL_FULL, QUEUE_EMPTY};
-use crate::state::Request;
-use crate::state_rows::{APPLIED_LENGTH, COUNTS, POSITION, QUEUED, REQUEST_COUNT};
+use crate::state::{Counts, Request};
+use crate::state_rows::{
+    APPLIED_LENGTH, COUNTS, REQUEST_COUNT, STATE_FLOATS, STATE_WORDS, counts_in,
+};
 use clocks::clocks::ScheduledEvent;
 use clocks::layout::{CLOCK_FLOATS, CLOCK_WORDS, PRESENT};
 use clocks::scheduling::{QueueChange, RealizedEvent};
 use clocks::ticks::Ticks;
-use hazards::answers::{Answer, no_event};
+use hazards::answers::{Answer, event_of, no_event};
 use hazards::fields::{f64_at, u32_at};
-use hazards::refusals::Faults;
+use hazards::refusals::{Faults, Refusal};
 
-pub(crate) fn event_answer(event: RealizedEvent, withdrawn: bool, ticks: Ticks) -> Answer
-    ensures { result ≡ event_answer event withdrawn ticks }
+// The answer of an event, or of none; whether one was withdrawn, and the ticks.
+pub(crate) fn event_answer(event: Option<RealizedEvent>, withdrawn: bool, ticks: Ticks) -> Answer
+    ensures { result ≡ event_answer (event_from event) withdrawn ticks }
 {
+    let answer = match event {
+        Some(e) => event_of(e.winning_cause, e.delta_time, e.is_censored, e.piece),
+        None => no_event(0),
+    };
     Answer {
-        number: 0,
-        event: event.present,
-        censored: event.is_censored,
         withdrawn,
-        cause: event.winning_cause,
-        delta: event.delta_time,
         ticks_low: ticks.low,
         ticks_high: ticks.high,
-        piece: event.piece,
+        ..answer
     }
 }
 
-// Whether the journal's free part takes a command of `width` bytes.
-fn has_room(words: &[[u64; 8]], width: usize, journal_length: usize) -> bool
-    requires { length words.now ≡ 177 }
-    ensures { result ≡ leb ((shared_from words.now).applied_length + width) journal_length }
+// Refusal 14, where the journal's free part is shorter than a command of `width` bytes.
+fn need_room(
+    words: &[[u64; 8]; STATE_WORDS],
+    width: usize,
+    journal_length: usize,
+) -> Result<(), Refusal>
+    ensures { refused_number result ≡ cond (leb ((shared_from words.now).applied_length + width) journal_length) 0 journal_full }
 {
     let applied = words[COUNTS][APPLIED_LENGTH] as usize;
     if applied > journal_length {
-        return false;
+        return Err(Refusal::JournalFull);
     }
-    width <= journal_length - applied
+    if width > journal_length - applied {
+        return Err(Refusal::JournalFull);
+    }
+    Ok(())
 }
 
-// 4 to 7, then 9; 0 where none is met.
-fn refusal_of(words: &[[u64; 8]], command: &[u8], faults: Faults) -> u8
-    requires { (length words.now ≡ 177) × (number_of faults ≡ 0 → clock_of command.now < 16) }
-    ensures { (floats : FloatRows)
-        → result ≡ cond (eqb (number_of faults) 0)
+// The clock that a command names, where neither 4 to 7 nor then 9 is met.
+fn named_clock(
+    words: &[[u64; 8]; STATE_WORDS],
+    command: &[u8],
+    faults: Faults,
+) -> Result<usize, Refusal>
+    requires { number_of faults ≡ 0 → clock_of command.now < 16 }
+    ensures { ((floats : FloatRows)
+        → refused_number result ≡ cond (eqb (number_of faults) 0)
         (cond (slot_at (state_from words.now floats) (clock_of command.now)).present 0 clock_absent)
-        (number_of faults) }
+        (number_of faults))
+        × IfOk result (λ clock. clock ≡ clock_of command.now) }
 {
-    let number = faults.number();
-    if number != 0 {
-        return number;
-    }
+    faults.refusal()?;
     let clock = byte_at(command, CLOCK_FIELD) as usize;
-    if words[CLOCK_WORDS * clock][PRESENT] == 1 {
-        0
-    } else {
-        CLOCK_ABSENT
+    if words[CLOCK_WORDS * clock][PRESENT] != 1 {
+        return Err(Refusal::ClockAbsent);
     }
+    Ok(clock)
 }
 
 // The command counts as applied.
-fn count_applied(words: &mut [[u64; 8]], width: usize)
-    requires { (length words.old ≡ 177) × ((shared_from words.old).applied_length + width < 2 ^ 64) }
+fn count_applied(words: &mut [[u64; 8]; STATE_WORDS], width: usize)
+    requires { (shared_from words.old).applied_length + width < 2 ^ 64 }
     ensures { LeavesShared words.old words.new (with_applied_bytes width (shared_from words.old)) }
 {
-    let row = words[COUNTS];
-    crate::queue::put_counts(
-        words,
-        row[QUEUED] as usize,
-        row[REQUEST_COUNT],
-        row[POSITION] as usize,
-        row[APPLIED_LENGTH] as usize + width,
-    );
+    let counts = counts_in(words);
+    let more = Counts {
+        applied_length: counts.applied_length + width,
+        ..counts
+    };
+    crate::queue::put_counts(words, more);
 }
 
 // The draw position after a SET.
-fn put_position(words: &mut [[u64; 8]], position: usize)
-    requires { length words.old ≡ 177 }
+fn put_position(words: &mut [[u64; 8]; STATE_WORDS], position: usize)
     ensures { LeavesShared words.old words.new (with_position (shared_from words.old) position) }
 {
-    let row = words[COUNTS];
-    crate::queue::put_counts(
-        words,
-        row[QUEUED] as usize,
-        row[REQUEST_COUNT],
+    let counts = Counts {
         position,
-        row[APPLIED_LENGTH] as usize,
-    );
+        ..counts_in(words)
+    };
+    crate::queue::put_counts(words, counts);
 }
 
 fn perform_create(
-    words: &mut [[u64; 8]],
-    floats: &mut [[f64; 8]],
+    words: &mut [[u64; 8]; STATE_WORDS],
+    floats: &mut [[f64; 8]; STATE_FLOATS],
     journal_length: usize,
     command: &[u8],
-) -> Answer
+) -> Result<Answer, Refusal>
     requires { Ready words.old floats.old }
-    ensures { Performs words.old floats.old
+    ensures { Tries words.old floats.old
         (stored (state_from words.old floats.old) (clock_of command.now)
         (perform_create journal_length (slot_at (state_from words.old floats.old) (clock_of command.now))
         (shared_from words.old) command.now))
         words.new floats.new result }
 {
-    let number = crate::commands::create_faults(command).number();
-    if number != 0 {
-        return no_event(number);
-    }
+    crate::commands::create_faults(command).refusal()?;
     let clock = byte_at(command, CLOCK_FIELD) as usize;
     if words[CLOCK_WORDS * clock][PRESENT] == 1 {
-        return no_event(CLOCK_PRESENT);
+        return Err(Refusal::ClockPresent);
     }
-    if !has_room(words, command.len(), journal_length) {
-        return no_event(JOURNAL_FULL);
-    }
+    need_room(words, command.len(), journal_length)?;
     create_in(words, floats, clock, command);
     count_applied(words, command.len());
-    no_event(0)
+    Ok(no_event(0))
 }
 
 fn perform_remove(
-    words: &mut [[u64; 8]],
-    floats: &mut [[f64; 8]],
+    words: &mut [[u64; 8]; STATE_WORDS],
+    floats: &mut [[f64; 8]; STATE_FLOATS],
     journal_length: usize,
     command: &[u8],
-) -> Answer
+) -> Result<Answer, Refusal>
     requires { Ready words.old floats.old }
-    ensures { Performs words.old floats.old
+    ensures { Tries words.old floats.old
         (stored (state_from words.old floats.old) (clock_of command.now)
         (perform_remove journal_length (slot_at (state_from words.old floats.old) (clock_of command.now))
         (shared_from words.old) command.now))
         words.new floats.new result }
 {
-    let number = refusal_of(words, command, crate::commands::cause_faults(command));
-    if number != 0 {
-        return no_event(number);
-    }
-    if !has_room(words, command.len(), journal_length) {
-        return no_event(JOURNAL_FULL);
-    }
-    let clock = byte_at(command, CLOCK_FIELD) as usize;
+    let clock = named_clock(words, command, crate::commands::cause_faults(command))?;
+    need_room(words, command.len(), journal_length)?;
     let cause = u32_at(command, CAUSE_FIELD);
     remove_in(words, floats, clock, cause);
     count_applied(words, command.len());
-    no_event(0)
+    Ok(no_event(0))
 }
 
 // 10, then 14, then 15 or 16.
 fn perform_set(
-    words: &mut [[u64; 8]],
-    floats: &mut [[f64; 8]],
+    words: &mut [[u64; 8]; STATE_WORDS],
+    floats: &mut [[f64; 8]; STATE_FLOATS],
     stream: &[u8],
     journal_length: usize,
     command: &[u8],
-) -> Answer
+) -> Result<Answer, Refusal>
     requires { Ready words.old floats.old }
-    ensures { Performs words.old floats.old
+    ensures { Tries words.old floats.old
         (stored (state_from words.old floats.old) (clock_of command.now)
         (perform_set stream.now journal_length
         (slot_at (state_from words.old floats.old) (clock_of command.now))
@@ -183,30 +174,20 @@ fn perform_set(
         words.new floats.new result }
 {
     let read = crate::commands::set_command(command);
-    let number = refusal_of(words, command, read.faults);
-    if number != 0 {
-        return no_event(number);
-    }
-    let clock = byte_at(command, CLOCK_FIELD) as usize;
+    let clock = named_clock(words, command, read.faults)?;
     let setting = read.setting;
     if !takes_cause(words, clock, setting.cause_id) {
-        return no_event(hazards::refusals::TOO_MANY_CAUSES);
+        return Err(Refusal::TooManyCauses);
     }
-    if !has_room(words, command.len(), journal_length) {
-        return no_event(JOURNAL_FULL);
-    }
-    let set = set_in(words, floats, clock, setting, stream);
-    if set.number != 0 {
-        return no_event(set.number);
-    }
-    put_position(words, set.position);
+    need_room(words, command.len(), journal_length)?;
+    let position = set_in(words, floats, clock, setting, stream)?;
+    put_position(words, position);
     count_applied(words, command.len());
-    no_event(0)
+    Ok(no_event(0))
 }
 
 // A scheduled event that is queued is withdrawn; whether there was one.
-fn withdraw(words: &mut [[u64; 8]], event: ScheduledEvent) -> bool
-    requires { length words.old ≡ 177 }
+fn withdraw(words: &mut [[u64; 8]; STATE_WORDS], event: ScheduledEvent) -> bool
     ensures { LeavesShared words.old words.new (withdraw (shared_from words.old) event)
         × (result ≡ is_withdrawn (shared_from words.old) event) }
 {
@@ -221,44 +202,38 @@ fn withdraw(words: &mut [[u64; 8]], event: ScheduledEvent) -> bool
 }
 
 fn perform_pause(
-    words: &mut [[u64; 8]],
-    floats: &mut [[f64; 8]],
+    words: &mut [[u64; 8]; STATE_WORDS],
+    floats: &mut [[f64; 8]; STATE_FLOATS],
     journal_length: usize,
     command: &[u8],
-) -> Answer
+) -> Result<Answer, Refusal>
     requires { Ready words.old floats.old }
-    ensures { Performs words.old floats.old
+    ensures { Tries words.old floats.old
         (stored (state_from words.old floats.old) (clock_of command.now)
         (perform_pause journal_length (slot_at (state_from words.old floats.old) (clock_of command.now))
         (shared_from words.old) command.now))
         words.new floats.new result }
 {
-    let number = refusal_of(words, command, crate::commands::pause_faults(command));
-    if number != 0 {
-        return no_event(number);
-    }
-    if !has_room(words, command.len(), journal_length) {
-        return no_event(JOURNAL_FULL);
-    }
-    let clock = byte_at(command, CLOCK_FIELD) as usize;
+    let clock = named_clock(words, command, crate::commands::pause_faults(command))?;
+    need_room(words, command.len(), journal_length)?;
     let time = f64_at(command, NOW_FIELD);
     let event = pause_in(words, floats, clock, time);
     let mut answer = no_event(0);
     answer.withdrawn = withdraw(words, event);
     count_applied(words, command.len());
-    answer
+    Ok(answer)
 }
 
 // An event is queued, where there is one.
-fn enqueue(words: &mut [[u64; 8]], command: &[u8], change: QueueChange)
-    requires { (length words.old ≡ 177) × Countable (shared_from words.old) }
+fn enqueue(words: &mut [[u64; 8]; STATE_WORDS], command: &[u8], change: QueueChange)
+    requires { Countable (shared_from words.old) }
     ensures { LeavesShared words.old words.new
-        (cond change.event.present
+        (cond (event_from change.event).present
         (with_request (shared_from words.old)
         (request_of (shared_from words.old) command.now change.ticks))
         (shared_from words.old)) }
 {
-    if !change.event.present {
+    if change.event.is_none() {
         return;
     }
     let ticks = change.ticks;
@@ -272,13 +247,12 @@ fn enqueue(words: &mut [[u64; 8]], command: &[u8], change: QueueChange)
 }
 
 // A rescheduled clock's old event is withdrawn and its new one queued; the command counts as applied.
-fn requeue(words: &mut [[u64; 8]], command: &[u8], change: QueueChange) -> Answer
-    requires { (length words.old ≡ 177) × Countable (shared_from words.old)
-        × ((shared_from words.old).applied_length + length command.now < 2 ^ 64) }
+fn requeue(words: &mut [[u64; 8]; STATE_WORDS], command: &[u8], change: QueueChange) -> Answer
+    requires { Countable (shared_from words.old) × ((shared_from words.old).applied_length + length command.now < 2 ^ 64) }
     ensures { LeavesShared words.old words.new
         (with_applied_bytes (length command.now)
-        (requeued (shared_from words.old) command.now change))
-        × (result ≡ event_answer change.event (is_withdrawn (shared_from words.old) change.withdrawn) change.ticks) }
+        (requeued (shared_from words.old) command.now (change_from change)))
+        × (result ≡ event_answer (event_from change.event) (is_withdrawn (shared_from words.old) change.withdrawn) change.ticks) }
 {
     let old = change.withdrawn;
     let event = change.event;
@@ -288,69 +262,58 @@ fn requeue(words: &mut [[u64; 8]], command: &[u8], change: QueueChange) -> Answe
     event_answer(event, withdrawn, change.ticks)
 }
 
+// Kept: two functions of the same four steps; one over the step would say by F.pre and F.post of the lent rows what each says by name.
 fn perform_reschedule(
-    words: &mut [[u64; 8]],
-    floats: &mut [[f64; 8]],
+    words: &mut [[u64; 8]; STATE_WORDS],
+    floats: &mut [[f64; 8]; STATE_FLOATS],
     journal_length: usize,
     command: &[u8],
-) -> Answer
+) -> Result<Answer, Refusal>
     requires { Ready words.old floats.old }
-    ensures { Performs words.old floats.old
+    ensures { Tries words.old floats.old
         (stored (state_from words.old floats.old) (clock_of command.now)
         (perform_reschedule journal_length (slot_at (state_from words.old floats.old) (clock_of command.now))
         (shared_from words.old) command.now))
         words.new floats.new result }
 {
-    let number = refusal_of(words, command, crate::commands::reschedule_faults(command));
-    if number != 0 {
-        return no_event(number);
-    }
-    if !has_room(words, command.len(), journal_length) {
-        return no_event(JOURNAL_FULL);
-    }
-    let clock = byte_at(command, CLOCK_FIELD) as usize;
+    let clock = named_clock(words, command, crate::commands::reschedule_faults(command))?;
+    need_room(words, command.len(), journal_length)?;
     let time = f64_at(command, NOW_FIELD);
-    let censor = crate::commands::censor_of(command);
+    let censor = crate::commands::censor_time(command);
     let change = reschedule_in(words, floats, clock, time, censor);
-    requeue(words, command, change)
+    Ok(requeue(words, command, change))
 }
 
 fn perform_resume(
-    words: &mut [[u64; 8]],
-    floats: &mut [[f64; 8]],
+    words: &mut [[u64; 8]; STATE_WORDS],
+    floats: &mut [[f64; 8]; STATE_FLOATS],
     journal_length: usize,
     command: &[u8],
-) -> Answer
+) -> Result<Answer, Refusal>
     requires { Ready words.old floats.old }
-    ensures { Performs words.old floats.old
+    ensures { Tries words.old floats.old
         (stored (state_from words.old floats.old) (clock_of command.now)
         (perform_resume journal_length (slot_at (state_from words.old floats.old) (clock_of command.now))
         (shared_from words.old) command.now))
         words.new floats.new result }
 {
-    let number = refusal_of(words, command, crate::commands::reschedule_faults(command));
-    if number != 0 {
-        return no_event(number);
-    }
-    if !has_room(words, command.len(), journal_length) {
-        return no_event(JOURNAL_FULL);
-    }
-    let clock = byte_at(command, CLOCK_FIELD) as usize;
+    let clock = named_clock(words, command, crate::commands::reschedule_faults(command))?;
+    need_room(words, command.len(), journal_length)?;
     let time = f64_at(command, NOW_FIELD);
-    let censor = crate::commands::censor_of(command);
+    let censor = crate::commands::censor_time(command);
     let change = resume_in(words, floats, clock, time, censor);
-    requeue(words, command, change)
+    Ok(requeue(words, command, change))
 }
 
 // The earliest request is taken out, and its clock dispatches its event; only the ticks are the request's.
 fn perform_deliver(
-    words: &mut [[u64; 8]],
-    floats: &mut [[f64; 8]],
+    words: &mut [[u64; 8]; STATE_WORDS],
+    floats: &mut [[f64; 8]; STATE_FLOATS],
     journal_length: usize,
     command: &[u8],
-) -> Answer
+) -> Result<Answer, Refusal>
     requires { Ready words.old floats.old }
-    ensures { Performs words.old floats.old
+    ensures { Tries words.old floats.old
         (stored (state_from words.old floats.old)
         (clock_of_request (next_request (queued_requests (shared_from words.old))))
         (perform_deliver journal_length (slot_at (state_from words.old floats.old)
@@ -358,90 +321,80 @@ fn perform_deliver(
         (shared_from words.old) command.now))
         words.new floats.new result }
 {
-    let next = crate::queue::next_request(words);
-    if !next.found {
-        return no_event(QUEUE_EMPTY);
-    }
-    if !has_room(words, command.len(), journal_length) {
-        return no_event(JOURNAL_FULL);
-    }
-    let request = next.request;
+    let Some(request) = crate::queue::next_request(words) else {
+        return Err(Refusal::QueueEmpty);
+    };
+    need_room(words, command.len(), journal_length)?;
     let event = dispatch_in(words, floats, request.clock);
     crate::queue::take_out(words, request.index);
     count_applied(words, command.len());
-    event_answer(event, false, request.ticks)
+    Ok(event_answer(event, false, request.ticks))
 }
 
 // A command but UNDO.
 pub(crate) fn perform(
-    words: &mut [[u64; 8]],
-    floats: &mut [[f64; 8]],
+    words: &mut [[u64; 8]; STATE_WORDS],
+    floats: &mut [[f64; 8]; STATE_FLOATS],
     stream: &[u8],
     journal_length: usize,
     command: &[u8],
-) -> Answer
-    requires { Ready words.old floats.old × (0 < width_of (byte_at command.now 0)) × (byte_at command.now 0 ≡ 8 → ⊥) }
-    ensures { Performs words.old floats.old
+) -> Result<Answer, Refusal>
+    requires { Ready words.old floats.old × IsCommand command.now }
+    ensures { Tries words.old floats.old
         (perform stream.now journal_length (state_from words.old floats.old) command.now)
         words.new floats.new result }
 {
-    let code = byte_at(command, 0);
-    match code {
-        CREATE => perform_create(words, floats, journal_length, command),
-        SET => perform_set(words, floats, stream, journal_length, command),
-        REMOVE => perform_remove(words, floats, journal_length, command),
-        RESCHEDULE => perform_reschedule(words, floats, journal_length, command),
-        PAUSE => perform_pause(words, floats, journal_length, command),
-        RESUME => perform_resume(words, floats, journal_length, command),
-        _ => perform_deliver(words, floats, journal_length, command),
+    match Command::try_from(byte_at(command, 0)).unwrap() {
+        Command::Create => perform_create(words, floats, journal_length, command),
+        Command::Set => perform_set(words, floats, stream, journal_length, command),
+        Command::Remove => perform_remove(words, floats, journal_length, command),
+        Command::Reschedule => perform_reschedule(words, floats, journal_length, command),
+        Command::Pause => perform_pause(words, floats, journal_length, command),
+        Command::Resume => perform_resume(words, floats, journal_length, command),
+        Command::Deliver => perform_deliver(words, floats, journal_length, command),
+        Command::Undo => unreachable!(),
     }
 }
 
 // The clock that a command is about, for DELIVER that of the next request.
-fn target(words: &[[u64; 8]], command: &[u8]) -> usize
-    requires { length words.now ≡ 177 }
+fn target(words: &[[u64; 8]; STATE_WORDS], command: &[u8]) -> usize
     ensures { result ≡ target (shared_from words.now) command.now }
 {
     if byte_at(command, 0) == DELIVER {
-        let next = crate::queue::next_request(words);
-        if next.found {
-            return next.request.clock;
-        }
-        return 0;
+        return match crate::queue::next_request(words) {
+            Some(request) => request.clock,
+            None => 0,
+        };
     }
     byte_at(command, CLOCK_FIELD) as usize
 }
 
 // The same among the sixteen: 15 where it is none of them, and the command is refused then.
-pub(crate) fn near_target(words: &[[u64; 8]], command: &[u8]) -> usize
-    requires { length words.now ≡ 177 }
+pub(crate) fn near_target(words: &[[u64; 8]; STATE_WORDS], command: &[u8]) -> usize
     ensures { (result < 16) × (target (shared_from words.now) command.now < 16
         → result ≡ target (shared_from words.now) command.now) }
 {
-    let clock = target(words, command);
-    if clock < 16 { clock } else { 15 }
+    target(words, command).min(15)
 }
 
 // The answer to a command that is taken back at once: what it changed is as it was.
 pub(crate) fn perform_reverted(
-    words: &mut [[u64; 8]],
-    floats: &mut [[f64; 8]],
+    words: &mut [[u64; 8]; STATE_WORDS],
+    floats: &mut [[f64; 8]; STATE_FLOATS],
     stream: &[u8],
     journal_length: usize,
     command: &[u8],
-) -> Answer
-    requires { Ready words.old floats.old × (0 < width_of (byte_at command.now 0)) × (byte_at command.now 0 ≡ 8 → ⊥) }
+) -> Result<Answer, Refusal>
+    requires { Ready words.old floats.old × IsCommand command.now }
     ensures { TakenBack words.old floats.old
         (perform stream.now journal_length (state_from words.old floats.old) command.now)
-        words.new floats.new result }
+        words.new floats.new (answer_from result) × IfOk result (λ answer. answer.number ≡ 0) }
 {
     let mut kept: [[u64; 8]; KEPT_WORDS] = [[0; 8]; KEPT_WORDS];
     let mut kept_floats: [[f64; 8]; CLOCK_FLOATS] = [[0.0; 8]; CLOCK_FLOATS];
     let clock = near_target(words, command);
     crate::kept_rows::keep(words, floats, clock, &mut kept, &mut kept_floats);
-    let answer = perform(words, floats, stream, journal_length, command);
-    if answer.number == 0 {
-        crate::kept_rows::put_back(words, floats, clock, &kept, &kept_floats);
-    }
-    answer
+    let answer = perform(words, floats, stream, journal_length, command)?;
+    crate::kept_rows::put_back(words, floats, clock, &kept, &kept_floats);
+    Ok(answer)
 }

@@ -1,34 +1,23 @@
 // The journal's bytes: a command copied into the free part, bytes cleared, and the part that the applied commands fill.
-ghost use Rattle.std.specs.Prelude.{◌≡◌, min, ◌*◌, ◌≤◌, length, replicate};
-ghost use Rattle.engine.specs.Journal.{copied_into, cleared_front, part, applied_part};
+ghost use Rattle.std.specs.Prelude.{◌≡◌, ◌*◌, ◌≤◌, length};
+ghost use Rattle.engine.specs.Journal.{copied_into, cleared_front, part_of, applied_part};
 
 // The command over the first bytes of the free part; one that is longer changes nothing.
 pub fn copy_into(free: &mut [u8], command: &[u8])
     ensures { free.new ≡ copied_into free.old command.now }
 {
-    if command.len() > free.len() {
-        return;
+    if command.len() <= free.len() {
+        free[..command.len()].copy_from_slice(command);
     }
-    let mut i: usize = 0;
-    while i < command.len() {
-        free[i] = command[i];
-        i += 1;
-    }
-}
-
-fn at_most(count: usize, most: usize) -> usize
-    ensures { result ≡ min count most }
-{
-    if count < most { count } else { most }
 }
 
 // Zero over the first `eights` times eight bytes, eight in each turn.
+// Kept: document 02, change 3, asks for eight bytes in each turn; as_chunks_mut says nothing of what the slice ends as.
 fn clear_eights(bytes: &mut [u8], eights: usize)
     requires { eights * 8 ≤ length bytes.old }
     ensures { bytes.new ≡ cleared_front bytes.old (eights * 8) }
 {
-    let mut turn: usize = 0;
-    while turn < eights {
+    for turn in 0..eights {
         let i = turn * 8;
         bytes[i] = 0;
         bytes[i + 1] = 0;
@@ -38,18 +27,6 @@ fn clear_eights(bytes: &mut [u8], eights: usize)
         bytes[i + 5] = 0;
         bytes[i + 6] = 0;
         bytes[i + 7] = 0;
-        turn += 1;
-    }
-}
-
-// Zero over all bytes, one in each turn.
-fn clear_singly(bytes: &mut [u8])
-    ensures { bytes.new ≡ replicate (length bytes.old) 0 }
-{
-    let mut at: usize = 0;
-    while at < bytes.len() {
-        bytes[at] = 0;
-        at += 1;
     }
 }
 
@@ -57,27 +34,16 @@ fn clear_singly(bytes: &mut [u8])
 pub fn clear(bytes: &mut [u8], count: usize)
     ensures { bytes.new ≡ cleared_front bytes.old count }
 {
-    let end = at_most(count, bytes.len());
+    let end = count.min(bytes.len());
     let eights = end / 8;
     clear_eights(bytes, eights);
-    let whole = eights * 8;
-    clear_singly(&mut bytes[whole..end]);
+    bytes[eights * 8..end].fill(0);
 }
 
-// The applied commands (document 01: standing commands), as that part of the caller's journal, and its number: 0, or 1 with an empty part
-// where their length is past the journal's end.
-pub fn applied_commands<'a, 'n>(
-    applied_length: usize,
-    journal: &'a [u8],
-    number: &'n mut u8,
-) -> &'a [u8]
-    ensures { part result.now number.new ≡ applied_part journal.now applied_length }
+// The applied commands (document 01: standing commands), as that part of the caller's journal; none where their length is past the
+// journal's end.
+pub fn applied_commands(applied_length: usize, journal: &[u8]) -> Option<&[u8]>
+    ensures { part_of result ≡ applied_part journal.now applied_length }
 {
-    if applied_length <= journal.len() {
-        *number = 0;
-        &journal[..applied_length]
-    } else {
-        *number = hazards::refusals::INVALID_STATE;
-        &journal[..0]
-    }
+    journal.get(..applied_length)
 }

@@ -1,20 +1,16 @@
-// The numbers of the refusals that are the engine's own, under their names in hazards' specs/Refusals.antt.
-pub const NO_COMMAND: u8 = 2;
+// How the outcome of a command is answered.
+ghost use Rattle.std.specs.Prelude.{◌≡◌};
+ghost use Rattle.engine.specs.Refusals.{answer_from};
 
-pub const CUT_SHORT: u8 = 3;
+use hazards::answers::{Answer, no_event};
+use hazards::refusals::Refusal;
 
-pub const CLOCK_PRESENT: u8 = 8;
-
-pub const CLOCK_ABSENT: u8 = 9;
-
-pub const QUEUE_EMPTY: u8 = 11;
-
-pub const NOTHING_APPLIED: u8 = 12;
-
-pub const REPLAY_FAILS: u8 = 13;
-
-pub const JOURNAL_FULL: u8 = 14;
-
-pub const ANSWERS_FULL: u8 = 17;
-
-pub const BAD_BUFFERS: u8 = 18;
+// A refusal is answered by its number, and zero elsewhere.
+pub(crate) fn answer_from(outcome: Result<Answer, Refusal>) -> Answer
+    ensures { result ≡ answer_from outcome }
+{
+    match outcome {
+        Ok(answer) => answer,
+        Err(refusal) => no_event(refusal.number()),
+    }
+}

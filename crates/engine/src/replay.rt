@@ -1,34 +1,31 @@
 // The replay of applied commands from opening, and UNDO. What the last command changes is kept beside the state.
-ghost use Rattle.std.specs.Prelude.{◌≡◌, false, true, cond, List, ℕ, ◌≤◌, ◌<◌, ◌^◌, length, take};
+ghost use Rattle.std.specs.Prelude.{◌≡◌, IfSome, List, ℕ, ◌≤◌, ◌<◌, ◌^◌, length, take};
 ghost use Rattle.engine.specs.State.{EngineState};
 ghost use Rattle.engine.specs.Replay.{cleared, undo};
 ghost use Rattle.engine.specs.Instance.{engine_of};
-ghost use Rattle.engine.specs.ReplayInternals.{whole_width, ends, replay_all, end_state, kept_end};
+ghost use Rattle.engine.specs.ReplayInternals.{width_in, whole_width, ends, replay_all, state_if, end_state, kept_end};
 ghost use Rattle.engine.specs.Answers.{after};
-ghost use Rattle.std.proofs.Math.Option.{none, some};
+ghost use Rattle.engine.specs.Refusals.{answer_from};
 ghost use Rattle.engine.specs.StateRows.{shared_from, state_from, SizedState, CodedState};
 ghost use Rattle.engine.specs.KeptRows.{SizedKept, CodedKept};
 ghost use Rattle.engine.specs.InPlace.{Executes};
 
+use crate::commands::Command;
 use crate::execution::perform;
 use crate::kept_rows::KEPT_WORDS;
-use crate::refusals::{NOTHING_APPLIED, REPLAY_FAILS};
 use crate::state_rows::{APPLIED_LENGTH, COUNTS, STATE_FLOATS, STATE_WORDS};
 use clocks::layout::CLOCK_FLOATS;
 use hazards::answers::{Answer, no_event};
+use hazards::refusals::Refusal;
 
-// The width of the whole command at the front of the bytes; 0 where there is none, or it is an UNDO.
-pub(crate) fn command_width(bytes: &[u8]) -> usize
-    ensures { result ≡ whole_width bytes.now }
+// The whole command at the front of the bytes, where there is one and it is no UNDO.
+pub(crate) fn whole_command(bytes: &[u8]) -> Option<Command>
+    ensures { width_in result ≡ whole_width bytes.now }
 {
-    if crate::commands::front_refusal(bytes) != 0 {
-        return 0;
+    match crate::commands::front_command(bytes).ok()? {
+        Command::Undo => None,
+        command => Some(command),
     }
-    let code = bytes[0];
-    if code == crate::commands::UNDO {
-        return 0;
-    }
-    crate::commands::width(code)
 }
 
 // The place of the last of some applied commands; 0 where there is none.
@@ -39,12 +36,9 @@ pub(crate) fn last_command(bytes: &[u8]) -> usize
 {
     let mut place: usize = 0;
     let mut at: usize = 0;
-    while at < bytes.len() {
+    while let Ok(command) = crate::commands::front_command(&bytes[at..]) {
         place = at;
-        if crate::commands::front_refusal(&bytes[at..]) != 0 {
-            return place;
-        }
-        at = at + crate::commands::width(bytes[at]);
+        at += command.width();
     }
     place
 }
@@ -62,118 +56,91 @@ pub(crate) fn revert(journal: &mut [u8], applied: usize) -> usize
     place
 }
 
-// The last command of a replay: its place in the bytes and its clock; not ok where the replay failed.
+// The last command of a replay: its place in the bytes and its clock.
 #[derive(Clone, Copy)]
 pub struct LastCommand {
-    pub ok: bool,
     pub place: usize,
     pub clock: usize,
 }
 
-fn no_last() -> LastCommand
-    ensures { (result.ok ≡ false) × (result.place ≡ 0) × (result.clock ≡ 0) }
-{
-    LastCommand {
-        ok: false,
-        place: 0,
-        clock: 0,
-    }
-}
-
-// The state after commands, one after another from opening; false where one of them is refused or an UNDO.
+// The state after commands, one after another from opening; none where one of them is refused or an UNDO.
 pub(crate) fn replay(
-    words: &mut [[u64; 8]],
-    floats: &mut [[f64; 8]],
+    words: &mut [[u64; 8]; STATE_WORDS],
+    floats: &mut [[f64; 8]; STATE_FLOATS],
     stream: &[u8],
     journal_length: usize,
     bytes: &[u8],
-) -> bool
-    requires { SizedState words.old floats.old × (journal_length < 2 ^ 63) }
-    ensures { (cond result (some (state_from words.new floats.new)) none
+) -> Option<()>
+    requires { journal_length < 2 ^ 63 }
+    ensures { (state_if result (state_from words.new floats.new)
         ≡ end_state stream.now journal_length
         (replay_all (engine_of stream.now journal_length) bytes.now))
         × CodedState words.new floats.new }
 {
     crate::opening::open_state(words, floats);
     let mut at: usize = 0;
+    // Kept: a cursor over commands of different widths, which a failure ends before the end of the bytes.
     while at < bytes.len() {
-        let width = command_width(&bytes[at..]);
-        if width == 0 {
-            return false;
-        }
-        let end = at + width;
-        let answer = perform(words, floats, stream, journal_length, &bytes[at..end]);
-        if answer.number != 0 {
-            return false;
-        }
+        let command = whole_command(&bytes[at..])?;
+        let end = at + command.width();
+        perform(words, floats, stream, journal_length, &bytes[at..end]).ok()?;
         at = end;
     }
-    true
+    Some(())
 }
 
 // The same, with what the last command changes kept as it was before it.
 fn replay_to_last(
-    words: &mut [[u64; 8]],
-    floats: &mut [[f64; 8]],
-    kept: &mut [[u64; 8]],
-    kept_floats: &mut [[f64; 8]],
+    words: &mut [[u64; 8]; STATE_WORDS],
+    floats: &mut [[f64; 8]; STATE_FLOATS],
+    kept: &mut [[u64; 8]; KEPT_WORDS],
+    kept_floats: &mut [[f64; 8]; CLOCK_FLOATS],
     stream: &[u8],
     journal_length: usize,
     bytes: &[u8],
-) -> LastCommand
-    requires { SizedState words.old floats.old × SizedKept kept.old kept_floats.old × (journal_length < 2 ^ 63)
-        × (0 < length bytes.now) }
+) -> Option<LastCommand>
+    requires { (journal_length < 2 ^ 63) × (0 < length bytes.now) }
     ensures { (kept_end stream.now journal_length result words.new floats.new kept.new
         kept_floats.new ≡ replay_all (engine_of stream.now journal_length) bytes.now)
-        × (result.place ≤ length bytes.now) × (result.clock < 16)
-        × (result.ok ≡ true → CodedState words.new floats.new × CodedKept kept.new kept_floats.new) }
+        × IfSome result (λ last. (last.place ≤ length bytes.now) × (last.clock < 16)
+        × CodedState words.new floats.new × CodedKept kept.new kept_floats.new) }
 {
     let place = last_command(bytes);
-    if !replay(words, floats, stream, journal_length, &bytes[..place]) {
-        return no_last();
-    }
+    replay(words, floats, stream, journal_length, &bytes[..place])?;
     let command = &bytes[place..];
-    if command_width(command) != command.len() {
-        return no_last();
+    if whole_command(command)?.width() != command.len() {
+        return None;
     }
     let clock = crate::execution::near_target(words, command);
     crate::kept_rows::keep(words, floats, clock, kept, kept_floats);
-    let answer = perform(words, floats, stream, journal_length, command);
-    if answer.number != 0 {
-        return no_last();
-    }
-    LastCommand {
-        ok: true,
-        place,
-        clock,
-    }
+    perform(words, floats, stream, journal_length, command).ok()?;
+    Some(LastCommand { place, clock })
 }
 
 // UNDO (document 01: strikes the last standing command), by a replay of the applied commands; refused by 12 or 13. What is left is the
 // state of the replay with the last command taken back: the comparison holds all NaNs alike, so that the caller's rows may be others.
 pub(crate) fn undo(
-    words: &mut [[u64; 8]],
-    floats: &mut [[f64; 8]],
+    words: &mut [[u64; 8]; STATE_WORDS],
+    floats: &mut [[f64; 8]; STATE_FLOATS],
     stream: &[u8],
     journal: &mut [u8],
-) -> Answer
-    requires { SizedState words.old floats.old × CodedState words.old floats.old
-        × ((shared_from words.old).applied_length ≤ length journal.old) }
+) -> Result<Answer, Refusal>
+    requires { CodedState words.old floats.old × ((shared_from words.old).applied_length ≤ length journal.old) }
     ensures { Executes words.old floats.old
         (after stream.now (length journal.old)
         (undo (engine_of stream.now (length journal.old))
         (state_from words.old floats.old) journal.old))
-        words.new floats.new journal.new result }
+        words.new floats.new journal.new (answer_from result) }
 {
     let applied = words[COUNTS][APPLIED_LENGTH] as usize;
     if applied == 0 {
-        return no_event(NOTHING_APPLIED);
+        return Err(Refusal::NothingApplied);
     }
     let mut end: [[u64; 8]; STATE_WORDS] = [[0; 8]; STATE_WORDS];
     let mut end_floats: [[f64; 8]; STATE_FLOATS] = [[0.0; 8]; STATE_FLOATS];
     let mut kept: [[u64; 8]; KEPT_WORDS] = [[0; 8]; KEPT_WORDS];
     let mut kept_floats: [[f64; 8]; CLOCK_FLOATS] = [[0.0; 8]; CLOCK_FLOATS];
-    let last = replay_to_last(
+    let Some(last) = replay_to_last(
         &mut end,
         &mut end_floats,
         &mut kept,
@@ -181,17 +148,16 @@ pub(crate) fn undo(
         stream,
         journal.len(),
         &journal[..applied],
-    );
-    if !last.ok {
-        return no_event(REPLAY_FAILS);
-    }
+    ) else {
+        return Err(Refusal::ReplayFails);
+    };
     if !crate::comparison::same_state(&end, &end_floats, words, floats) {
-        return no_event(REPLAY_FAILS);
+        return Err(Refusal::ReplayFails);
     }
     crate::kept_rows::put_back(&mut end, &mut end_floats, last.clock, &kept, &kept_floats);
-    crate::kept_rows::copy_words(words, &end);
-    crate::kept_rows::copy_floats(floats, &end_floats);
+    words.copy_from_slice(&end);
+    floats.copy_from_slice(&end_floats);
     let place = last.place;
     crate::journal::clear(&mut journal[place..], applied - place);
-    no_event(0)
+    Ok(no_event(0))
 }

@@ -1,8 +1,9 @@
 // Where the state of an engine lies in lent memory: sixteen clocks, then the counts, then the queue of requests.
 ghost use Rattle.std.specs.Prelude.{◌≡◌, [], true, ◌+◌, ◌<◌, length, get_or};
-ghost use Rattle.engine.specs.StateRows.{request_from, coded_request};
+ghost use Rattle.engine.specs.State.{counts_of};
+ghost use Rattle.engine.specs.StateRows.{request_from, shared_from, coded_request};
 
-use crate::state::Request;
+use crate::state::{Counts, Request};
 use clocks::layout::u32_from;
 use clocks::ticks::Ticks;
 
@@ -39,8 +40,8 @@ pub const STATE_WORDS: usize = 177;
 
 pub const STATE_FLOATS: usize = 400;
 
-pub fn request_at(words: &[[u64; 8]], i: usize) -> Request
-    requires { (i < 16) × (length words.now ≡ 177) }
+pub fn request_at(words: &[[u64; 8]; STATE_WORDS], i: usize) -> Request
+    requires { i < 16 }
     ensures { result ≡ request_from (get_or words.now (161 + i) []) }
 {
     let row = words[REQUESTS + i];
@@ -52,6 +53,18 @@ pub fn request_at(words: &[[u64; 8]], i: usize) -> Request
         },
         priority: hazards::fields::i32_from(u32_from(row[REQUEST_PRIORITY])),
         index: row[REQUEST_INDEX],
+    }
+}
+
+pub(crate) fn counts_in(words: &[[u64; 8]; STATE_WORDS]) -> Counts
+    ensures { result ≡ counts_of (shared_from words.now) }
+{
+    let row = words[COUNTS];
+    Counts {
+        queued: row[QUEUED] as usize,
+        request_count: row[REQUEST_COUNT],
+        position: row[POSITION] as usize,
+        applied_length: row[APPLIED_LENGTH] as usize,
     }
 }
 

@@ -10,7 +10,7 @@ ghost use Rattle.engine.specs.declared.state.Request.{Request};
 
 use crate::state_rows::{
     APPLIED_LENGTH, CLOCKS, COUNTS, PLACES, POSITION, QUEUED, REQUEST_CLOCK, REQUEST_COUNT,
-    REQUEST_INDEX, REQUEST_PRIORITY, REQUESTS,
+    REQUEST_INDEX, REQUEST_PRIORITY, REQUESTS, STATE_FLOATS, STATE_WORDS,
 };
 use clocks::layout::{
     CLOCK_FLOATS, CLOCK_WORDS, EVENT, EVENT_INDEX, PRESENT, SCHEDULE, SETTINGS, WINNER,
@@ -18,18 +18,19 @@ use clocks::layout::{
 use clocks::validation::{clock_coded, valid_clock};
 
 // Every clock, present or not.
-fn clocks_coded<'a>(words: &'a [[u64; 8]], floats: &'a [[f64; 8]]) -> bool
-    requires { SizedState words.now floats.now }
+fn clocks_coded(words: &[[u64; 8]; STATE_WORDS], floats: &[[f64; 8]; STATE_FLOATS]) -> bool
     ensures { result ≡ coded_clocks words.now floats.now }
 {
-    let mut k: usize = 0;
-    while k < CLOCKS {
+    for k in 0..CLOCKS {
         let w = CLOCK_WORDS * k;
         let f = CLOCK_FLOATS * k;
-        if !clock_coded(&words[w..w + CLOCK_WORDS], &floats[f..f + CLOCK_FLOATS]) {
+        let rows = words[w..w + CLOCK_WORDS].as_array::<CLOCK_WORDS>().unwrap();
+        let numbers = floats[f..f + CLOCK_FLOATS]
+            .as_array::<CLOCK_FLOATS>()
+            .unwrap();
+        if !clock_coded(rows, numbers) {
             return false;
         }
-        k += 1;
     }
     true
 }
@@ -47,22 +48,16 @@ fn request_coded(row: &[u64; 8]) -> bool
 }
 
 // Every place for a request, used or not.
-fn requests_coded(words: &[[u64; 8]]) -> bool
-    requires { length words.now ≡ 177 }
+fn requests_coded(words: &[[u64; 8]; STATE_WORDS]) -> bool
     ensures { result ≡ coded_requests words.now }
 {
-    let mut i: usize = 0;
-    while i < PLACES {
-        if !request_coded(&words[REQUESTS + i]) {
-            return false;
-        }
-        i += 1;
-    }
-    true
+    words[REQUESTS..].iter().all(|row| request_coded(row))
 }
 
-pub(crate) fn coded_state<'a>(words: &'a [[u64; 8]], floats: &'a [[f64; 8]]) -> bool
-    requires { SizedState words.now floats.now }
+pub(crate) fn coded_state(
+    words: &[[u64; 8]; STATE_WORDS],
+    floats: &[[f64; 8]; STATE_FLOATS],
+) -> bool
     ensures { result ≡ coded_state words.now floats.now }
 {
     let clocks = clocks_coded(words, floats);
@@ -72,35 +67,36 @@ pub(crate) fn coded_state<'a>(words: &'a [[u64; 8]], floats: &'a [[f64; 8]]) -> 
 }
 
 // Whether clock k is there.
-fn is_present(words: &[[u64; 8]], k: usize) -> bool
-    requires { (k < 16) × (length words.now ≡ 177) }
+fn is_present(words: &[[u64; 8]; STATE_WORDS], k: usize) -> bool
+    requires { k < 16 }
     ensures { result ≡ present_in (part_at 10 k words.now) }
 {
     words[CLOCK_WORDS * k + SETTINGS][PRESENT] == 1
 }
 
 // Every clock that is there.
-fn valid_slots<'a>(words: &'a [[u64; 8]], floats: &'a [[f64; 8]]) -> bool
-    requires { SizedState words.now floats.now }
+fn valid_slots(words: &[[u64; 8]; STATE_WORDS], floats: &[[f64; 8]; STATE_FLOATS]) -> bool
     ensures { result ≡ all valid_slot (state_from words.now floats.now).slots }
 {
-    let mut k: usize = 0;
-    while k < CLOCKS {
+    for k in 0..CLOCKS {
         if is_present(words, k) {
             let w = CLOCK_WORDS * k;
             let f = CLOCK_FLOATS * k;
-            if !valid_clock(&words[w..w + CLOCK_WORDS], &floats[f..f + CLOCK_FLOATS]) {
+            let rows = words[w..w + CLOCK_WORDS].as_array::<CLOCK_WORDS>().unwrap();
+            let numbers = floats[f..f + CLOCK_FLOATS]
+                .as_array::<CLOCK_FLOATS>()
+                .unwrap();
+            if !valid_clock(rows, numbers) {
                 return false;
             }
         }
-        k += 1;
     }
     true
 }
 
 // The clock of request i is there, names it and holds a winner; its index is below the requests made. The floats do not matter.
-fn valid_request(words: &[[u64; 8]], i: usize) -> bool
-    requires { (i < 16) × (length words.now ≡ 177) }
+fn valid_request(words: &[[u64; 8]; STATE_WORDS], i: usize) -> bool
+    requires { i < 16 }
     ensures { (floats : FloatRows) → result ≡ valid_request (state_from words.now floats)
         (request_from (get_or words.now (161 + i) [])) }
 {
@@ -115,40 +111,35 @@ fn valid_request(words: &[[u64; 8]], i: usize) -> bool
         & ((b[EVENT] == 1) & ((b[EVENT_INDEX] == index) & ((b[WINNER] == 1) & made)))
 }
 
-fn valid_requests(words: &[[u64; 8]]) -> bool
-    requires { (length words.now ≡ 177) × (get_or (get_or words.now 160 []) 0 0 ≤ 16) }
+fn valid_requests(words: &[[u64; 8]; STATE_WORDS]) -> bool
+    requires { get_or (get_or words.now 160 []) 0 0 ≤ 16 }
     ensures { (floats : FloatRows) → result ≡ all (valid_request (state_from words.now floats))
         (queued_requests (shared_from words.now)) }
 {
     let queued = words[COUNTS][QUEUED] as usize;
-    let mut i: usize = 0;
-    while i < queued {
+    for i in 0..queued {
         if !valid_request(words, i) {
             return false;
         }
-        i += 1;
     }
     true
 }
 
 // No index twice.
-fn distinct_indices(words: &[[u64; 8]]) -> bool
-    requires { (length words.now ≡ 177) × (get_or (get_or words.now 160 []) 0 0 ≤ 16) }
+fn distinct_indices(words: &[[u64; 8]; STATE_WORDS]) -> bool
+    requires { get_or (get_or words.now 160 []) 0 0 ≤ 16 }
     ensures { result ≡ distinct (queued_requests (shared_from words.now)) }
 {
     let queued = words[COUNTS][QUEUED] as usize;
-    let mut i: usize = 0;
-    while i < queued {
+    for i in 0..queued {
         if crate::queue::is_among(words, i, words[REQUESTS + i][REQUEST_INDEX]) {
             return false;
         }
-        i += 1;
     }
     true
 }
 
-fn valid_queue(words: &[[u64; 8]]) -> bool
-    requires { length words.now ≡ 177 }
+fn valid_queue(words: &[[u64; 8]; STATE_WORDS]) -> bool
     ensures { (floats : FloatRows) → result ≡ valid_queue (state_from words.now floats) }
 {
     if words[COUNTS][QUEUED] > PLACES as u64 {
@@ -159,7 +150,7 @@ fn valid_queue(words: &[[u64; 8]]) -> bool
     requests & distinct
 }
 
-fn valid_counts<'a>(row: &'a [u64; 8], stream: &'a [u8], journal_length: usize) -> bool
+fn valid_counts(row: &[u64; 8], stream: &[u8], journal_length: usize) -> bool
     ensures { (queue : List Request)
         → result ≡ valid_shared stream.now journal_length (shared_of row.now queue) }
 {
@@ -169,13 +160,12 @@ fn valid_counts<'a>(row: &'a [u64; 8], stream: &'a [u8], journal_length: usize) 
 }
 
 // Whether a state passes refusal 1.
-pub fn valid_state<'a>(
-    words: &'a [[u64; 8]],
-    floats: &'a [[f64; 8]],
-    stream: &'a [u8],
+pub fn valid_state(
+    words: &[[u64; 8]; STATE_WORDS],
+    floats: &[[f64; 8]; STATE_FLOATS],
+    stream: &[u8],
     journal_length: usize,
 ) -> bool
-    requires { SizedState words.now floats.now }
     ensures { result ≡ (coded_state words.now floats.now
         && valid_state stream.now journal_length (state_from words.now floats.now)) }
 {

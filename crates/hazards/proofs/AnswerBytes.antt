@@ -1,6 +1,6 @@
 -- An answer's fields, written one after another, are its bytes.
-use mathlib.Core.Path.{◌≡◌, ◌∙◌}
-use mathlib.Core.Bool.{false}
+use mathlib.Core.Path.{◌≡◌, refl, ◌∙◌}
+use mathlib.Core.Bool.{Bool, true, false}
 use mathlib.Core.List.{List, ◌∷◌, ◌++◌, append_assoc}
 use Prim.Native.Nat.{ℕ, suc, ◌+◌, ◌*◌, ◌<◌, ◌≤◌}
 use native.Mathlib.Nat.{add-mul-div_left, add-mul-mod_self_left, mod-eq_of_lt, div-eq_of_lt, zero-add}
@@ -10,7 +10,8 @@ use lib.Dec.{leb, lit<}
 use lib.ListN.{length, length-append}
 use lib.Ieee.{binary64, to_bits}
 use Rattle.hazards.specs.Fields.{bytes_of, with_field, with_f64}
-use Rattle.hazards.specs.Answers.{answer_width, head_bytes, piece_bytes, answer_bytes, with_answer}
+use Rattle.std.specs.Int.{from_bool}
+use Rattle.hazards.specs.Answers.{answer_width, flag_byte, head_bytes, piece_bytes, answer_bytes, with_answer}
 use Rattle.hazards.specs.declared.answers.Answer.{Answer}
 use Rattle.hazards.proofs.Bytes.{bytes_of-length}
 use Rattle.hazards.proofs.Overwrite.{over, over-length, over_next, field_over}
@@ -20,6 +21,11 @@ pub bytes-cons : (n b x : ℕ) → b < 256 → bytes_of (suc n) (b + 256 * x) �
 unfolding bytes_of
 bytes-cons n b x h =
     rw (add-mul-mod_self_left b 256 x, mod-eq_of_lt h, add-mul-div_left b x (lit< tt), div-eq_of_lt h, zero-add)
+
+-- a flag as a byte
+pub flag_is : (flag : Bool) → from_bool flag ≡ flag_byte flag
+flag_is true = refl
+flag_is false = refl
 
 -- a piece and seven zero bytes are the bytes of a piece in eight
 piece_bytes_lem : (a : Answer) → a.piece < 256 → bytes_of 8 a.piece ≡ piece_bytes a

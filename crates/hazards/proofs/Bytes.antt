@@ -1,57 +1,20 @@
--- Laws of fields in byte buffers, once for every width: steps of the two loops, what was written reads back, and fields elsewhere are left
--- alone. Assumes nothing.
+-- Laws of fields in byte buffers, once for every width: what was written reads back, and fields elsewhere are left alone.
+-- Assumes nothing.
 use mathlib.Core.Path.{◌≡◌, refl, sym, ◌∙◌, ap, subst}
-use mathlib.Core.Bool.{Bool, true, false}
+use mathlib.Core.Bool.{true, false}
 use mathlib.Core.List.{List, [], ◌∷◌, ◌++◌, append_assoc}
-use Prim.Native.Nat.{ℕ, zero, suc, ◌+◌, ◌-◌, ◌*◌, ◌/◌, ◌%◌, ◌^◌, ◌<◌, ◌≤◌}
-use native.Mathlib.Nat.{sub_self, pow-suc, pow-le-pow_right, lt_of_lt_of_le, div-lt_iff_lt-mul, one-le-pow, zero-add, suc-add}
+use Prim.Native.Nat.{ℕ, zero, suc, ◌+◌, ◌-◌, ◌/◌, ◌^◌, ◌<◌, ◌≤◌}
+use native.Mathlib.Nat.{pow-suc, div-lt_iff_lt-mul, one-le-pow, zero-add, suc-add}
 use native.Mathlib.Omega.{arith}
 use lib.Dec.{T, leb, lit<}
 use lib.Ieee.{Float, binary64, of_bits, to_bits, fits}
 use lib.Ieee.Bits.{of_bits-to_bits, to_bits-lt}
-use lib.ListN.{length, get_or, set, take, drop, length-append, length-drop, take-append-drop}
-use lib.Seq.{drop-cons, drop-set-lt, take-suc-set, take_at, take-take, take-nil, take-append-le}
+use lib.ListN.{length, get_or, take, drop, length-append, length-drop}
+use lib.Seq.{take_at, take-take, take-nil, take-append-le}
 use lib.Seq.{drop_at, drop-drop, length-take-le, get_or-drop}
-use borrow.Author.Tests.{le-leb, lt-leb, leb-true, leb-false}
+use borrow.Author.Tests.{le-leb, leb-true}
 use Rattle.hazards.proofs.Cases.{by_test}
 use Rattle.hazards.specs.Fields.{little_endian, bytes_of, field_at, with_field, f64_at, with_f64}
-
--- ---- reading a word, from the last byte down
-pub read_none : (n : ℕ) (s : List ℕ) → little_endian (take (n - n) s) ≡ 0
-unfolding little_endian
-read_none n s = rw sub_self
-
-pub read_step : (n k : ℕ) (s : List ℕ) (at : ℕ) → 0 < k → k ≤ n → at + n ≤ length s
-    → little_endian (take (n - (k - 1)) (drop (at + (k - 1)) s))
-    ≡ get_or s (at + (k - 1)) 0 + 256 * little_endian (take (n - k) (drop (at + k) s))
-unfolding little_endian
-read_step n k s at p h l =
-    let e : n - (k - 1) ≡ suc (n - k) = omega arith in
-    let f : suc (at + (k - 1)) ≡ at + k = omega arith in
-    rw (e, drop-cons s (at + (k - 1)) 0 (omega arith), f)
-
-pub grow : (m x b : ℕ) → x < 256 ^ m → b < 256 → 256 * x + b < 256 ^ suc m
-grow m x b h k = rw (pow-suc 256 m) (omega arith)
-
-pub under : (m x : ℕ) → m ≤ 7 → x < 256 ^ m → x < 2 ^ 56
-under m x h k = lt_of_lt_of_le k (pow-le-pow_right (lit< tt) h)
-
--- ---- writing a word, from the first byte up
-pub write_step : (n i : ℕ) (s : List ℕ) (at y : ℕ) → i < n → at + n ≤ length s
-    → take (at + i) s ++ (bytes_of (n - i) y ++ drop (at + n) s)
-    ≡ take (at + (i + 1)) (set s (at + i) (y % 256)) ++ (bytes_of (n - (i + 1)) (y / 256) ++ drop (at + n) (set s (at + i) (y % 256)))
-unfolding bytes_of
-write_step n i s at y h l =
-    let e : n - i ≡ suc (n - (i + 1)) = omega arith in
-    let f : at + (i + 1) ≡ suc (at + i) = omega arith in
-    rw (e, f, take-suc-set s (at + i) (y % 256) (omega arith), drop-set-lt (at + n) s (at + i) (y % 256) (omega arith), append_assoc)
-
-pub write_none : (n i : ℕ) (s : List ℕ) (at y : ℕ) → n ≤ i → i ≤ n → take (at + i) s ++ (bytes_of (n - i) y ++ drop (at + n) s) ≡ s
-unfolding bytes_of
-write_none n i s at y h l =
-    let e : n - i ≡ 0 = omega arith in
-    let f : i ≡ n = omega arith in
-    rw (e, f, take-append-drop)
 
 -- ---- the bytes of a number
 pub bytes_of-length : (n x : ℕ) → length (bytes_of n x) ≡ n
@@ -73,15 +36,6 @@ little_endian-below [] h = lit< tt
 little_endian-below (b ∷ s) h =
     let rest = little_endian-below s (λ i. h (suc i)) in
     rw (pow-suc 256 (length s)) (omega (arith, h 0))
-
--- ---- whether a field lies whole, tested without a sum
-module _ (at width n : ℕ) (h : at ≤ n) where
-  room : (t : Bool) → leb width (n - at) ≡ t → leb width (n - at) ≡ leb (at + width) n
-  room true e = e ∙ sym (le-leb (at + width) n (omega (arith, leb-true width (n - at) e)))
-  room false e = e ∙ sym (lt-leb (at + width) n (omega (arith, leb-false width (n - at) e)))
-
-  pub room_left : leb width (n - at) ≡ leb (at + width) n
-  room_left = room (leb width (n - at)) refl
 
 -- ---- a field that lies whole, and one that is cut
 module _ (n : ℕ) (s : List ℕ) (at : ℕ) where

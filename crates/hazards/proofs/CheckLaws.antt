@@ -1,15 +1,12 @@
--- What the tests of a hazard come to: ends that ascend, refusal 6 from the tests of its parts, and a hazard that uses no pairs.
+-- What the tests of a hazard come to: ends that ascend, and a hazard that uses pairs or none.
 use mathlib.Core.Path.{◌≡◌, refl, sym, subst}
 use mathlib.Core.Bool.{Bool, true, false, not, ◌&&◌, true≢false}
 use mathlib.Core.List.{List, [], ◌∷◌}
-use Prim.Native.Nat.{◌<◌, ◌≤◌}
-use borrow.Author.Tests.{lt-ltb, le-ltb}
 use lib.Dec.{T}
 use lib.Ieee.{Float, nan, inf, fin, lt, le, is_nan}
-use Rattle.hazards.specs.Floats.{z, limit}
-use Rattle.hazards.specs.Lists.{all}
-use Rattle.hazards.specs.Rates.{Piece, used_pairs, uses_pairs, wait_of_rate, invert_cumulative_hazard}
-use Rattle.hazards.specs.Checks.{range_fault, pairs_from, zero_pair, ascending, unused_fault, pairs_fault, intervals_fault}
+use Rattle.hazards.specs.Floats.{limit}
+use Rattle.hazards.specs.Rates.{Piece, uses_pairs, wait_of_rate, invert_cumulative_hazard}
+use Rattle.hazards.specs.Checks.{range_fault, ascending, unused_fault, pairs_fault, intervals_fault}
 use Rattle.hazards.specs.declared.rates.HazardRate.{HazardRate}
 use Rattle.hazards.specs.declared.rates.HazardRate.TheVariants.{Zero, Constant, Gompertz, Piecewise, Weibull}
 use Rattle.hazards.specs.declared.rates.Intervals.{Intervals}
@@ -44,15 +41,6 @@ pub ascending_none : (before : Float) {ps : List Piece} → ps ≡ [] → ascend
 unfolding ascending
 ascending_none before none = rw none
 
--- ---- refusal 6 of a piecewise hazard: its count is above 8, or not
-
-pub pairs_over : (p : Intervals) → 8 < p.count → true ≡ pairs_fault p
-pairs_over p over = rw (lt-ltb 8 p.count over)
-
-pub pairs_are : (p : Intervals) {zeros ends : Bool} → p.count ≤ 8 → zeros ≡ all zero_pair (pairs_from p p.count)
-    → ends ≡ ascending z (used_pairs p) → not (zeros && ends) ≡ pairs_fault p
-pairs_are p few e₁ e₂ = rw (e₁, e₂, le-ltb 8 p.count few)
-
 -- ---- a hazard that uses no pairs: 5 and the wait are the same whatever they hold, and 6 asks that they are zero
 
 pub single_range : (h : HazardRate) (p q : Intervals) → uses_pairs h ≡ false → range_fault h q ≡ range_fault h p
@@ -62,6 +50,14 @@ single_range (Constant rate) p q e = refl
 single_range (Gompertz eta) p q e = refl
 single_range (Piecewise trailing) p q e = absurd (true≢false e)
 single_range (Weibull scale) p q e = refl
+
+pub used_intervals : (h : HazardRate) (p : Intervals) → uses_pairs h ≡ true → pairs_fault p ≡ intervals_fault h p
+unfolding uses_pairs intervals_fault
+used_intervals Zero p e = absurd (true≢false (sym e))
+used_intervals (Constant rate) p e = absurd (true≢false (sym e))
+used_intervals (Gompertz eta) p e = absurd (true≢false (sym e))
+used_intervals (Piecewise trailing) p e = refl
+used_intervals (Weibull scale) p e = absurd (true≢false (sym e))
 
 pub single_intervals : (h : HazardRate) (p : Intervals) → uses_pairs h ≡ false → unused_fault p ≡ intervals_fault h p
 unfolding uses_pairs intervals_fault

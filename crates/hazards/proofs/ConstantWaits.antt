@@ -11,13 +11,13 @@ use lib.Ieee.{Float, nan, inf, fin, binary64, up, down, div, lt, le}
 use lib.Ieee.Fits.{and_i, and_r, down_pos}
 use lib.Ieee.Bits.{is_true}
 use lib.Ieee.Positive.{positive}
+use Rattle.std.specs.Prelude.{Option, None, Some}
 use Rattle.hazards.specs.Floats.{z, limit, minus_limit, not_below_zero, in_range}
-use Rattle.hazards.specs.Rates.{constant_wait, wait_of_rate, invert_cumulative_hazard}
+use Rattle.hazards.specs.Rates.{constant_wait, wait_of_rate, invert_cumulative_hazard, some_wait}
 use Rattle.hazards.specs.RateForWait.{within_limits, Gives, WaitsExactly, ConstantHazard}
 use Rattle.hazards.specs.declared.rates.HazardRate.TheVariants.{Constant}
 use Rattle.hazards.specs.declared.rates.Intervals.{Intervals}
 use Rattle.hazards.specs.declared.rates.Wait.{Wait}
-use Rattle.hazards.specs.declared.rates.Wait.TheVariants.{After, Never}
 use Rattle.hazards.proofs.Cases.{by_test}
 use Rattle.hazards.proofs.UptoOrder.{lt-le}
 use Rattle.hazards.proofs.AboveZero.{above_positive, positive_above, positive-not-le-zero}
@@ -26,22 +26,22 @@ use Rattle.hazards.proofs.RateForWait.{gives_positive, threshold_positive}
 -- ---- the wait of a constant rate
 
 module _ (w rate : Float) (p : T (positive w)) (pairs : Intervals) (start : Float) where
-  waits_through : T (positive rate) → invert_cumulative_hazard (Constant rate) pairs start w ≡ After (div binary64 w rate) 0
+  waits_through : T (positive rate) → invert_cumulative_hazard (Constant rate) pairs start w ≡ some_wait (div binary64 w rate) 0
   unfolding invert_cumulative_hazard wait_of_rate not_below_zero constant_wait
   waits_through q =
       rw (positive-not-le-zero w p, is_true (lt z rate) (positive_above rate q), positive-not-le-zero rate q)
 
-  waits_never : lt z rate ≡ false → invert_cumulative_hazard (Constant rate) pairs start w ≡ Never
+  waits_never : lt z rate ≡ false → invert_cumulative_hazard (Constant rate) pairs start w ≡ None
   unfolding invert_cumulative_hazard wait_of_rate not_below_zero constant_wait le
   waits_never n = rw (positive-not-le-zero w p, n)
 
-abbrev is_after : Wait → Bool
-is_after (After t piece) = true
-is_after Never = false
+abbrev is_after : Option Wait → Bool
+is_after (Some wait) = true
+is_after None = false
 
-abbrev time_of : Wait → Float
-time_of (After t piece) = t
-time_of Never = z
+abbrev time_of : Option Wait → Float
+time_of (Some wait) = wait.time
+time_of None = z
 
 -- ---- a rate above 0 and at most 2^40 is in range
 
@@ -70,7 +70,7 @@ module _ (w wait rate : Float) (l : within_limits w wait ≡ true) where
       record {
         is_f64 = g.is_f64;
         in_limits = and_i (le minus_limit rate) (le rate limit) (above_minus rate q) g.at_most;
-        waits = λ pairs start. waits_through w rate p pairs start q ∙ ap (λ (t : Float). After t 0) g.exactly;
+        waits = λ pairs start. waits_through w rate p pairs start q ∙ ap (λ (t : Float). some_wait t 0) g.exactly;
       }
 
   nothing : Intervals

@@ -1,6 +1,6 @@
 -- Laws of a draw: its four ways, and what its number says of the position and the threshold.
 -- Assumes nothing.
-use mathlib.Core.Path.{◌≡◌, refl, sym, ap, subst}
+use mathlib.Core.Path.{◌≡◌, refl, sym, ap, subst, ◌∙◌}
 use mathlib.Core.Bool.{Bool, true, false}
 use mathlib.Core.List.{List}
 use Prim.Native.Nat.{ℕ, ◌+◌, ◌<◌, ◌≤◌}
@@ -8,9 +8,12 @@ use native.Mathlib.Omega.{arith}
 use lib.Dec.{ltb, eqb}
 use borrow.Author.Tests.{lt-ltb, le-ltb, eq-eqb, ne_eqb, ltb-true, ltb-false, eqb-true, eqb-false}
 use Rattle.hazards.specs.Floats.{is_threshold}
-use Rattle.hazards.specs.Refusals.{invalid_state, stream_exhausted, bad_threshold}
-use Rattle.hazards.specs.Draws.{stream_length, threshold_at, refused_draw, draw_at}
-use Rattle.hazards.specs.declared.draws.DrawAndPosition.{DrawAndPosition}
+use Rattle.hazards.specs.Refusals.{number, invalid_state, stream_exhausted, bad_threshold}
+use Rattle.std.specs.Prelude.{Err}
+use Rattle.hazards.specs.Draws.{DrawAndPosition, stream_length, threshold_at, refused_draw, draw_at, with_position, draw_of, draw_and_position}
+use Rattle.hazards.specs.declared.draws.StreamPosition.{StreamPosition}
+use Rattle.hazards.specs.declared.refusals.Refusal.{Refusal}
+use Rattle.hazards.proofs.RefusalLaws.{number_not_zero}
 
 -- a draw that is not refused
 abbrev pub accepted_draw : List ℕ → ℕ → DrawAndPosition
@@ -97,6 +100,13 @@ module _ (stream : List ℕ) (position : ℕ) where
 
   pub refused_position : (draw_number ≡ 0 → ⊥) → (draw_at stream position).position.next ≡ position
   refused_position n = ap (λ (d : DrawAndPosition). d.position.next) (refused_stays n)
+
+  -- the position that was lent and comes back with a refusal is the one that the definition gives
+  pub refused_lent : (refusal : Refusal) (lent : StreamPosition) → with_position (draw_of (Err refusal)) lent ≡ draw_at stream position
+      → draw_and_position position (Err refusal) ≡ draw_at stream position
+  refused_lent refusal lent h =
+      let e : number refusal ≡ draw_number = ap (λ (d : DrawAndPosition). d.number) h in
+      ap (λ (r : ℕ). refused_draw r position) e ∙ sym (refused_stays (λ q. number_not_zero refusal (e ∙ q)))
 
   -- ---- any draw from within the stream ends within it
   pub draw_within : position ≤ stream_length stream → (draw_at stream position).position.next ≤ stream_length stream

@@ -4,18 +4,11 @@ use mathlib.Core.Bool.{Bool}
 use Prim.Native.Nat.{ℕ}
 use borrow.Author.Tests.{eq-eqb, ne_eqb}
 use lib.Ieee.{Float}
-use Rattle.hazards.specs.Refusals.{joined, range_fault_unless, number_of}
-use Rattle.hazards.specs.Checks.{hazard_faults, hazard_of, intervals_of}
-use Rattle.hazards.specs.Evaluations.{valued, without_value, evaluation_refusal, unless_refused}
+use Rattle.hazards.specs.Checks.{hazard_of, intervals_of}
+use Rattle.hazards.specs.Evaluations.{Evaluation, valued, without_value, evaluation_refusal, unless_refused}
 use Rattle.hazards.specs.declared.checks.HazardFields.{HazardFields}
-use Rattle.hazards.specs.declared.refusals.Faults.{Faults}
 use Rattle.hazards.specs.declared.rates.HazardRate.{HazardRate}
 use Rattle.hazards.specs.declared.rates.Intervals.{Intervals}
-use Rattle.hazards.specs.declared.evaluations.Evaluation.{Evaluation}
-
-pub refusal-of : (f : HazardFields) (ok : Bool) {n : ℕ} {a b j : Faults}
-    → n ≡ number_of j → j ≡ joined a b → a ≡ hazard_faults f → b ≡ range_fault_unless ok → n ≡ evaluation_refusal f ok
-refusal-of f ok en ej ea eb = rw (en, ej, ea, eb)
 
 module _ {A : Type 0} (without : ℕ → A) where
   unless_zero : (n : ℕ) (e : A) → n ≡ 0 → unless_refused without n e ≡ e

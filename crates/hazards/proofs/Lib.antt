@@ -13,6 +13,7 @@ pub mod ConstantWaits
 pub mod DrawLaws
 pub mod EvaluationLaws
 pub mod Exact
+pub mod FieldBytes
 pub mod FiniteOrder
 pub mod FloatRoots
 pub mod HazardBounds
@@ -29,13 +30,13 @@ pub mod Pieces
 pub mod PieceStruck
 pub mod QuotientOrder
 pub mod RateForWait
+pub mod RefusalLaws
 pub mod Reorderings
 pub mod PatternOrder
 pub mod PatternValues
 pub mod Patterns
 pub mod PublicBounds
 pub mod SamplerLaws
-pub mod Signed
 pub mod SignedOperations
 pub mod Signs
 pub mod SoundPairs

@@ -10,6 +10,7 @@ use lib.Dec.{T, eqb}
 use lib.ListN.{length, take}
 use lib.Ieee.{Float, binary64, sub, lt, fits}
 use lib.Ieee.Fits.{and_l, and_r}
+use Rattle.std.specs.Prelude.{Option, Some, None}
 use Rattle.hazards.specs.Floats.{not_below_zero, is_time, is_finite_wait}
 use Rattle.hazards.specs.Lists.{foldl}
 use Rattle.hazards.specs.Refusals.{no_cause}
@@ -24,10 +25,7 @@ use Rattle.hazards.specs.ListOrder.{Reordered, different_causes, AnyOrder, Censo
 use Rattle.hazards.specs.ListOrder.{sampled, drawn_candidates, IsCandidate, LeavesNoCandidate, Winner, OnlyThen}
 use Rattle.hazards.specs.declared.answers.Answer.{Answer}
 use Rattle.hazards.specs.declared.rates.Wait.{Wait}
-use Rattle.hazards.specs.declared.rates.Wait.TheVariants.{After, Never}
 use Rattle.hazards.specs.declared.ties.Candidate.{Candidate}
-use Rattle.hazards.specs.declared.ties.Earliest.{Earliest}
-use Rattle.hazards.specs.declared.ties.Earliest.TheVariants.{Nothing, Found}
 use Rattle.hazards.specs.declared.sampler.CompetingCause.{CompetingCause}
 use Rattle.hazards.specs.declared.sampler.SampleSettings.{SampleSettings}
 use Rattle.hazards.proofs.Bounds.{Upto}
@@ -74,14 +72,14 @@ record Drawn (c : Candidate) : Type 0 where
   finite : T (is_finite_wait c.time)
   held : T (fits binary64 c.time)
 
-after_drawn : (cause priority : ℕ) (wait : Wait) → Held wait → (c : Candidate) → Member c (candidate_after cause priority (λ t. t) wait)
+after_drawn : (cause priority : ℕ) (wait : Option Wait) → Held wait → (c : Candidate) → Member c (candidate_after cause priority (λ t. t) wait)
     → Drawn c
 unfolding candidate_after
-after_drawn cause priority Never h c p = absurd p
-after_drawn cause priority (After t piece) h c p =
-    by_test (is_finite_wait t)
-    (λ (e : is_finite_wait t ≡ true). elim (rw e at p) [ inl q ↦ rw q (record { finite = rw e tt; held = h }) | inr q ↦ absurd q ])
-    (λ (e : is_finite_wait t ≡ false). absurd (rw e at p))
+after_drawn cause priority None h c p = absurd p
+after_drawn cause priority (Some wait) h c p =
+    by_test (is_finite_wait wait.time)
+    (λ (e : is_finite_wait wait.time ≡ true). elim (rw e at p) [ inl q ↦ rw q (record { finite = rw e tt; held = h }) | inr q ↦ absurd q ])
+    (λ (e : is_finite_wait wait.time ≡ false). absurd (rw e at p))
 
 candidates_drawn : (cs : List CompetingCause) (age : Float) (threshold : ℕ → Float) (k : ℕ) (c : Candidate)
     → Member c (candidates cs age threshold k) → Drawn c
@@ -142,43 +140,43 @@ module _ (s : SampleSettings) where
   won w = event_of w.cause_id w.time false w.piece
 
   -- longer than the span to the censor age
-  abbrev Longer : Earliest → Type 0
-  Longer Nothing = Unit {0}
-  Longer (Found w) = lt span w.time ≡ true
+  abbrev Longer : Option Candidate → Type 0
+  Longer None = Unit {0}
+  Longer (Some w) = lt span w.time ≡ true
 
   -- ---- a censored answer: without a candidate, with one
 
-  censored_none : is_censored (censored_at Nothing s) ≡ true → s.has_censor ≡ 1
+  censored_none : is_censored (censored_at None s) ≡ true → s.has_censor ≡ 1
   unfolding censored_at
   censored_none h =
       let both = both_true given _ (first-of is_censored ahead (at_censor difference) (no_event 0) h (λ e. true≢false (sym e))) in
       eqb-true s.has_censor 1 both.0
 
-  censored_found : (w : Candidate) → is_censored (censored_at (Found w) s) ≡ true → (s.has_censor ≡ 1) × (lt span w.time ≡ true)
+  censored_found : (w : Candidate) → is_censored (censored_at (Some w) s) ≡ true → (s.has_censor ≡ 1) × (lt span w.time ≡ true)
   unfolding censored_at
   censored_found w h =
       let both = both_true given _ (first-of is_censored (after w) (at_censor span) (won w) h (λ e. true≢false (sym e))) in
       (eqb-true s.has_censor 1 both.0, both.1)
 
-  censored_tells : (e : Earliest) → is_censored (censored_at e s) ≡ true → (s.has_censor ≡ 1) × Longer e
-  censored_tells Nothing h = (censored_none h, tt)
-  censored_tells (Found w) h = censored_found w h
+  censored_tells : (e : Option Candidate) → is_censored (censored_at e s) ≡ true → (s.has_censor ≡ 1) × Longer e
+  censored_tells None h = (censored_none h, tt)
+  censored_tells (Some w) h = censored_found w h
 
   -- ---- an uncensored event is that of the earliest candidate, which is not longer than the span
 
-  record Wins (e : Earliest) : Type 0 where
+  record Wins (e : Option Candidate) : Type 0 where
     winner : Candidate
-    found : e ≡ Found winner
+    found : e ≡ Some winner
     answers : censored_at e s ≡ won winner
     within : s.has_censor ≡ 1 → lt span winner.time ≡ false
 
-  event_none : is_event (censored_at Nothing s) ≡ true → is_censored (censored_at Nothing s) ≡ false → ⊥
+  event_none : is_event (censored_at None s) ≡ true → is_censored (censored_at None s) ≡ false → ⊥
   unfolding censored_at
   event_none h k =
       let no = second_of is_censored ahead (at_censor difference) (no_event 0) k true≢false in
       true≢false (sym (first-of is_event ahead (at_censor difference) (no_event 0) h (λ e. true≢false (sym e))) ∙ no)
 
-  event_found : (w : Candidate) → is_censored (censored_at (Found w) s) ≡ false → Wins (Found w)
+  event_found : (w : Candidate) → is_censored (censored_at (Some w) s) ≡ false → Wins (Some w)
   unfolding censored_at
   event_found w k =
       let no = second_of is_censored (after w) (at_censor span) (won w) k true≢false in
@@ -189,33 +187,33 @@ module _ (s : SampleSettings) where
         within = λ e. one_holds given (lt span w.time) no (eq-eqb s.has_censor 1 e);
       }
 
-  event_tells : (e : Earliest) → is_event (censored_at e s) ≡ true → is_censored (censored_at e s) ≡ false → Wins e
-  event_tells Nothing h k = absurd (event_none h k)
-  event_tells (Found w) h k = event_found w k
+  event_tells : (e : Option Candidate) → is_event (censored_at e s) ≡ true → is_censored (censored_at e s) ≡ false → Wins e
+  event_tells None h k = absurd (event_none h k)
+  event_tells (Some w) h k = event_found w k
 
   -- ---- no event is answered for no candidate and no censor age above the current one
 
-  nothing_none : is_event (censored_at Nothing s) ≡ false → s.has_censor ≡ 1 → lt s.current_age s.censor_age ≡ false
+  nothing_none : is_event (censored_at None s) ≡ false → s.has_censor ≡ 1 → lt s.current_age s.censor_age ≡ false
   unfolding censored_at
   nothing_none h e =
       let no = second_of is_event ahead (at_censor difference) (no_event 0) h true≢false in
       one_holds given (lt s.current_age s.censor_age) no (eq-eqb s.has_censor 1 e)
 
-  nothing_found : (w : Candidate) → is_event (censored_at (Found w) s) ≡ false → ⊥
+  nothing_found : (w : Candidate) → is_event (censored_at (Some w) s) ≡ false → ⊥
   unfolding censored_at
   nothing_found w h =
       let no = second_of is_event (after w) (at_censor span) (won w) h true≢false in
       true≢false (sym (first-of is_event (after w) (at_censor span) (won w) h true≢false) ∙ no)
 
-  nothing_tells : (e : Earliest) → is_event (censored_at e s) ≡ false
-      → (e ≡ Nothing) × (s.has_censor ≡ 1 → lt s.current_age s.censor_age ≡ false)
-  nothing_tells Nothing h = (refl, nothing_none h)
-  nothing_tells (Found w) h = absurd (nothing_found w h)
+  nothing_tells : (e : Option Candidate) → is_event (censored_at e s) ≡ false
+      → (e ≡ None) × (s.has_censor ≡ 1 → lt s.current_age s.censor_age ≡ false)
+  nothing_tells None h = (refl, nothing_none h)
+  nothing_tells (Some w) h = absurd (nothing_found w h)
 
   not_ahead : (s.has_censor ≡ 1 → lt s.current_age s.censor_age ≡ false) → ahead ≡ false
   not_ahead h = by_test given (λ p. rw (p, h (eqb-true s.has_censor 1 p))) (λ p. rw p)
 
-  told_nothing : (s.has_censor ≡ 1 → lt s.current_age s.censor_age ≡ false) → censored_at Nothing s ≡ no_event 0
+  told_nothing : (s.has_censor ≡ 1 → lt s.current_age s.censor_age ≡ false) → censored_at None s ≡ no_event 0
   unfolding censored_at
   told_nothing h = ap (λ (b : Bool). cond b (at_censor difference) (no_event 0)) (not_ahead h)
 
@@ -241,7 +239,7 @@ module _ (causes : List CompetingCause) (n : ℕ) (s : SampleSettings) (stream :
   abbrev answer : Answer
   answer = (sampled causes n s stream position).answer
 
-  abbrev best : Earliest
+  abbrev best : Option Candidate
   best = earliest (tie_breaker_of s.tie) (drawn_candidates causes n s stream position)
 
   refusal_zero : answer.number ≡ 0 → sample_refusal causes n s stream position ≡ 0
@@ -293,11 +291,11 @@ module _ (causes : List CompetingCause) (n : ℕ) (s : SampleSettings) (stream :
   -- ---- a censored answer
 
   -- where the earliest is longer than the span, so is every candidate
-  all-longer : T (is_finite_wait (span s)) → (e : Earliest)
+  all-longer : T (is_finite_wait (span s)) → (e : Option Candidate)
       → BestOf (tie_breaker_of s.tie) e (λ c. Member c (drawn_candidates causes n s stream position)) → Longer s e
       → (c : Candidate) → Member c (drawn_candidates causes n s stream position) → lt (span s) c.time ≡ true
-  all-longer f Nothing b l c p = absurd (b c p)
-  all-longer f (Found w) b l c p =
+  all-longer f None b l c p = absurd (b c p)
+  all-longer f (Some w) b l c p =
       let cf = (all-drawn c p).finite in
       let wf = (all-drawn w b.seen).finite in
       let rival = (not_preceding (tie_breaker_of s.tie) c w cf wf (b.unpreceded c p)).0 in
@@ -324,7 +322,7 @@ module _ (causes : List CompetingCause) (n : ℕ) (s : SampleSettings) (stream :
 
   -- ---- an uncensored winner
 
-  module _ (accepted : sample_refusal causes n s stream position ≡ 0) (w : Candidate) (found : best ≡ Found w) where
+  module _ (accepted : sample_refusal causes n s stream position ≡ 0) (w : Candidate) (found : best ≡ Some w) where
     found_best : Best (tie_breaker_of s.tie) (λ c. Member c (drawn_candidates causes n s stream position)) w
     found_best = rw found at best_drawn
 
@@ -358,10 +356,10 @@ module _ (causes : List CompetingCause) (n : ℕ) (s : SampleSettings) (stream :
 
   -- ---- no event
 
-  none_found : best ≡ Nothing → drawn_candidates causes n s stream position ≡ []
+  none_found : best ≡ None → drawn_candidates causes n s stream position ≡ []
   none_found e = no_member (drawn_candidates causes n s stream position) (rw e at best_drawn)
 
-  none_best : drawn_candidates causes n s stream position ≡ [] → best ≡ Nothing
+  none_best : drawn_candidates causes n s stream position ≡ [] → best ≡ None
   unfolding earliest foldl
   none_best e = rw e
 
@@ -374,7 +372,7 @@ module _ (causes : List CompetingCause) (n : ℕ) (s : SampleSettings) (stream :
             record { no_candidate = none_found tells.0; no-censor = tells.1 };
         then = λ nothing.
             answered
-            ∙ ap (λ (e : Earliest). censored_at e s) (none_best nothing.no_candidate)
+            ∙ ap (λ (e : Option Candidate). censored_at e s) (none_best nothing.no_candidate)
             ∙ told_nothing s nothing.no-censor;
       }
 

@@ -9,7 +9,7 @@ use lib.Ieee.{Float, nan, inf, fin, div, lt, le, ne, of_bits, to_bits, nan_bits,
 use lib.Ieee.Bits.{nan_bits_is, nan_bits_above}
 use lib.Ieee.Compare.{differs_from_itself, nan_differs}
 
-is_nan_lem : (x : Float) → is_nan x ≡ true → x ≡ nan
+pub is_nan_lem : (x : Float) → is_nan x ≡ true → x ≡ nan
 unfolding is_nan
 is_nan_lem nan h = refl
 is_nan_lem (inf s) h = absurd (subst (λ (b : Bool). T (not b)) h tt)

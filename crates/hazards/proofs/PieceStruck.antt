@@ -9,30 +9,30 @@ use borrow.Author.Tests.{ltb-true, ltb-false}
 use lib.Dec.{ltb}
 use lib.ListN.{length, drop, length-drop}
 use lib.Ieee.{Float, binary64, add, sub, mul, div, lt, le}
+use Rattle.std.specs.Prelude.{Option, None, Some}
 use Rattle.hazards.specs.Floats.{z, not_below_zero, is_finite_wait}
 use Rattle.hazards.specs.Rates.{Piece, first_after, used_pairs, uses_pairs, ends_in, wait_through, wait_from, constant_wait, weibull_wait}
-use Rattle.hazards.specs.Rates.{wait_of_rate, invert_cumulative_hazard}
+use Rattle.hazards.specs.Rates.{wait_of_rate, invert_cumulative_hazard, some_wait}
 use Rattle.hazards.specs.PieceUsed.{rate_of, end_of, capacity_from, left_at, holds_at, EndsIn, PieceUsed, OnePiece, PieceZero}
 use Rattle.hazards.specs.declared.rates.HazardRate.{HazardRate}
 use Rattle.hazards.specs.declared.rates.HazardRate.TheVariants.{Zero, Constant, Gompertz, Piecewise, Weibull}
 use Rattle.hazards.specs.declared.rates.Intervals.{Intervals}
 use Rattle.hazards.specs.declared.rates.Wait.{Wait}
-use Rattle.hazards.specs.declared.rates.Wait.TheVariants.{After, Never}
 use Rattle.hazards.proofs.Cases.{by_test, both_true}
 
 -- ---- what an inversion found, taken apart
 
-abbrev time_in : Wait → Float
-time_in (After t piece) = t
-time_in Never = z
+abbrev time_in : Option Wait → Float
+time_in (Some wait) = wait.time
+time_in None = z
 
-abbrev piece_in : Wait → ℕ
-piece_in (After t piece) = piece
-piece_in Never = 0
+abbrev piece_in : Option Wait → ℕ
+piece_in (Some wait) = wait.piece
+piece_in None = 0
 
-abbrev is_after : Wait → Bool
-is_after (After t piece) = true
-is_after Never = false
+abbrev is_after : Option Wait → Bool
+is_after (Some wait) = true
+is_after None = false
 
 -- ---- from a place of the curve on: the pieces qs, of which the first has index i and begins at cur
 
@@ -71,14 +71,14 @@ passed_of p ps cur w place first others (suc j) l = others j (omega (arith, l))
 
 module _ (trailing start : Float) {wait : Float} {piece : ℕ} (finite : is_finite_wait wait ≡ true) where
   -- the wait through a piece has that piece
-  through : (i : ℕ) (cur rate w : Float) → wait_through i start cur rate w ≡ After wait piece
+  through : (i : ℕ) (cur rate w : Float) → wait_through i start cur rate w ≡ some_wait wait piece
       → (piece ≡ i) × (wait ≡ sub binary64 (add binary64 cur (div binary64 w rate)) start)
   unfolding ends_in
   through i cur rate w e =
       let t = sym (ap time_in e) in
       (sym (ap piece_in e) ∙ rw (← t, finite), t)
 
-  ends_from : (i : ℕ) (qs : List Piece) (cur w : Float) → wait_from i qs trailing start cur w ≡ After wait piece
+  ends_from : (i : ℕ) (qs : List Piece) (cur w : Float) → wait_from i qs trailing start cur w ≡ some_wait wait piece
       → EndsFrom i qs trailing start cur w wait piece
   unfolding wait_from rate_of end_of left_at holds_at
   ends_from i [] cur w e =
@@ -212,20 +212,20 @@ one_piece ps trailing start w wait wait' piece piece' a b =
 -- ---- no piece
 
 -- a wait's piece is 0, whatever the wait
-abbrev Zeroed : Wait → Type 0
+abbrev Zeroed : Option Wait → Type 0
 Zeroed wait = piece_in wait ≡ 0
 
-either_zeroed : (b : Bool) (x y : Wait) → Zeroed x → Zeroed y → Zeroed (cond b x y)
+either_zeroed : (b : Bool) (x y : Option Wait) → Zeroed x → Zeroed y → Zeroed (cond b x y)
 either_zeroed true x y h k = h
 either_zeroed false x y h k = k
 
 constant_zeroed : (rate w : Float) → Zeroed (constant_wait rate w)
 unfolding constant_wait
-constant_zeroed rate w = either_zeroed (le rate z) Never _ refl refl
+constant_zeroed rate w = either_zeroed (le rate z) None _ refl refl
 
 weibull_zeroed : (scale start w : Float) → Zeroed (weibull_wait scale start w)
 unfolding weibull_wait
-weibull_zeroed scale start w = either_zeroed (le scale z) Never _ refl refl
+weibull_zeroed scale start w = either_zeroed (le scale z) None _ refl refl
 
 rate_zeroed : (h : HazardRate) (p : Intervals) (start w : Float) → uses_pairs h ≡ false → Zeroed (wait_of_rate h p start w)
 unfolding wait_of_rate uses_pairs
@@ -236,10 +236,10 @@ rate_zeroed (Piecewise trailing) p start w u = absurd (true≢false u)
 rate_zeroed (Weibull scale) p start w u = weibull_zeroed scale start w
 
 -- a wait's piece is 0 unless the wait is finite
-abbrev FiniteOnly : Wait → Type 0
+abbrev FiniteOnly : Option Wait → Type 0
 FiniteOnly wait = is_finite_wait (time_in wait) ≡ false → piece_in wait ≡ 0
 
-either_finite : (b : Bool) (x y : Wait) → FiniteOnly x → FiniteOnly y → FiniteOnly (cond b x y)
+either_finite : (b : Bool) (x y : Option Wait) → FiniteOnly x → FiniteOnly y → FiniteOnly (cond b x y)
 either_finite true x y h k = h
 either_finite false x y h k = k
 
@@ -250,7 +250,7 @@ through_finite i start cur rate w n = rw n
 piecewise_finite : (i : ℕ) (ps : List Piece) (trailing start cur w : Float) → FiniteOnly (wait_from i ps trailing start cur w)
 unfolding wait_from
 piecewise_finite i [] trailing start cur w =
-    either_finite (le (not_below_zero trailing) z) Never _ (λ n. refl) (through_finite i start cur (not_below_zero trailing) w)
+    either_finite (le (not_below_zero trailing) z) None _ (λ n. refl) (through_finite i start cur (not_below_zero trailing) w)
 piecewise_finite i (p ∷ ps) trailing start cur w =
     let rate = not_below_zero p.rate in
     let capacity = mul binary64 rate (sub binary64 p.end cur) in
@@ -272,10 +272,10 @@ unfolding invert_cumulative_hazard
 piece_zero h p start w wait piece e = record {
   other_kinds = λ u.
       sym (ap piece_in e)
-      ∙ either_zeroed (le w z) (After z 0) (wait_of_rate h p (not_below_zero start) w) refl (rate_zeroed h p (not_below_zero start) w u);
+      ∙ either_zeroed (le w z) (some_wait z 0) (wait_of_rate h p (not_below_zero start) w) refl (rate_zeroed h p (not_below_zero start) w u);
   no_threshold = λ l. sym (ap piece_in e) ∙ rw l;
   no_finite_wait = λ n.
       sym (ap piece_in e)
-      ∙ either_finite (le w z) (After z 0) (wait_of_rate h p (not_below_zero start) w) (λ m. refl) (rate_finite h p (not_below_zero start) w)
+      ∙ either_finite (le w z) (some_wait z 0) (wait_of_rate h p (not_below_zero start) w) (λ m. refl) (rate_finite h p (not_below_zero start) w)
       (ap is_finite_wait (ap time_in e) ∙ n);
 }

@@ -10,6 +10,7 @@ use lib.ListN.{take}
 use lib.Ieee.{Float, inf, binary64, sub, lt, le, fits}
 use lib.Ieee.Fits.{and_i, and_l, and_r}
 use borrow.Author.Tests.{eqb-true}
+use Rattle.std.specs.Prelude.{Option, Some, None}
 use Rattle.hazards.specs.Floats.{z, limit, minus_limit, not_below_zero, in_range, is_time, is_finite_wait}
 use Rattle.hazards.specs.Lists.{foldl}
 use Rattle.hazards.specs.Refusals.{range_fault_unless}
@@ -24,13 +25,10 @@ use Rattle.hazards.specs.Sampler.{sample_next}
 use Rattle.hazards.proofs.Bounds.{Upto}
 use Rattle.hazards.proofs.Signs.{NotBelow, Signed}
 use Rattle.hazards.specs.declared.checks.HazardFields.{HazardFields}
-use Rattle.hazards.specs.declared.evaluations.Evaluation.{Evaluation}
-use Rattle.hazards.specs.declared.evaluations.Inversion.{Inversion}
+use Rattle.hazards.specs.Evaluations.{Evaluation}
+use Rattle.hazards.specs.Evaluations.{Inversion}
 use Rattle.hazards.specs.declared.rates.Wait.{Wait}
-use Rattle.hazards.specs.declared.rates.Wait.TheVariants.{After, Never}
 use Rattle.hazards.specs.declared.ties.Candidate.{Candidate}
-use Rattle.hazards.specs.declared.ties.Earliest.{Earliest}
-use Rattle.hazards.specs.declared.ties.Earliest.TheVariants.{Nothing, Found}
 use Rattle.hazards.specs.declared.ties.TieBreaker.{TieBreaker}
 use Rattle.hazards.specs.declared.sampler.CompetingCause.{CompetingCause}
 use Rattle.hazards.specs.declared.sampler.SampleSettings.{SampleSettings}
@@ -83,9 +81,9 @@ evaluated_cumulative_upto f t =
     cumulative_upto times (hazard_of f) (intervals_of f) t (hazard_accepted f (in_range t) h)
     (λ n. positive_rate_upto t n (limits_accepted f (in_range t) h)))
 
-wait_value : (wait : Wait) → NotBelow wait → Signed false (inverted wait).wait
-wait_value (After d piece) s = s
-wait_value Never s = refl
+wait_value : (wait : Option Wait) → NotBelow wait → Signed false (inverted wait).wait
+wait_value (Some wait) s = s
+wait_value None s = refl
 
 -- every f64 is a start that binary64 holds
 pub evaluated_inversion_signed : (f : HazardFields) (start w : Float) → T (fits binary64 start)
@@ -112,28 +110,28 @@ upto_finite {b} {x} u =
     (for_fin (λ (w : Float). T (lt w (inf false))) (λ (m : ℕ) (e : ℤ). unfold lt in tt) u)
 
 -- the earliest of candidates, if there is one, is at such a time
-abbrev FiniteEarliest : Earliest → Type 0
-FiniteEarliest Nothing = Unit {0}
-FiniteEarliest (Found c) = T (is_finite_wait c.time)
+abbrev FiniteEarliest : Option Candidate → Type 0
+FiniteEarliest None = Unit {0}
+FiniteEarliest (Some c) = T (is_finite_wait c.time)
 
 module _ (tie : TieBreaker) where
-  earlier_finite : (best : Earliest) (c : Candidate) → FiniteEarliest best → T (is_finite_wait c.time)
+  earlier_finite : (best : Option Candidate) (c : Candidate) → FiniteEarliest best → T (is_finite_wait c.time)
       → FiniteEarliest (earlier tie best c)
   unfolding earlier
-  earlier_finite Nothing c b t = t
-  earlier_finite (Found best) c b t = by_test (precedes tie c best) (λ e. rw e t) (λ e. rw e b)
+  earlier_finite None c b t = t
+  earlier_finite (Some best) c b t = by_test (precedes tie c best) (λ e. rw e t) (λ e. rw e b)
 
-  after_finite : (best : Earliest) (cause priority : ℕ) (wait : Wait) → FiniteEarliest best
+  after_finite : (best : Option Candidate) (cause priority : ℕ) (wait : Option Wait) → FiniteEarliest best
       → FiniteEarliest (foldl (earlier tie) best (candidate_after cause priority (λ t. t) wait))
   unfolding foldl candidate_after
-  after_finite best cause priority Never b = b
-  after_finite best cause priority (After d piece) b =
-      by_test (is_finite_wait d)
-      (λ (e : is_finite_wait d ≡ true).
-      rw e (earlier_finite best (record { cause_id = cause; priority = priority; time = d; piece = capped_piece piece }) b (rw e tt)))
+  after_finite best cause priority None b = b
+  after_finite best cause priority (Some wait) b =
+      by_test (is_finite_wait wait.time)
+      (λ (e : is_finite_wait wait.time ≡ true).
+      rw e (earlier_finite best (record { cause_id = cause; priority = priority; time = wait.time; piece = capped_piece wait.piece }) b (rw e tt)))
       (λ e. rw e b)
 
-  candidates_finite : (best : Earliest) (cs : List CompetingCause) (age : Float) (threshold : ℕ → Float) (k : ℕ) → FiniteEarliest best
+  candidates_finite : (best : Option Candidate) (cs : List CompetingCause) (age : Float) (threshold : ℕ → Float) (k : ℕ) → FiniteEarliest best
       → FiniteEarliest (foldl (earlier tie) best (candidates cs age threshold k))
   unfolding foldl candidates
   candidates_finite best [] age threshold k b = b
@@ -146,9 +144,9 @@ module _ (tie : TieBreaker) where
       (after_finite best c.cause_id c.priority wait b))
 
 module _ (s : SampleSettings) (age : T (is_time s.current_age)) (censor : T (is_time s.censor_age)) where
-  censored_finite : (e : Earliest) → FiniteEarliest e → T (is_finite_wait (censored_at e s).delta)
+  censored_finite : (e : Option Candidate) → FiniteEarliest e → T (is_finite_wait (censored_at e s).delta)
   unfolding censored_at
-  censored_finite Nothing t =
+  censored_finite None t =
       by_test (eqb s.has_censor 1)
       (λ p.
       by_test (lt s.current_age s.censor_age)
@@ -158,7 +156,7 @@ module _ (s : SampleSettings) (age : T (is_time s.current_age)) (censor : T (is_
       (sub-upto (2 ^ 40) (time_upto _ censor) (time_upto _ age) (lt-le s.current_age s.censor_age (rw l tt)) time_stays)))
       (λ l. rw (p, l) (upto_finite (zero_upto 0))))
       (λ p. rw p (upto_finite (zero_upto 0)))
-  censored_finite (Found c) t =
+  censored_finite (Some c) t =
       let span = not_below_zero (sub binary64 s.censor_age s.current_age) in
       by_test (eqb s.has_censor 1)
       (λ p.
@@ -173,7 +171,7 @@ module _ (s : SampleSettings) (age : T (is_time s.current_age)) (censor : T (is_
   event_finite (c ∷ cs) stream position =
       let tie = tie_breaker_of s.tie in
       censored_finite (earliest tie (candidates (in_cause_order (c ∷ cs)) s.current_age (threshold_at stream) position))
-      (candidates_finite tie Nothing (in_cause_order (c ∷ cs)) s.current_age (threshold_at stream) position tt)
+      (candidates_finite tie None (in_cause_order (c ∷ cs)) s.current_age (threshold_at stream) position tt)
 
 -- settings that are not refused: age and censor age are times
 pub ages_accepted : (causes : List CompetingCause) (n : ℕ) (s : SampleSettings) → fault_number causes n s ≡ 0

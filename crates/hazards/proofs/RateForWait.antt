@@ -15,7 +15,7 @@ use Rattle.hazards.specs.FirstPlace.{FirstPlace}
 use Rattle.hazards.specs.RateForWait.{within_limits, Gives, answered, Answers, OneAnswer}
 use Rattle.hazards.specs.RateForWait.Answers.{smallest, none, outside}
 use Rattle.hazards.specs.RateForWaitInternals.{past_limit, used_up_within, exact_rate}
-use Rattle.hazards.specs.declared.rate_for_wait.RateForWait.{RateForWait}
+use Rattle.hazards.specs.RateForWait.{RateForWait}
 use Rattle.hazards.proofs.Bounds.{Upto}
 use Rattle.hazards.proofs.Signs.{Signed}
 use Rattle.hazards.proofs.Cases.{by_test, both_true}

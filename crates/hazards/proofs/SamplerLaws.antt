@@ -9,25 +9,24 @@ use borrow.Author.Tests.{eq-eqb, ne_eqb, lt-ltb, le-ltb, ltb-false}
 use lib.Dec.{eqb, ltb, eqb-suc-zero}
 use lib.ListN.{length, get_or, take, length-take}
 use lib.Ieee.{Float, nan}
-use Rattle.hazards.specs.Floats.{is_finite_wait}
+use Rattle.std.specs.Prelude.{Option, None}
 use Rattle.hazards.specs.Lists.{foldl}
 use Rattle.hazards.specs.Refusals.{joined, is_reserved, identifier_fault_if, number_of, too_many_causes, invalid_state}
 use Rattle.hazards.specs.Answers.{no_event}
 use Rattle.hazards.specs.Checks.{hazard_faults, hazard_of, intervals_of}
 use Rattle.hazards.specs.Rates.{invert_cumulative_hazard}
 use Rattle.hazards.specs.Draws.{stream_length, threshold_at, draw_at}
-use Rattle.hazards.specs.Ties.{capped_piece, candidate_after, tie_breaker_of, earlier, earliest}
+use Rattle.hazards.specs.Ties.{candidate_after, tie_breaker_of, earlier, earliest}
 use Rattle.hazards.specs.Sampler.{faults_of_all, settings_faults, draws_refusal, sample_refusal, in_cause_order}
 use Rattle.hazards.specs.Sampler.{candidates, censored_at, sampled_event, sample_next}
 use Rattle.hazards.specs.SamplerInternals.{examined_record, drawn_threshold}
 use Rattle.hazards.specs.declared.refusals.Faults.{Faults}
 use Rattle.hazards.specs.declared.rates.Wait.{Wait}
-use Rattle.hazards.specs.declared.rates.Wait.TheVariants.{After, Never}
 use Rattle.hazards.specs.declared.ties.TieBreaker.{TieBreaker}
-use Rattle.hazards.specs.declared.ties.Earliest.{Earliest}
 use Rattle.hazards.specs.declared.answers.Answer.{Answer}
 use Rattle.hazards.specs.declared.sampler.CompetingCause.{CompetingCause}
 use Rattle.hazards.specs.declared.sampler.SampleSettings.{SampleSettings}
+use Rattle.hazards.specs.declared.ties.Candidate.{Candidate}
 use Rattle.hazards.proofs.ListLaws.{foldl-append}
 use Rattle.hazards.proofs.Pieces.{one_left, none_left}
 
@@ -41,11 +40,7 @@ no_record = record {
 
 -- ---- what is found of a record: the faults of its fields and of its id, and its wait
 
-pub identifier_joined : (f : Faults) (id : ℕ) {reserved : Bool} {b r : Faults} → reserved ≡ is_reserved id
-    → b ≡ identifier_fault_if reserved → r ≡ joined f b → r ≡ joined f (identifier_fault_if (is_reserved id))
-identifier_joined f id e₁ e₂ e₃ = e₃ ∙ rw (e₂, e₁)
-
-pub examined_is : (c : CompetingCause) (age w : Float) {a b : Faults} {wait : Wait} → a ≡ hazard_faults c.hazard
+pub examined_is : (c : CompetingCause) (age w : Float) {a b : Faults} {wait : Option Wait} → a ≡ hazard_faults c.hazard
     → b ≡ joined a (identifier_fault_if (is_reserved c.cause_id))
     → wait ≡ invert_cumulative_hazard (hazard_of c.hazard) (intervals_of c.hazard) age w
     → record { faults = b; wait = wait } ≡ examined_record c age w
@@ -73,41 +68,26 @@ module _ (stream : List ℕ) (position n i : ℕ) where
   unfolding draws_refusal
   draws_none h = rw (none_left n i h)
 
--- ---- the number of the draws from any position: it is past the stream, it is not
+-- ---- the number of the draws from any position, and from one within the stream
 
 abbrev pub drawn_number : List ℕ → ℕ → ℕ → ℕ
 drawn_number stream position n = cond (ltb (stream_length stream) position) invalid_state (draws_refusal stream position n)
 
 module _ (stream : List ℕ) (position n : ℕ) where
-  pub drawn_past : stream_length stream < position → invalid_state ≡ drawn_number stream position n
-  drawn_past h = rw (lt-ltb (stream_length stream) position h)
-
   pub drawn_within : position ≤ stream_length stream → {d : ℕ} → d ≡ draws_refusal stream position n → d ≡ drawn_number stream position n
   drawn_within h e = e ∙ rw (le-ltb (stream_length stream) position h)
 
--- ---- one more candidate: there is no wait, the wait is not finite, it is
+-- ---- no candidate more: there is no wait
 
-module _ (tie : TieBreaker) (best : Earliest) (cause priority : ℕ) (time_of : Float → Float) {wait : Wait} where
-  pub candidate_never : wait ≡ Never → best ≡ foldl (earlier tie) best (candidate_after cause priority time_of wait)
+module _ (tie : TieBreaker) (best : Option Candidate) (cause priority : ℕ) (time_of : Float → Float) {wait : Option Wait} where
+  pub candidate_never : wait ≡ None → best ≡ foldl (earlier tie) best (candidate_after cause priority time_of wait)
   unfolding candidate_after foldl
   candidate_never e = rw e
 
-  pub candidate_infinite : {t : Float} {piece : ℕ} → wait ≡ After t piece → is_finite_wait t ≡ false
-      → best ≡ foldl (earlier tie) best (candidate_after cause priority time_of wait)
-  unfolding candidate_after foldl
-  candidate_infinite e h = rw (e, h)
-
-  pub candidate_finite : {t : Float} {piece capped : ℕ} {r : Earliest} → wait ≡ After t piece → is_finite_wait t ≡ true
-      → capped ≡ capped_piece piece
-      → r ≡ earlier tie best (record { cause_id = cause; priority = priority; time = time_of t; piece = capped })
-      → r ≡ foldl (earlier tie) best (candidate_after cause priority time_of wait)
-  unfolding candidate_after foldl
-  candidate_finite e h ec er = er ∙ rw (e, h, ec)
-
 -- ---- the candidates in order: the first record's and the others', and the same with thresholds that were drawn beforehand
 
-pub candidates_next : (tie : TieBreaker) (best : Earliest) (age : Float) (threshold : ℕ → Float) (k : ℕ) {cs : List CompetingCause}
-    (c : CompetingCause) {rest : List CompetingCause} {wait : Wait} {next : Earliest} → cs ≡ c ∷ rest
+pub candidates_next : (tie : TieBreaker) (best : Option Candidate) (age : Float) (threshold : ℕ → Float) (k : ℕ) {cs : List CompetingCause}
+    (c : CompetingCause) {rest : List CompetingCause} {wait : Option Wait} {next : Option Candidate} → cs ≡ c ∷ rest
     → wait ≡ (examined_record c age (threshold k)).wait
     → next ≡ foldl (earlier tie) best (candidate_after c.cause_id c.priority (λ t. t) wait)
     → foldl (earlier tie) best (candidates cs age threshold k) ≡ foldl (earlier tie) next (candidates rest age threshold (k + 1))
@@ -115,7 +95,7 @@ unfolding candidates
 candidates_next tie best age threshold k c {rest} {wait} first ew e =
     rw (first, ← ew, ← add-one)
     (foldl-append (earlier tie) best (candidate_after c.cause_id c.priority (λ t. t) wait) (candidates rest age threshold (k + 1))
-    ∙ ap (λ (b : Earliest). foldl (earlier tie) b (candidates rest age threshold (k + 1))) (sym e))
+    ∙ ap (λ (b : Option Candidate). foldl (earlier tie) b (candidates rest age threshold (k + 1))) (sym e))
 
 drawn_from : (cs : List CompetingCause) (age : Float) (f g : ℕ → Float) (k place : ℕ)
     → ((i : ℕ) → i < length cs → f (k + i) ≡ g (place + i)) → candidates cs age f k ≡ candidates cs age g place
@@ -148,7 +128,7 @@ sampled_some (c ∷ cs) s stream position h = refl
 
 -- no record, or some
 pub event_is : (causes : List CompetingCause) (n : ℕ) (s : SampleSettings) (stream : List ℕ) (position : ℕ) → length causes ≡ 8
-    → {best : Earliest}
+    → {best : Option Candidate}
     → best ≡ earliest (tie_breaker_of s.tie) (candidates (in_cause_order (take n causes)) s.current_age (threshold_at stream) position)
     → cond (eqb n 0) (no_event 0) (censored_at best s) ≡ sampled_event (take n causes) s stream position
 unfolding sampled_event
@@ -192,6 +172,19 @@ module _ (causes : List CompetingCause) (n : ℕ) (s : SampleSettings) (stream :
       (ap (λ (r : ℕ). cond (eqb (fault_number causes n s) 0) r (fault_number causes n s))
       (many_or_few (ltb 8 n) refl (ed ∙ ap (drawn_number stream position) eu)))
 
+  -- the three ways of a refusal: the faults, a ninth record, the draws
+  module _ {a b f : Faults} {used d : ℕ} (ea : a ≡ settings_faults s) (eb : b ≡ faults_of_all (take n causes)) (ef : f ≡ joined a b)
+      (eu : used ≡ min n 8) (ed : d ≡ drawn_number stream position used)
+    where
+      pub faults_refuse : {number : ℕ} → (number ≡ 0 → ⊥) → number ≡ number_of f → number ≡ sample_refusal causes n s stream position
+      faults_refuse h e = refusal_is ea eb ef eu ed (e ∙ rw (ne_eqb (number_of f) 0 (λ q. h (e ∙ q))))
+
+      pub ninth_refuses : number_of f ≡ 0 → 8 < n → too_many_causes ≡ sample_refusal causes n s stream position
+      ninth_refuses h g = refusal_is ea eb ef eu ed (rw (eq-eqb (number_of f) 0 h, lt-ltb 8 n g))
+
+      pub draws_refuse : {number : ℕ} → number_of f ≡ 0 → n ≤ 8 → number ≡ d → number ≡ sample_refusal causes n s stream position
+      draws_refuse h g e = refusal_is ea eb ef eu ed (e ∙ rw (eq-eqb (number_of f) 0 h, le-ltb 8 n g))
+
   pub passed_faults : sample_refusal causes n s stream position ≡ 0 → fault_number causes n s ≡ 0
   unfolding sample_refusal
   passed_faults h = first_zero (fault_number causes n s) _ h
@@ -202,13 +195,6 @@ module _ (causes : List CompetingCause) (n : ℕ) (s : SampleSettings) (stream :
   passed-all h =
       let p = chain_passes (fault_number causes n s) (draws_refusal stream position n) (ltb 8 n) (ltb (stream_length stream) position) h in
       (ltb-false 8 n p.0, (ltb-false (stream_length stream) position p.1.0, p.1.1))
-
-  pub drawn-all : sample_refusal causes n s stream position ≡ 0 → {used d : ℕ} → used ≡ min n 8 → d ≡ drawn_number stream position used
-      → d ≡ 0
-  drawn-all h eu e =
-      let p = passed-all h in
-      let m : min n 8 ≡ n = omega (arith, p.0) in
-      e ∙ ap (drawn_number stream position) (eu ∙ m) ∙ sym (drawn_within stream position n p.1.0 (sym p.1.1))
 
   -- ---- the answer and the position: refused, passed
 

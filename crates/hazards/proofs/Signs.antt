@@ -3,8 +3,8 @@ use mathlib.Core.Path.{◌≡◌}
 use mathlib.Core.Bool.{Bool, false}
 use lib.Dec.{T}
 use lib.Ieee.{Float, nan, inf, fin, binary64, fits}
+use Rattle.std.specs.Prelude.{Option, None, Some}
 use Rattle.hazards.specs.declared.rates.Wait.{Wait}
-use Rattle.hazards.specs.declared.rates.Wait.TheVariants.{After, Never}
 
 -- no NaN, and of sign s: finite or infinite
 abbrev pub Signed : Bool → Float → Type 0
@@ -13,11 +13,11 @@ Signed s (inf t) = t ≡ s
 Signed s (fin t m e) = t ≡ s
 
 -- a wait that is no NaN and has a clear sign
-abbrev pub NotBelow : Wait → Type 0
-NotBelow (After d piece) = Signed false d
-NotBelow Never = Unit {0}
+abbrev pub NotBelow : Option Wait → Type 0
+NotBelow (Some wait) = Signed false wait.time
+NotBelow None = Unit {0}
 
 -- a wait that binary64 holds
-abbrev pub Held : Wait → Type 0
-Held (After d piece) = T (fits binary64 d)
-Held Never = Unit {0}
+abbrev pub Held : Option Wait → Type 0
+Held (Some wait) = T (fits binary64 wait.time)
+Held None = Unit {0}

@@ -10,15 +10,15 @@ use lib.ListN.{drop}
 use lib.Dec.{T, le→leb, nltb→le}
 use lib.Ieee.{Float, nan, inf, fin, binary64, up, down, add, sub, mul, div, lt, le, fits}
 use lib.Ieee.Fits.{and_l, cond-fits, sub-fits, div-fits}
+use Rattle.std.specs.Prelude.{Option, None}
 use Rattle.hazards.specs.Floats.{z, not_below_zero, in_range}
 use Rattle.hazards.specs.Rates.{Piece, used_pairs, first_after, ends_in, wait_through, wait_from, constant_wait, wait_of_rate}
 use Rattle.hazards.specs.Rates.{invert_cumulative_hazard}
-use Rattle.hazards.specs.Rates.{weibull_wait, own_rate}
+use Rattle.hazards.specs.Rates.{weibull_wait, own_rate, some_wait}
 use Rattle.hazards.specs.declared.rates.HazardRate.{HazardRate}
 use Rattle.hazards.specs.declared.rates.HazardRate.TheVariants.{Zero, Constant, Gompertz, Piecewise, Weibull}
 use Rattle.hazards.specs.declared.rates.Intervals.{Intervals}
 use Rattle.hazards.specs.declared.rates.Wait.{Wait}
-use Rattle.hazards.specs.declared.rates.Wait.TheVariants.{After, Never}
 use Rattle.hazards.proofs.Bounds.{Upto}
 use Rattle.hazards.proofs.Signs.{Signed, NotBelow, Held}
 use Rattle.hazards.proofs.Cases.{by_test}
@@ -31,7 +31,7 @@ use Rattle.hazards.proofs.Limits.{rate_upto, positive_rate_upto, span_lands, cap
 use Rattle.hazards.proofs.SoundPairs.{sound, Following, none, next, own_rate_sound, pairs_sound, after_following}
 
 -- ---- held: nothing is asked of the hazard
-either_held : (b : Bool) (x y : Wait) → Held x → Held y → Held (cond b x y)
+either_held : (b : Bool) (x y : Option Wait) → Held x → Held y → Held (cond b x y)
 either_held true x y h k = h
 either_held false x y h k = k
 
@@ -39,7 +39,7 @@ piecewise_held : (i : ℕ) (ps : List Piece) (trailing start cur w : Float) → 
 unfolding wait_from ends_in
 piecewise_held i [] trailing start cur w =
     let rate = not_below_zero trailing in
-    either_held (le rate z) Never _ tt (sub-fits binary64 (add binary64 cur (div binary64 w rate)) start)
+    either_held (le rate z) None _ tt (sub-fits binary64 (add binary64 cur (div binary64 w rate)) start)
 piecewise_held i (p ∷ ps) trailing start cur w =
     let rate = not_below_zero p.rate in
     let capacity = mul binary64 rate (sub binary64 p.end cur) in
@@ -49,7 +49,7 @@ piecewise_held i (p ∷ ps) trailing start cur w =
 
 constant_held : (rate w : Float) → Held (constant_wait rate w)
 unfolding constant_wait
-constant_held rate w = either_held (le rate z) Never (After (div binary64 w rate) 0) tt (div-fits binary64 w rate)
+constant_held rate w = either_held (le rate z) None (some_wait (div binary64 w rate) 0) tt (div-fits binary64 w rate)
 
 zero_held : T (fits binary64 z)
 unfolding fits
@@ -62,7 +62,7 @@ clamped_held x f = cond-fits binary64 (lt z x) x z f zero_held
 weibull_held : (scale start w : Float) → Held (weibull_wait scale start w)
 unfolding weibull_wait
 weibull_held scale start w =
-    either_held (le scale z) Never _ tt (clamped_held (sub binary64 _ start) (sub-fits binary64 _ start))
+    either_held (le scale z) None _ tt (clamped_held (sub binary64 _ start) (sub-fits binary64 _ start))
 
 wait_of_rate_held : (h : HazardRate) (p : Intervals) (start w : Float) → Held (wait_of_rate h p start w)
 unfolding wait_of_rate
@@ -77,11 +77,11 @@ wait_of_rate_held (Weibull scale) p start w = weibull_held scale start w
 pub invert_held : (h : HazardRate) (p : Intervals) (start w : Float) → Held (invert_cumulative_hazard h p start w)
 unfolding invert_cumulative_hazard
 invert_held h p start w =
-    either_held (le w z) (After z 0) (wait_of_rate h p (not_below_zero start) w) zero_held
+    either_held (le w z) (some_wait z 0) (wait_of_rate h p (not_below_zero start) w) zero_held
     (wait_of_rate_held h p (not_below_zero start) w)
 
 -- ---- not below 0
-either_not_below : (b : Bool) (x y : Wait) → (T b → NotBelow x) → (T (not b) → NotBelow y) → NotBelow (cond b x y)
+either_not_below : (b : Bool) (x y : Option Wait) → (T b → NotBelow x) → (T (not b) → NotBelow y) → NotBelow (cond b x y)
 either_not_below true x y f g = f tt
 either_not_below false x y f g = g tt
 
@@ -122,7 +122,7 @@ module _ (b : ℕ) (stays : T (lands b b)) {a : ℕ} (start : Float) (sf : T (fi
     piecewise_not_below i cur w none v c o =
         let rate = not_below_zero trailing in
         let u = rate_upto trailing within in
-        either_not_below (le rate z) Never _ (λ t. tt)
+        either_not_below (le rate z) None _ (λ t. tt)
         (λ n. through_not_below _ u (not-le-lt (zero_upto 0) u n) v c o)
     piecewise_not_below i cur w (next {p} {ps} l m r f) v c o =
         let rate = not_below_zero p.rate in
@@ -139,7 +139,7 @@ constant_not_below : {b : ℕ} {w : Float} (rate : Float) → Upto b w → (T (n
     → NotBelow (constant_wait rate w)
 unfolding constant_wait
 constant_not_below {w} rate v u =
-    either_not_below (le rate z) Never (After (div binary64 w rate) 0) (λ t. tt)
+    either_not_below (le rate z) None (some_wait (div binary64 w rate) 0) (λ t. tt)
     (λ n. div-signed v (u n) (not-le-lt (zero_upto 0) (u n) n))
 
 -- not below 0, whatever it is before
@@ -153,7 +153,7 @@ clamped_signed (fin false m e) = by_test (lt z (fin false m e)) (λ q. rw q) (λ
 
 weibull_not_below : (scale start w : Float) → NotBelow (weibull_wait scale start w)
 unfolding weibull_wait
-weibull_not_below scale start w = either_not_below (le scale z) Never _ (λ t. tt) (λ n. clamped_signed (sub binary64 _ start))
+weibull_not_below scale start w = either_not_below (le scale z) None _ (λ t. tt) (λ n. clamped_signed (sub binary64 _ start))
 
 wait_of_rate_not_below : {a : ℕ} (h : HazardRate) (p : Intervals) (start : Float) {w : Float} (b : ℕ) → T (sound h p)
     → T (in_range (own_rate h)) → T (fits binary64 start) → Upto a start → Upto b w → T (lands b b) → NotBelow (wait_of_rate h p start w)
@@ -171,7 +171,7 @@ pub invert_not_below : {a : ℕ} (h : HazardRate) (p : Intervals) (start : Float
     → T (fits binary64 start) → Upto a (not_below_zero start) → (T (not (le w z)) → Upto b w) → T (lands b b) → NotBelow (invert_cumulative_hazard h p start w)
 unfolding invert_cumulative_hazard
 invert_not_below h p start {w} b s sf su v l =
-    either_not_below (le w z) (After z 0) (wait_of_rate h p (not_below_zero start) w) (λ t. refl)
+    either_not_below (le w z) (some_wait z 0) (wait_of_rate h p (not_below_zero start) w) (λ t. refl)
     (λ n.
     wait_of_rate_not_below h p (not_below_zero start) b s (own_rate_sound h p s) (clamped_held start sf)
     su (v n) l)

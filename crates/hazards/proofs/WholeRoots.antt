@@ -1,26 +1,45 @@
 -- Whole roots, over plain numbers: the digits of a long one, the whole number nearest to the root of n * 2^52, and that there is one.
-use mathlib.Core.Path.{◌≡◌, refl, ap, ◌∙◌}
+use mathlib.Core.Path.{◌≡◌, refl, sym, ap, ◌∙◌}
 use Prim.Native.Nat.{ℕ, zero, suc, ◌+◌, ◌-◌, ◌*◌, ◌/◌, ◌%◌, ◌^◌, ◌≤◌, ◌<◌}
-use native.Mathlib.Nat.{le_trans, lt_of_le_of_lt, lt_of_not-le, lt_irrefl, le_of_suc-le-suc, mul-le-mul, mul-le-mul_left, pow-succ'}
+use native.Mathlib.Nat.{le_trans, lt_of_lt_of_le, lt_of_not-le, lt_irrefl, le_of_suc-le-suc, mul-le-mul, mul-le-mul_left, mul-le-mul_right, mul-lt-mul_of_pos_right, mul_assoc, mod-eq_of_lt, one-le-pow, pow-succ'}
 use native.Mathlib.Nat.{add-sub_of_le}
 use native.Mathlib.Omega.{arith}
 use native.Mathlib.Numerals.{add-one}
+use Rattle.std.proofs.Common.{pow-add}
 use borrow.Author.Tests.{leb-true, leb-false}
 use lib.Dec.{leb}
 use lib.Pow.{pow_mono}
-use Rattle.hazards.specs.RootsInternals.{NearestWhole}
+use Rattle.hazards.specs.RootsInternals.{AllDigits, NearestWhole}
 use Rattle.hazards.proofs.Cases.{by_test}
 
 pub square_le : {a b : ℕ} → a ≤ b → a * a ≤ b * b
 square_le h = mul-le-mul h h
 
--- ---- a number given 53 digits, one doubling at a time
+-- ---- a number given 53 digits, by as many places as its highest digit is below 2^52
+module _ (n k : ℕ) (low : 2 ^ k ≤ n) (high : n < 2 * 2 ^ k) (below : n < 2 ^ 53) where
+  pub places : k ≤ 52
+  places = le_of_suc-le-suc (lt_of_not-le (λ (g : 53 ≤ k). lt_irrefl n (lt_of_lt_of_le below (le_trans (pow_mono {i = 53} {j = k} g) low))))
 
--- while there are fewer than 53, a power is left
-pub few : (p d : ℕ) → 2 ^ (1074 - p) ≤ d → d < 2 ^ 52 → 1022 < p
-few p d l h =
-    lt_of_not-le
-    (λ (g : p ≤ 1022). lt_irrefl (2 ^ 52) (lt_of_le_of_lt (le_trans (pow_mono {i = 52} {j = 1074 - p} (omega arith)) l) h))
+  reached : 2 ^ k * 2 ^ (52 - k) ≡ 2 ^ 52
+  reached = sym (pow-add 2 k (52 - k)) ∙ ap (λ (x : ℕ). 2 ^ x) (add-sub_of_le places)
+
+  least : 2 ^ 52 ≤ n * 2 ^ (52 - k)
+  least = rw (← reached) (mul-le-mul_right (2 ^ (52 - k)) low)
+
+  most : n * 2 ^ (52 - k) < 2 ^ 53
+  most =
+      let e : 2 * 2 ^ k * 2 ^ (52 - k) ≡ 2 ^ 53 = mul_assoc 2 (2 ^ k) (2 ^ (52 - k)) ∙ ap (λ (x : ℕ). 2 * x) reached in
+      rw (← e) (mul-lt-mul_of_pos_right high (one-le-pow (52 - k) 2 (omega arith)))
+
+  same : n * 2 ^ (52 - k) * 2 ^ (1074 - (52 - k)) ≡ n * 2 ^ 1074
+  same =
+      mul_assoc n (2 ^ (52 - k)) (2 ^ (1074 - (52 - k)))
+      ∙ ap (λ (x : ℕ). n * x) (sym (pow-add 2 (52 - k) (1074 - (52 - k))) ∙ ap (λ (x : ℕ). 2 ^ x) (add-sub_of_le (omega arith)))
+
+  pub all_digits : AllDigits (n * 2 ^ 1074) (n * 2 ^ (52 - k) % 2 ^ 64) (1074 - (52 - k))
+  all_digits =
+      let small : n * 2 ^ (52 - k) % 2 ^ 64 ≡ n * 2 ^ (52 - k) = mod-eq_of_lt (omega (arith, most)) in
+      rw small (same, least, most, omega arith, omega arith)
 
 -- twice the digits and one power less: the same value
 pub moved : (d p : ℕ) → 0 < p → 2 * d * 2 ^ (p - 1) ≡ d * 2 ^ p
@@ -28,11 +47,6 @@ moved d p h =
     let e : p ≡ suc (p - 1) = omega arith in
     let f : 2 ^ p ≡ 2 * 2 ^ (p - 1) = ap (λ (x : ℕ). 2 ^ x) e ∙ pow-succ' 2 (p - 1) in
     rw f (omega arith)
-
-pub longer : (d p : ℕ) → 0 < p → p ≤ 1074 → 2 ^ (1074 - p) ≤ d → 2 ^ (1074 - (p - 1)) ≤ 2 * d
-longer d p h k l =
-    let e : 1074 - (p - 1) ≡ suc (1074 - p) = omega arith in
-    rw (e, pow-succ') (mul-le-mul_left 2 l)
 
 -- ---- a root with one binary digit more
 

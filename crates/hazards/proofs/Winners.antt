@@ -9,12 +9,11 @@ use native.Mathlib.Omega.{arith}
 use borrow.Author.Tests.{ltb-true, ltb-false, lt-ltb, le-ltb}
 use lib.Dec.{T, ltb}
 use lib.Ieee.{lt, eq}
+use Rattle.std.specs.Prelude.{Option, Some, None}
 use Rattle.hazards.specs.Floats.{is_finite_wait}
 use Rattle.hazards.specs.Lists.{foldl}
 use Rattle.hazards.specs.Ties.{preferred, precedes, earlier, earliest}
 use Rattle.hazards.specs.declared.ties.Candidate.{Candidate}
-use Rattle.hazards.specs.declared.ties.Earliest.{Earliest}
-use Rattle.hazards.specs.declared.ties.Earliest.TheVariants.{Nothing, Found}
 use Rattle.hazards.specs.declared.ties.TieBreaker.{TieBreaker}
 use Rattle.hazards.specs.declared.ties.TieBreaker.TheVariants.{LowestCauseId, HighestCauseId, ExplicitPriority}
 use Rattle.hazards.proofs.Cases.{by_test}
@@ -120,21 +119,21 @@ module _ (tie : TieBreaker) where
     pub seen : Seen w
     pub unpreceded : (c : Candidate) → Seen c → precedes tie c w ≡ false
 
-  abbrev pub BestOf : Earliest → (Candidate → Type 0) → Type 0
-  BestOf Nothing Seen = (c : Candidate) → Seen c → ⊥
-  BestOf (Found w) Seen = Best Seen w
+  abbrev pub BestOf : Option Candidate → (Candidate → Type 0) → Type 0
+  BestOf None Seen = (c : Candidate) → Seen c → ⊥
+  BestOf (Some w) Seen = Best Seen w
 
   abbrev With : (Candidate → Type 0) → Candidate → Candidate → Type 0
   With Seen c d = Seen d ⊎ (d ≡ c)
 
-  with_next : (Seen : Candidate → Type 0) → ((d : Candidate) → Seen d → FiniteTime d) → (best : Earliest) (c : Candidate) → FiniteTime c
+  with_next : (Seen : Candidate → Type 0) → ((d : Candidate) → Seen d → FiniteTime d) → (best : Option Candidate) (c : Candidate) → FiniteTime c
       → BestOf best Seen → BestOf (earlier tie best c) (With Seen c)
   unfolding earlier
-  with_next Seen times Nothing c f b = record {
+  with_next Seen times None c f b = record {
     seen = inr refl;
     unpreceded = λ (d : Candidate) (p : With Seen c d). elim p [ inl q ↦ absurd (b d q) | inr e ↦ rw e (precedes_self c f) ];
   }
-  with_next Seen times (Found w) c f b =
+  with_next Seen times (Some w) c f b =
       by_test (precedes tie c w)
       (λ (p : precedes tie c w ≡ true).
       rw p
@@ -159,10 +158,10 @@ module _ (tie : TieBreaker) where
           (sym (precedes_trans d c w (times d h) f (times w b.seen) q p) ∙ b.unpreceded d h)))
           (λ q. q)
 
-  same_best : (best : Earliest) (P Q : Candidate → Type 0) → ((c : Candidate) → P c → Q c) → ((c : Candidate) → Q c → P c) → BestOf best P
+  same_best : (best : Option Candidate) (P Q : Candidate → Type 0) → ((c : Candidate) → P c → Q c) → ((c : Candidate) → Q c → P c) → BestOf best P
       → BestOf best Q
-  same_best Nothing P Q to from b = λ c q. b c (from c q)
-  same_best (Found w) P Q to from b = record { seen = to w b.seen; unpreceded = λ c q. b.unpreceded c (from c q) }
+  same_best None P Q to from b = λ c q. b c (from c q)
+  same_best (Some w) P Q to from b = record { seen = to w b.seen; unpreceded = λ c q. b.unpreceded c (from c q) }
 
   -- those that were seen and those of the list
   abbrev Before : (Candidate → Type 0) → List Candidate → Candidate → Type 0
@@ -180,7 +179,7 @@ module _ (tie : TieBreaker) where
   moved_back Seen c cs d (inr (inl e)) = inl (inr e)
   moved_back Seen c cs d (inr (inr p)) = inr p
 
-  folded_best : (Seen : Candidate → Type 0) (best : Earliest) (cs : List Candidate) → ((d : Candidate) → Before Seen cs d → FiniteTime d)
+  folded_best : (Seen : Candidate → Type 0) (best : Option Candidate) (cs : List Candidate) → ((d : Candidate) → Before Seen cs d → FiniteTime d)
       → BestOf best Seen → BestOf (foldl (earlier tie) best cs) (Before Seen cs)
   unfolding foldl
   folded_best Seen best [] times b =
@@ -195,6 +194,6 @@ module _ (tie : TieBreaker) where
       → BestOf (earliest tie cs) (λ c. Member c cs)
   unfolding earliest
   earliest_best cs times =
-      same_best (foldl (earlier tie) Nothing cs) (Before (λ c. ⊥) cs) (λ c. Member c cs)
+      same_best (foldl (earlier tie) None cs) (Before (λ c. ⊥) cs) (λ c. Member c cs)
       (λ c p. elim p [ inl q ↦ absurd q | inr q ↦ q ]) (λ c p. inr p)
-      (folded_best (λ c. ⊥) Nothing cs (λ c p. elim p [ inl q ↦ absurd q | inr q ↦ times c q ]) (λ c p. p))
+      (folded_best (λ c. ⊥) None cs (λ c p. elim p [ inl q ↦ absurd q | inr q ↦ times c q ]) (λ c p. p))

@@ -9,6 +9,7 @@ use lib.IntN.{pos, negsuc}
 use native.Mathlib.Omega.{arith}
 use lib.ListN.{replicate, drop}
 use lib.Ieee.{Float, inf, fin, binary64, add, sub, mul, div, lt, le, of_bits, to_bits}
+use Rattle.std.specs.Prelude.{Option, None}
 use Rattle.hazards.specs.Floats.{z, two, not_below_zero, zero_bits, in_range, is_time, is_threshold, is_finite_wait}
 use Rattle.hazards.specs.Lists.{all, foldl, insert_by, sort_by}
 use Rattle.hazards.specs.Fields.{little_endian, bytes_of, field_at, f64_at}
@@ -17,7 +18,7 @@ use Rattle.hazards.specs.Roots.{fields_multiple, multiple, square_above, root_pa
 use Rattle.hazards.specs.Refusals.{no_cause}
 use Rattle.hazards.specs.Answers.{event_of, head_bytes, answer_bytes}
 use Rattle.hazards.specs.Rates.{pieces_by, first_after, used_pairs, weibull_cumulative, weibull_wait, ends_in, wait_from, constant_wait}
-use Rattle.hazards.specs.Rates.{wait_of_rate, invert_cumulative_hazard}
+use Rattle.hazards.specs.Rates.{wait_of_rate, invert_cumulative_hazard, some_wait}
 use Rattle.hazards.specs.Checks.{range_fault, ascending, intervals_fault, choice_fault, hazard_faults}
 use Rattle.hazards.specs.Evaluations.{evaluated_inversion}
 use Rattle.hazards.specs.Draws.{draw_at}
@@ -27,11 +28,10 @@ use Rattle.hazards.specs.Sampler.{sample_next}
 use Rattle.hazards.specs.PieceUsed.{EndsIn, rate_of, end_of}
 use Rattle.hazards.specs.declared.answers.Answer.{Answer}
 use Rattle.hazards.specs.declared.checks.HazardFields.{HazardFields}
-use Rattle.hazards.specs.declared.evaluations.Inversion.{Inversion}
+use Rattle.hazards.specs.Evaluations.{Inversion}
 use Rattle.hazards.specs.declared.rates.HazardRate.TheVariants.{Zero, Constant, Gompertz, Piecewise, Weibull}
 use Rattle.hazards.specs.declared.rates.Intervals.{Intervals}
 use Rattle.hazards.specs.declared.rates.Wait.{Wait}
-use Rattle.hazards.specs.declared.rates.Wait.TheVariants.{After, Never}
 use Rattle.hazards.specs.declared.sampler.CompetingCause.{CompetingCause}
 use Rattle.hazards.specs.declared.sampler.SampleSettings.{SampleSettings}
 use Rattle.hazards.proofs.PieceStruck.{piece_used, piece_zero}
@@ -81,44 +81,44 @@ abbrev none : Intervals
 none = record { ends = replicate 8 z; rates = replicate 8 z; count = 0 }
 
 -- with the trailing rate 0.5
-abbrev wait : Intervals → Float → Float → Wait
+abbrev wait : Intervals → Float → Float → Option Wait
 wait p start w = invert_cumulative_hazard (Piecewise half) p start w
 
 -- ---- pieces
 
 -- from 0: 2.0 just fills pair 0; the next above it passes pair 1, whose rate is 0, and ends at the trailing rate, which has the number 2
-pub worked_fills : (wait (pairs z) z two ≡ After two 0) × (wait (pairs z) z above_two ≡ After above_five 2)
+pub worked_fills : (wait (pairs z) z two ≡ some_wait two 0) × (wait (pairs z) z above_two ≡ some_wait above_five 2)
 unfolding computed
 worked_fills = (refl, refl)
 
 -- with a rate of 0.5 in pair 1 it ends there; 3.5 just fills both pairs
-pub worked_second : (wait (pairs half) z above_two ≡ After (bits 0x4000_0000_0000_0002) 1)
-    × (wait (pairs half) z (fin false 7 (negsuc 0)) ≡ After (whole 5) 1)
-    × (wait (pairs half) z four ≡ After six 2)
+pub worked_second : (wait (pairs half) z above_two ≡ some_wait (bits 0x4000_0000_0000_0002) 1)
+    × (wait (pairs half) z (fin false 7 (negsuc 0)) ≡ some_wait (whole 5) 1)
+    × (wait (pairs half) z four ≡ some_wait six 2)
 unfolding computed
 worked_second = (refl, refl, refl)
 
 -- a start at the end of pair 0 is in pair 1, one just before it in pair 0, and one at the last end at the trailing rate
-pub worked_start : (wait (pairs half) two half ≡ After (whole 1) 1)
-    × (wait (pairs half) (bits 0x3fff_ffff_ffff_ffff) (bits 0x3cb0_0000_0000_0000) ≡ After (bits 0x3cb0_0000_0000_0000) 0)
-    × (wait (pairs half) (whole 5) half ≡ After (whole 1) 2)
+pub worked_start : (wait (pairs half) two half ≡ some_wait (whole 1) 1)
+    × (wait (pairs half) (bits 0x3fff_ffff_ffff_ffff) (bits 0x3cb0_0000_0000_0000) ≡ some_wait (bits 0x3cb0_0000_0000_0000) 0)
+    × (wait (pairs half) (whole 5) half ≡ some_wait (whole 1) 2)
 unfolding computed
 worked_start = (refl, refl, refl)
 
 -- no piece: a w at most 0, wherever the start lies; no wait; and a wait at the trailing rate that is infinite although the rate is above 0
-pub worked_none : (wait (pairs half) (whole 9) z ≡ After z 0) × (wait (pairs half) (whole 3) (fin true 1 (pos 0)) ≡ After z 0)
-    × (invert_cumulative_hazard (Piecewise z) (pairs half) (whole 5) half ≡ Never)
-    × (invert_cumulative_hazard (Piecewise least) (pairs half) (whole 5) (whole 3) ≡ After (inf false) 0)
-    × (invert_cumulative_hazard (Piecewise least) none z (whole 3) ≡ After (inf false) 0)
+pub worked_none : (wait (pairs half) (whole 9) z ≡ some_wait z 0) × (wait (pairs half) (whole 3) (fin true 1 (pos 0)) ≡ some_wait z 0)
+    × (invert_cumulative_hazard (Piecewise z) (pairs half) (whole 5) half ≡ None)
+    × (invert_cumulative_hazard (Piecewise least) (pairs half) (whole 5) (whole 3) ≡ some_wait (inf false) 0)
+    × (invert_cumulative_hazard (Piecewise least) none z (whole 3) ≡ some_wait (inf false) 0)
 unfolding computed
 worked_none = (refl, refl, refl, refl, refl)
 
 -- without pairs the trailing rate has number 0, and so have all other kinds
-pub worked_others : (wait none (whole 5) half ≡ After (whole 1) 0)
-    × (invert_cumulative_hazard (Constant half) none (whole 5) half ≡ After (whole 1) 0)
-    × (invert_cumulative_hazard (Gompertz half) none (whole 5) half ≡ After (whole 1) 0)
-    × (invert_cumulative_hazard (Weibull (whole 1)) none z four ≡ After two 0)
-    × (invert_cumulative_hazard Zero none z half ≡ Never)
+pub worked_others : (wait none (whole 5) half ≡ some_wait (whole 1) 0)
+    × (invert_cumulative_hazard (Constant half) none (whole 5) half ≡ some_wait (whole 1) 0)
+    × (invert_cumulative_hazard (Gompertz half) none (whole 5) half ≡ some_wait (whole 1) 0)
+    × (invert_cumulative_hazard (Weibull (whole 1)) none z four ≡ some_wait two 0)
+    × (invert_cumulative_hazard Zero none z half ≡ None)
 unfolding computed
 worked_others = (refl, refl, refl, refl, refl)
 
@@ -126,7 +126,7 @@ worked_others = (refl, refl, refl, refl, refl)
 pub worked_past_end :
     wait (record { ends = whole 3 ∷ replicate 7 z; rates = bits 0x3fb9_9999_9999_999a ∷ replicate 7 z; count = 1 }) z
     (bits 0x3fd3_3333_3333_3334)
-    ≡ After (bits 0x4008_0000_0000_0001) 0
+    ≡ some_wait (bits 0x4008_0000_0000_0001) 0
 unfolding computed
 worked_past_end = refl
 
@@ -190,6 +190,6 @@ unfolding computed
 begins_at_five = used.from_end 1 (omega arith) refl
 
 -- an infinite wait has no piece
-pub infinite_none : (piece : ℕ) → invert_cumulative_hazard (Piecewise least) none z (whole 3) ≡ After (inf false) piece → piece ≡ 0
+pub infinite_none : (piece : ℕ) → invert_cumulative_hazard (Piecewise least) none z (whole 3) ≡ some_wait (inf false) piece → piece ≡ 0
 unfolding computed
 infinite_none piece e = (piece_zero (Piecewise least) none z (whole 3) (inf false) piece e).no_finite_wait refl

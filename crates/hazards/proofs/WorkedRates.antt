@@ -8,15 +8,14 @@ use lib.Dec.{T, ltb, lit<, lit≤}
 use lib.Ieee.{Float, nan, inf, fin, binary64, fits, of_bits, div, lt, le, eq}
 use Rattle.hazards.specs.Floats.{z, two, limit, inverse_limit, most_threshold}
 use Rattle.hazards.specs.Refusals.{outside_limits, no_rate}
-use Rattle.hazards.specs.Rates.{invert_cumulative_hazard}
+use Rattle.hazards.specs.Rates.{invert_cumulative_hazard, some_wait}
 use Rattle.hazards.specs.FirstPlace.{FirstPlace}
 use Rattle.hazards.specs.RateForWait.{within_limits, answered, Answers, WaitsExactly}
 use Rattle.hazards.specs.RateForWait.Answers.{outside}
 use Rattle.hazards.specs.RateForWaitInternals.{past_limit, used_up_within}
 use Rattle.hazards.specs.declared.rates.HazardRate.TheVariants.{Constant}
 use Rattle.hazards.specs.declared.rates.Intervals.{Intervals}
-use Rattle.hazards.specs.declared.rates.Wait.TheVariants.{After}
-use Rattle.hazards.specs.declared.rate_for_wait.RateForWait.{RateForWait}
+use Rattle.hazards.specs.RateForWait.{RateForWait}
 use Rattle.hazards.proofs.Bisection.{at_step, at_start, at_none}
 use Rattle.hazards.proofs.RateForWait.{goes_on, first_answers, none_answers, past_answers}
 use Rattle.hazards.proofs.RateForWait.{answer_gives, answer_none, one_answer}
@@ -145,7 +144,7 @@ one_fifth a h = one_answer one five a (answered 0 (of_bits binary64 0x3fc9_9999_
 
 -- with that rate a cause waits 5 for a threshold of 1, from any start
 waits_five : (pairs : Intervals) (start : Float)
-    → invert_cumulative_hazard (Constant (of_bits binary64 0x3fc9_9999_9999_9999)) pairs start one ≡ After five 0
+    → invert_cumulative_hazard (Constant (of_bits binary64 0x3fc9_9999_9999_9999)) pairs start one ≡ some_wait five 0
 unfolding computed
 waits_five =
     let a = answered 0 (of_bits binary64 0x3fc9_9999_9999_9999) in

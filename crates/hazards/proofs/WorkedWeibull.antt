@@ -7,18 +7,18 @@ use Prim.Native.Nat.{ℕ}
 use lib.IntN.{pos, negsuc}
 use lib.ListN.{replicate}
 use lib.Ieee.{Float, nan, inf, fin, binary64, add, sub, mul, div, lt, le, of_bits, to_bits}
+use Rattle.std.specs.Prelude.{Option, None}
 use Rattle.hazards.specs.Floats.{z, two, limit, inverse_limit, not_below_zero, zero_bits, in_range}
 use Rattle.hazards.specs.Lists.{all}
 use Rattle.hazards.specs.FirstPlace.{first_of}
 use Rattle.hazards.specs.Roots.{fields_multiple, multiple, square_above, root_pattern, nearest_root}
 use Rattle.hazards.specs.Rates.{pieces_by, weibull_hazard, weibull_cumulative, weibull_wait, hazard_of_rate, hazard_at, cumulative_of_rate}
-use Rattle.hazards.specs.Rates.{cumulative_hazard, wait_of_rate, invert_cumulative_hazard}
+use Rattle.hazards.specs.Rates.{cumulative_hazard, wait_of_rate, invert_cumulative_hazard, some_wait}
 use Rattle.hazards.specs.Checks.{range_fault, intervals_fault, choice_fault, hazard_faults}
 use Rattle.hazards.specs.Refusals.{number_of}
 use Rattle.hazards.specs.declared.rates.HazardRate.TheVariants.{Weibull}
 use Rattle.hazards.specs.declared.rates.Intervals.{Intervals}
 use Rattle.hazards.specs.declared.rates.Wait.{Wait}
-use Rattle.hazards.specs.declared.rates.Wait.TheVariants.{After, Never}
 
 unfoldable computed : Unit {0}
 unfolding add sub mul div lt le of_bits to_bits not_below_zero zero_bits in_range all pieces_by
@@ -48,7 +48,7 @@ hazard scale t = hazard_at (Weibull scale) pairs t
 abbrev cumulative : Float → Float → Float
 cumulative scale t = cumulative_hazard (Weibull scale) pairs t
 
-abbrev wait : Float → Float → Float → Wait
+abbrev wait : Float → Float → Float → Option Wait
 wait scale start w = invert_cumulative_hazard (Weibull scale) pairs start w
 
 -- ---- refusals: the number of a kind's fields with no pairs
@@ -109,7 +109,7 @@ unfolding computed
 worked_cumulative = (refl, refl)
 
 -- scale * s - start, not scale * (s - q)
-pub worked_wait : (wait (whole 3) (whole 3) (whole 1) ≡ After (bits 0x3ff3_e1db_337d_b368) 0)
+pub worked_wait : (wait (whole 3) (whole 3) (whole 1) ≡ some_wait (bits 0x3ff3_e1db_337d_b368) 0)
     × (mul binary64 (whole 3) (sub binary64 (nearest_root two) (whole 1)) ≡ bits 0x3ff3_e1db_337d_b367)
 unfolding computed
 worked_wait = (refl, refl)
@@ -121,36 +121,36 @@ pub worked_before : (hazard (whole 3) (negative 0) ≡ z) × (hazard (whole 3) (
 unfolding computed
 worked_before = (refl, refl, refl, refl)
 
-pub worked_negative_start : wait (whole 1) (negative 1) (whole 1) ≡ After (whole 1) 0
+pub worked_negative_start : wait (whole 1) (negative 1) (whole 1) ≡ some_wait (whole 1) 0
 unfolding computed
 worked_negative_start = refl
 
 -- ---- a scale at most 0 is Zero; a w at most 0 waits 0.0 first of all
 
-pub worked_zero : (hazard (negative 2) (whole 3) ≡ z) × (cumulative z (whole 3) ≡ z) × (wait (negative 0) z (whole 1) ≡ Never)
+pub worked_zero : (hazard (negative 2) (whole 3) ≡ z) × (cumulative z (whole 3) ≡ z) × (wait (negative 0) z (whole 1) ≡ None)
 unfolding computed
 worked_zero = (refl, refl, refl)
 
-pub worked_nothing : (wait (negative 2) z z ≡ After z 0) × (wait (whole 2) (whole 3) (negative 1) ≡ After z 0)
+pub worked_nothing : (wait (negative 2) z z ≡ some_wait z 0) × (wait (whole 2) (whole 3) (negative 1) ≡ some_wait z 0)
 unfolding computed
 worked_nothing = (refl, refl)
 
 -- ---- not below 0
 
 -- scale 11, start 15, w 2^-60: 11 times the root is 2^-49 below the start
-pub worked_not_below : (wait (whole 11) (whole 15) (fin false 1 (negsuc 59)) ≡ After z 0)
+pub worked_not_below : (wait (whole 11) (whole 15) (fin false 1 (negsuc 59)) ≡ some_wait z 0)
     × (sub binary64 (mul binary64 (whole 11) (nearest_root (add binary64 (cumulative (whole 11) (whole 15)) (fin false 1 (negsuc 59))))) (whole 15)
     ≡ fin true 1 (negsuc 48))
 unfolding computed
 worked_not_below = (refl, refl)
 
 -- 2^80 + 1 rounds to 2^80, whose root is the start
-pub worked_far : wait (whole 1) limit (whole 1) ≡ After z 0
+pub worked_far : wait (whole 1) limit (whole 1) ≡ some_wait z 0
 unfolding computed
 worked_far = refl
 
 -- ---- an infinite sum waits for ever, and that is no candidate
 
-pub worked_infinite : wait (whole 1) (whole 1) (inf false) ≡ After (inf false) 0
+pub worked_infinite : wait (whole 1) (whole 1) (inf false) ≡ some_wait (inf false) 0
 unfolding computed
 worked_infinite = refl

@@ -6,6 +6,7 @@ use Rattle.hazards.specs.Floats.{z, limit, inverse_limit, zero_bits, in_range}
 use Rattle.hazards.specs.Lists.{all}
 use Rattle.hazards.specs.Rates.{kinds, rate_of_kind, Piece, pieces_by, pair_at, used_pairs}
 use Rattle.hazards.specs.declared.checks.HazardFields.{HazardFields}
+use Rattle.hazards.specs.declared.checks.LentHazard.{LentHazard}
 use Rattle.hazards.specs.declared.refusals.Faults.{Faults}
 use Rattle.hazards.specs.declared.rates.HazardRate.{HazardRate}
 use Rattle.hazards.specs.declared.rates.HazardRate.TheVariants.{Zero, Constant, Gompertz, Piecewise, Weibull}
@@ -57,6 +58,10 @@ intervals_fault (Weibull scale) p = unused_fault p
 
 abbrev pub fields_from : ℕ → Float → ℕ → List Float → List Float → HazardFields
 fields_from kind first count ends rates = record { kind = kind; first = first; count = count; ends = ends; rates = rates }
+
+-- the fields of which the pairs are lent
+abbrev pub lent_fields : LentHazard → HazardFields
+lent_fields h = fields_from h.kind h.first h.pairs.count h.pairs.ends.now h.pairs.rates.now
 
 abbrev pub hazard_of : HazardFields → HazardRate
 hazard_of f = rate_of_kind f.kind f.first

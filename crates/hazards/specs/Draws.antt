@@ -1,12 +1,23 @@
 -- Document 01, "Draws": the tape, here the recorded threshold stream: lent bytes, of which each whole 8 are one f64. Its length
 -- counts these.
-use Rattle.std.specs.Prelude.{cond, List, ℕ, ◌+◌, ◌*◌, ◌/◌, ltb, eqb, length, Float}
+use Rattle.std.specs.Prelude.{cond, List, ℕ, ◌+◌, ◌*◌, ◌/◌, ltb, eqb, length, Float, Result, Ok, Err}
 use Rattle.hazards.specs.Floats.{z, is_threshold}
 use Rattle.hazards.specs.Fields.{f64_at}
-use Rattle.hazards.specs.Refusals.{invalid_state, stream_exhausted, bad_threshold}
-use Rattle.hazards.specs.declared.draws.Draw.{Draw}
-use Rattle.hazards.specs.declared.draws.DrawAndPosition.{DrawAndPosition}
+use Rattle.hazards.specs.Refusals.{number, invalid_state, stream_exhausted, bad_threshold}
+use Rattle.hazards.specs.declared.draws.Drawn.{Drawn}
 use Rattle.hazards.specs.declared.draws.StreamPosition.{StreamPosition}
+use Rattle.hazards.specs.declared.refusals.Refusal.{Refusal}
+
+-- a draw: its refusal or 0, and the threshold
+pub record Draw : Type 0 where
+  pub number : ℕ
+  pub threshold : Float
+
+-- a draw, and the position after it
+pub record DrawAndPosition : Type 0 where
+  pub number : ℕ
+  pub threshold : Float
+  pub position : StreamPosition
 
 abbrev pub stream_length : List ℕ → ℕ
 stream_length stream = length stream / 8
@@ -30,3 +41,14 @@ draw_at stream position =
 -- what a drawing call returns, with the position that it was lent and leaves
 abbrev pub with_position : Draw → StreamPosition → DrawAndPosition
 with_position d p = record { number = d.number; threshold = d.threshold; position = p }
+
+-- ---- what the drawing calls return, read as draws
+
+abbrev pub draw_of : Result Float Refusal → Draw
+draw_of (Ok threshold) = record { number = 0; threshold = threshold }
+draw_of (Err refusal) = record { number = number refusal; threshold = z }
+
+-- with the position that the call was given
+abbrev pub draw_and_position : ℕ → Result Drawn Refusal → DrawAndPosition
+draw_and_position position (Ok drawn) = record { number = 0; threshold = drawn.threshold; position = drawn.position }
+draw_and_position position (Err refusal) = refused_draw (number refusal) position

@@ -4,11 +4,10 @@ use Rattle.std.specs.Prelude.{◌≡◌, Bool, true, false, ◌&&◌, List, [], 
 use Rattle.std.specs.Float.{nan, binary64}
 use Rattle.std.specs.Float.Ieee.{add, sub, mul, div, lt, le}
 use Rattle.hazards.specs.Floats.{z, not_below_zero, is_finite_wait}
-use Rattle.hazards.specs.Rates.{Piece, first_after, used_pairs, uses_pairs, invert_cumulative_hazard}
+use Rattle.hazards.specs.Rates.{Piece, first_after, used_pairs, uses_pairs, invert_cumulative_hazard, some_wait}
 use Rattle.hazards.specs.declared.rates.HazardRate.{HazardRate}
 use Rattle.hazards.specs.declared.rates.HazardRate.TheVariants.{Piecewise}
 use Rattle.hazards.specs.declared.rates.Intervals.{Intervals}
-use Rattle.hazards.specs.declared.rates.Wait.TheVariants.{After}
 
 -- the rate of piece i of a curve: of the pair with that index, and the trailing one past the last pair
 unfoldable pub rate_of : List Piece → Float → ℕ → Float
@@ -60,7 +59,7 @@ pub record EndsIn (ps : List Piece) (trailing start w wait : Float) (piece : ℕ
 -- "the index of the pair used, count for the trailing rate"
 abbrev pub PieceUsed : Type 0
 PieceUsed = (trailing : Float) (p : Intervals) (start w wait : Float) (piece : ℕ)
-    → invert_cumulative_hazard (Piecewise trailing) p start w ≡ After wait piece → le w z ≡ false → is_finite_wait wait ≡ true
+    → invert_cumulative_hazard (Piecewise trailing) p start w ≡ some_wait wait piece → le w z ≡ false → is_finite_wait wait ≡ true
     → EndsIn (used_pairs p) trailing (not_below_zero start) w wait piece
 
 -- that says which: of one w from one start on no two pieces are the one used
@@ -76,4 +75,4 @@ pub record NoPiece (h : HazardRate) (w wait : Float) (piece : ℕ) : Type 0 wher
 
 abbrev pub PieceZero : Type 0
 PieceZero = (h : HazardRate) (p : Intervals) (start w wait : Float) (piece : ℕ)
-    → invert_cumulative_hazard h p start w ≡ After wait piece → NoPiece h w wait piece
+    → invert_cumulative_hazard h p start w ≡ some_wait wait piece → NoPiece h w wait piece

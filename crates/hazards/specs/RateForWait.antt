@@ -1,16 +1,15 @@
 -- Document 02, change 11, "What rate would fail on that day?": from a threshold w above 0 and at most 1,024 and a wait from 2^-40 to
 -- 2^40, the smallest positive f64 rate, at most 2^40, for which w / rate rounds to exactly the wait. Document 02 calls the wait T; here
 -- T b says that a test b holds.
-use Rattle.std.specs.Prelude.{◌≡◌, ◌↔◌, Bool, true, false, ◌&&◌, ℕ, T, Float}
+use Rattle.std.specs.Prelude.{◌≡◌, ◌↔◌, Bool, true, false, ◌&&◌, ℕ, T, Float, Result, Ok, Err}
 use Rattle.std.specs.Float.{binary64}
 use Rattle.std.specs.Float.Ieee.{fits, div, lt, le}
 use Rattle.hazards.specs.Floats.{z, limit, inverse_limit, most_threshold, in_range}
-use Rattle.hazards.specs.Refusals.{outside_limits, no_rate}
-use Rattle.hazards.specs.Rates.{invert_cumulative_hazard}
+use Rattle.hazards.specs.Refusals.{number, outside_limits, no_rate}
+use Rattle.hazards.specs.Rates.{invert_cumulative_hazard, some_wait}
 use Rattle.hazards.specs.declared.rates.HazardRate.TheVariants.{Constant}
 use Rattle.hazards.specs.declared.rates.Intervals.{Intervals}
-use Rattle.hazards.specs.declared.rates.Wait.TheVariants.{After}
-use Rattle.hazards.specs.declared.rate_for_wait.RateForWait.{RateForWait}
+use Rattle.hazards.specs.declared.refusals.Refusal.{Refusal}
 
 -- "a threshold w above 0 and at most 1,024 and a wait T from 2^-40 to 2^40"
 unfoldable pub within_limits : Float → Float → Bool
@@ -22,6 +21,11 @@ pub record Gives (w wait rate : Float) : Type 0 where
   pub is_positive : T (lt z rate)
   pub at_most : T (le rate limit)
   pub exactly : div binary64 w rate ≡ wait
+
+-- number 0 and the rate, or 23 or 24 and 0.0
+pub record RateForWait : Type 0 where
+  pub number : ℕ
+  pub rate : Float
 
 -- a number, and the rate: 0.0 where there is none
 abbrev pub answered : ℕ → Float → RateForWait
@@ -37,6 +41,11 @@ pub data Answers (w wait : Float) : RateForWait → Type 0 where
   -- "A w or T outside these limits is refused"
   outside : within_limits w wait ≡ false → Answers w wait (answered outside_limits z)
 
+-- what the call returns, read so
+abbrev pub rate_answer : Result Float Refusal → RateForWait
+rate_answer (Ok rate) = answered 0 rate
+rate_answer (Err refusal) = answered (number refusal) z
+
 -- ---- what follows of it
 
 -- one answer alone is right
@@ -48,7 +57,7 @@ OneAnswer = (w wait : Float) (a b : RateForWait) → Answers w wait a → Answer
 pub record WaitsExactly (w wait rate : Float) : Type 0 where
   pub is_f64 : T (fits binary64 rate)
   pub in_limits : T (in_range rate)
-  pub waits : (pairs : Intervals) (start : Float) → invert_cumulative_hazard (Constant rate) pairs start w ≡ After wait 0
+  pub waits : (pairs : Intervals) (start : Float) → invert_cumulative_hazard (Constant rate) pairs start w ≡ some_wait wait 0
 
 abbrev pub ConstantHazard : Type 0
 ConstantHazard = (w wait rate : Float) → within_limits w wait ≡ true → Gives w wait rate ↔ WaitsExactly w wait rate

@@ -4,9 +4,8 @@ use Rattle.std.specs.Float.{binary64}
 use Rattle.std.specs.Float.Ieee.{of_bits, div, le, eq}
 use Rattle.hazards.specs.Floats.{z}
 use Rattle.hazards.specs.Refusals.{no_rate}
-use Rattle.hazards.specs.RateForWait.{answered}
+use Rattle.hazards.specs.RateForWait.{RateForWait, answered}
 use Rattle.hazards.specs.declared.rate_for_wait.Bracket.{Bracket}
-use Rattle.hazards.specs.declared.rate_for_wait.RateForWait.{RateForWait}
 
 -- the bit pattern behind that of 2^40
 abbrev pub past_limit : ℕ

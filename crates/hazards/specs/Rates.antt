@@ -1,7 +1,7 @@
 -- Document 01, "Hazard arithmetic": hazard_at, cumulative_hazard and invert_cumulative_hazard of competing_risks.rs, operation by
 -- operation at binary64, each rounded once. Gompertz is the one with b = 0: its hazard is eta at every time. Document 02, change 4: kind
 -- 4, Weibull with shape 2; change 6: the piece that a wait ends in.
-use Rattle.std.specs.Prelude.{Bool, true, false, cond, ◌&&◌, List, [], ◌∷◌, ℕ, zero, suc, min, eqb, get_or, drop, Float}
+use Rattle.std.specs.Prelude.{Bool, true, false, cond, ◌&&◌, List, [], ◌∷◌, ℕ, zero, suc, min, eqb, get_or, drop, Float, Option, None, Some}
 use Rattle.std.specs.Float.{nan, binary64}
 use Rattle.std.specs.Float.Ieee.{add, sub, mul, div, lt, le}
 use Rattle.hazards.specs.Floats.{z, two, not_below_zero, is_finite_wait}
@@ -9,8 +9,8 @@ use Rattle.hazards.specs.Roots.{nearest_root}
 use Rattle.hazards.specs.declared.rates.HazardRate.{HazardRate}
 use Rattle.hazards.specs.declared.rates.HazardRate.TheVariants.{Zero, Constant, Gompertz, Piecewise, Weibull}
 use Rattle.hazards.specs.declared.rates.Intervals.{Intervals}
+use Rattle.hazards.specs.declared.rates.Pairs.{Pairs}
 use Rattle.hazards.specs.declared.rates.Wait.{Wait}
-use Rattle.hazards.specs.declared.rates.Wait.TheVariants.{After, Never}
 
 -- ---- the kinds: 0 Zero, 1 Constant, 2 Gompertz, 3 PiecewiseConstant, 4 Weibull with shape 2
 
@@ -41,6 +41,10 @@ own_rate (Gompertz eta) = eta
 own_rate (Piecewise trailing) = trailing
 own_rate (Weibull scale) = scale
 
+-- a wait and the piece that it ends in
+abbrev pub some_wait : Float → ℕ → Option Wait
+some_wait time piece = Some (record { time = time; piece = piece })
+
 -- ---- a hazard curve in pieces
 
 -- a piece: its rate holds before its end, and no longer at it
@@ -63,6 +67,10 @@ first_after t (p ∷ ps) = cond (le p.end t) (suc (first_after t ps)) 0
 -- the intervals of two arrays and a count
 abbrev pub intervals_from : List Float → List Float → ℕ → Intervals
 intervals_from ends rates count = record { ends = ends; rates = rates; count = count }
+
+-- the pairs that are lent
+abbrev pub lent_pairs : Pairs → Intervals
+lent_pairs p = intervals_from p.ends.now p.rates.now p.count
 
 -- the pair at an index of the two arrays
 abbrev pub pair_at : Intervals → ℕ → Piece
@@ -92,10 +100,10 @@ weibull_cumulative scale t =
     cond (le scale z) z (mul binary64 q q)
 
 -- "scale times s, less the start, not below 0, where s is the f64 nearest to the root of (cumulative at start + w)"
-unfoldable pub weibull_wait : Float → Float → Float → Wait
+unfoldable pub weibull_wait : Float → Float → Float → Option Wait
 weibull_wait scale start w =
     let s = nearest_root (add binary64 (weibull_cumulative scale start) w) in
-    cond (le scale z) Never (After (not_below_zero (sub binary64 (mul binary64 scale s) start)) 0)
+    cond (le scale z) None (some_wait (not_below_zero (sub binary64 (mul binary64 scale s) start)) 0)
 
 -- ---- hazard_at
 
@@ -138,19 +146,19 @@ cumulative_hazard h p t = cond (le t z) z (cumulative_of_rate h p t)
 -- rate, 0 for all other kinds, for w at most 0 and where there is no finite wait"
 
 -- a wait that ends in a piece; one that is not finite ends in none
-unfoldable pub ends_in : ℕ → Float → Wait
-ends_in piece wait = After wait (cond (is_finite_wait wait) piece 0)
+unfoldable pub ends_in : ℕ → Float → Option Wait
+ends_in piece wait = some_wait wait (cond (is_finite_wait wait) piece 0)
 
 -- w is reached at cur + w / rate, in a piece; the wait is that less the start
-abbrev pub wait_through : ℕ → Float → Float → Float → Float → Wait
+abbrev pub wait_through : ℕ → Float → Float → Float → Float → Option Wait
 wait_through piece start cur rate w = ends_in piece (sub binary64 (add binary64 cur (div binary64 w rate)) start)
 
 -- w is the hazard still to accumulate from cur on, which lies in the first of these pieces or at its beginning. The first has index i,
 -- and so the trailing rate, which follows the last, has the number of pairs
-unfoldable pub wait_from : ℕ → List Piece → Float → Float → Float → Float → Wait
+unfoldable pub wait_from : ℕ → List Piece → Float → Float → Float → Float → Option Wait
 wait_from i [] trailing start cur w =
     let rate = not_below_zero trailing in
-    cond (le rate z) Never (wait_through i start cur rate w)
+    cond (le rate z) None (wait_through i start cur rate w)
 wait_from i (p ∷ ps) trailing start cur w =
     let rate = not_below_zero p.rate in
     let capacity = mul binary64 rate (sub binary64 p.end cur) in
@@ -158,21 +166,21 @@ wait_from i (p ∷ ps) trailing start cur w =
     (wait_from (suc i) ps trailing start p.end (sub binary64 w capacity))
 
 -- the pieces that end at or before the start are passed over
-abbrev pub piecewise_wait : List Piece → Float → Float → Float → Wait
+abbrev pub piecewise_wait : List Piece → Float → Float → Float → Option Wait
 piecewise_wait ps trailing start w =
     let i = first_after start ps in
     wait_from i (drop i ps) trailing start start w
 
-unfoldable pub constant_wait : Float → Float → Wait
-constant_wait rate w = cond (le rate z) Never (After (div binary64 w rate) 0)
+unfoldable pub constant_wait : Float → Float → Option Wait
+constant_wait rate w = cond (le rate z) None (some_wait (div binary64 w rate) 0)
 
-unfoldable pub wait_of_rate : HazardRate → Intervals → Float → Float → Wait
-wait_of_rate Zero p start w = Never
+unfoldable pub wait_of_rate : HazardRate → Intervals → Float → Float → Option Wait
+wait_of_rate Zero p start w = None
 wait_of_rate (Constant rate) p start w = constant_wait (not_below_zero rate) w
 wait_of_rate (Gompertz eta) p start w = constant_wait eta w
 wait_of_rate (Piecewise trailing) p start w = piecewise_wait (used_pairs p) trailing start w
 wait_of_rate (Weibull scale) p start w = weibull_wait scale start w
 
 -- w at most 0 waits 0.0, even for Zero
-unfoldable pub invert_cumulative_hazard : HazardRate → Intervals → Float → Float → Wait
-invert_cumulative_hazard h p start w = cond (le w z) (After z 0) (wait_of_rate h p (not_below_zero start) w)
+unfoldable pub invert_cumulative_hazard : HazardRate → Intervals → Float → Float → Option Wait
+invert_cumulative_hazard h p start w = cond (le w z) (some_wait z 0) (wait_of_rate h p (not_below_zero start) w)

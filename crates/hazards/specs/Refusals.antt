@@ -2,8 +2,12 @@
 -- the table's words; then those of document 02. Every crate takes them from here.
 -- Document 01's tape is the recorded threshold stream here, and an entry a threshold; what stands is what is applied; the run call
 -- is the batch run.
-use Rattle.std.specs.Prelude.{Bool, false, not, cond, ◌||◌, ℕ, eqb}
+use Rattle.std.specs.Prelude.{Bool, false, not, cond, ◌||◌, ◌≡◌, ◌≢◌, ℕ, eqb, Result, Ok, Err, MatchResult}
 use Rattle.hazards.specs.declared.refusals.Faults.{Faults}
+use Rattle.hazards.specs.declared.refusals.Refusal.{Refusal}
+use Rattle.hazards.specs.declared.refusals.Refusal.TheVariants.{InvalidState, NoCommand, CutShort, BadChoice, OutOfRange, BadIntervals, BadIdentifier, ClockPresent, ClockAbsent, TooManyCauses}
+use Rattle.hazards.specs.declared.refusals.Refusal.TheVariants.{QueueEmpty, NothingApplied, ReplayFails, JournalFull, StreamExhausted, BadThreshold, AnswersFull, BadBuffers, OutsideLimits, NoRate}
+use Rattle.hazards.specs.declared.refusals.UnknownRefusal.{UnknownRefusal}
 
 -- state handed in: over 8 channels in a clock or pairs in a channel, a hazard 5 or 6 would refuse, a used float not finite,
 -- causes in a clock not strictly ascending, over 16 queued requests, an index twice or not below the request counter, a queued
@@ -90,6 +94,39 @@ outside_limits = 23
 -- no f64 above 0 and at most 2^40 gives the wait
 abbrev pub no_rate : ℕ
 no_rate = 24
+
+-- ---- the refusals by name
+
+abbrev pub number : Refusal → ℕ
+number InvalidState = invalid_state
+number NoCommand = no_command
+number CutShort = cut_short
+number BadChoice = bad_choice
+number OutOfRange = out_of_range
+number BadIntervals = bad_intervals
+number BadIdentifier = bad_identifier
+number ClockPresent = clock_present
+number ClockAbsent = clock_absent
+number TooManyCauses = too_many_causes
+number QueueEmpty = queue_empty
+number NothingApplied = nothing_applied
+number ReplayFails = replay_fails
+number JournalFull = journal_full
+number StreamExhausted = stream_exhausted
+number BadThreshold = bad_threshold
+number AnswersFull = answers_full
+number BadBuffers = bad_buffers
+number OutsideLimits = outside_limits
+number NoRate = no_rate
+
+-- the refusal with this number, or an error with a number that no refusal has
+abbrev pub Numbers : ℕ → Result Refusal UnknownRefusal → Type 0
+Numbers code r = MatchResult r (λ refusal. number refusal ≡ code) (λ e. (e.0 ≡ code) × ((refusal : Refusal) → number refusal ≢ code))
+
+-- the number of a refusal, or 0
+abbrev pub refused_number : {A : Type 0} → Result A Refusal → ℕ
+refused_number (Ok _) = 0
+refused_number (Err refusal) = number refusal
 
 -- ---- refusals 4 to 7: one flag for each, of a part of an input
 

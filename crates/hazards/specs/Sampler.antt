@@ -1,6 +1,6 @@
 -- Document 01, "Run call and sampler": sample_next of competing_risks.rs over eight records, of which the first n are used, with
 -- its own position in the recorded threshold stream.
-use Rattle.std.specs.Prelude.{true, false, not, cond, ◌&&◌, ◌||◌, List, [], ◌∷◌, ◌++◌, ℕ, zero, suc, ◌+◌, eqb, ltb, take, Float}
+use Rattle.std.specs.Prelude.{true, false, not, cond, ◌&&◌, ◌||◌, List, [], ◌∷◌, ◌++◌, ℕ, zero, suc, ◌+◌, eqb, ltb, take, Float, Option, Some, None}
 use Rattle.std.specs.Float.Ieee.{sub, lt}
 use Rattle.std.specs.Float.{binary64}
 use Rattle.hazards.specs.Floats.{not_below_zero, zero_bits, is_time}
@@ -13,8 +13,6 @@ use Rattle.hazards.specs.Draws.{stream_length, threshold_at, draw_at}
 use Rattle.hazards.specs.Ties.{candidate_after, tie_breaker_of, earliest}
 use Rattle.hazards.specs.declared.refusals.Faults.{Faults}
 use Rattle.hazards.specs.declared.ties.Candidate.{Candidate}
-use Rattle.hazards.specs.declared.ties.Earliest.{Earliest}
-use Rattle.hazards.specs.declared.ties.Earliest.TheVariants.{Nothing, Found}
 use Rattle.hazards.specs.declared.answers.Answer.{Answer}
 use Rattle.hazards.specs.declared.sampler.CompetingCause.{CompetingCause}
 use Rattle.hazards.specs.declared.sampler.SampleSettings.{SampleSettings}
@@ -73,11 +71,11 @@ candidates (c ∷ cs) age threshold place =
 
 -- No candidate: censored at a censor age above the current age, else no event. A candidate: censored where its wait is longer
 -- than the span to the censor age, which counts as 0 if that age is before the current one.
-unfoldable pub censored_at : Earliest → SampleSettings → Answer
-censored_at Nothing s =
+unfoldable pub censored_at : Option Candidate → SampleSettings → Answer
+censored_at None s =
     let span = sub binary64 s.censor_age s.current_age in
     cond (eqb s.has_censor 1 && lt s.current_age s.censor_age) (event_of no_cause span true 0) (no_event 0)
-censored_at (Found c) s =
+censored_at (Some c) s =
     let span = not_below_zero (sub binary64 s.censor_age s.current_age) in
     cond (eqb s.has_censor 1 && lt span c.time) (event_of no_cause span true 0)
     (event_of c.cause_id c.time false c.piece)

@@ -2,29 +2,26 @@
 -- clock share this; the time compared is the wait in the one and now + wait in the other. Document 01, "From HashMap and Vec":
 -- sort_by is a scan for the best candidate, the earlier kept on a full tie. Document 02, change 6: a candidate has the piece that its wait
 -- ends in.
-use Rattle.std.specs.Prelude.{Bool, true, false, cond, List, [], ◌∷◌, ℕ, min, eqb, ltb, Float}
+use Rattle.std.specs.Prelude.{Bool, true, false, cond, List, [], ◌∷◌, ℕ, min, eqb, ltb, Float, Option, Some, None}
 use Rattle.std.specs.Float.Ieee.{lt}
 use Rattle.hazards.specs.Floats.{is_finite_wait}
 use Rattle.hazards.specs.Lists.{foldl}
 use Rattle.hazards.specs.declared.rates.Wait.{Wait}
-use Rattle.hazards.specs.declared.rates.Wait.TheVariants.{After, Never}
 use Rattle.hazards.specs.declared.ties.TieBreaker.{TieBreaker}
 use Rattle.hazards.specs.declared.ties.TieBreaker.TheVariants.{LowestCauseId, HighestCauseId, ExplicitPriority}
 use Rattle.hazards.specs.declared.ties.Candidate.{Candidate}
-use Rattle.hazards.specs.declared.ties.Earliest.{Earliest}
-use Rattle.hazards.specs.declared.ties.Earliest.TheVariants.{Nothing, Found}
 
 -- a piece as an answer has it, in one byte
 abbrev pub capped_piece : ℕ → ℕ
 capped_piece piece = min piece 255
 
 -- a wait of at least 0 that is not infinite is a candidate, at a time worked out from it
-unfoldable pub candidate_after : ℕ → ℕ → (Float → Float) → Wait → List Candidate
-candidate_after cause priority time_of (After wait piece) =
-    cond (is_finite_wait wait)
-    (record { cause_id = cause; priority = priority; time = time_of wait; piece = capped_piece piece } ∷ [])
+unfoldable pub candidate_after : ℕ → ℕ → (Float → Float) → Option Wait → List Candidate
+candidate_after cause priority time_of (Some wait) =
+    cond (is_finite_wait wait.time)
+    (record { cause_id = cause; priority = priority; time = time_of wait.time; piece = capped_piece wait.piece } ∷ [])
     []
-candidate_after cause priority time_of Never = []
+candidate_after cause priority time_of None = []
 
 -- tie: 0 lowest cause, 1 highest, 2 explicit priority; a tie above 2 is refused by 4 before this is asked
 abbrev pub tie_breaker_of : ℕ → TieBreaker
@@ -49,9 +46,9 @@ unfoldable pub precedes : TieBreaker → Candidate → Candidate → Bool
 precedes tie a b = cond (lt a.time b.time) true (cond (lt b.time a.time) false (preferred tie a b))
 
 -- the better of what was found and the next candidate; on a full tie what was found
-unfoldable pub earlier : TieBreaker → Earliest → Candidate → Earliest
-earlier tie Nothing c = Found c
-earlier tie (Found best) c = cond (precedes tie c best) (Found c) (Found best)
+unfoldable pub earlier : TieBreaker → Option Candidate → Candidate → Option Candidate
+earlier tie None c = Some c
+earlier tie (Some best) c = cond (precedes tie c best) (Some c) (Some best)
 
-unfoldable pub earliest : TieBreaker → List Candidate → Earliest
-earliest tie cs = foldl (earlier tie) Nothing cs
+unfoldable pub earliest : TieBreaker → List Candidate → Option Candidate
+earliest tie cs = foldl (earlier tie) None cs

@@ -1,17 +1,18 @@
 // What refusals 4 to 6 say of a hazard, and the fields of a hazard as in SET with the hazard that they stand for.
-ghost use Rattle.std.specs.Prelude.{◌≡◌, not, ◌&&◌, ◌||◌, List, ℕ, eqb, ltb, Float};
+ghost use Rattle.std.specs.Prelude.{◌≡◌, not, ◌&&◌, ◌||◌, List, eqb, ltb, Float};
 ghost use Rattle.std.specs.Float.Ieee.{lt, le};
 ghost use Rattle.hazards.specs.Floats.{z, limit, zero_bits, in_range};
 ghost use Rattle.hazards.specs.Lists.{all};
-ghost use Rattle.hazards.specs.Rates.{kinds, intervals_from, used_pairs};
+ghost use Rattle.hazards.specs.Rates.{kinds, intervals_from, lent_pairs, used_pairs};
 ghost use Rattle.hazards.specs.Checks.{scale_fault, range_fault, pairs_from, zero_pair, ascending, unused_fault, pairs_fault, intervals_fault, hazard_of};
-ghost use Rattle.hazards.specs.Checks.{intervals_of, fields_from, hazard_faults};
+ghost use Rattle.hazards.specs.Checks.{intervals_of, lent_fields, hazard_faults};
 
 use crate::floats::{INVERSE_LIMIT, LIMIT, in_range, zero_bits};
-use crate::rates::{HazardRate, Intervals, KINDS, rate_of_kind};
+use crate::rates::{HazardRate, Intervals, KINDS, Pairs, rate_of_kind, uses_pairs};
 use crate::refusals::Faults;
 
 // The fields of a hazard as in SET.
+// Kept: the definition Checks.choice_fault refuses a kind off its list, and pairs_fault a count above 8.
 #[derive(Clone, Copy)]
 pub struct HazardFields {
     pub kind: u8,
@@ -21,20 +22,22 @@ pub struct HazardFields {
     pub rates: [f64; 8],
 }
 
+// The fields of a hazard as in SET, its pairs lent where they lie.
+// Kept: the definition Checks.choice_fault refuses a kind off its list; lent beside HazardFields, so that 128 bytes are not copied.
+#[derive(Clone, Copy)]
+pub struct LentHazard<'a> {
+    pub kind: u8,
+    pub first: f64,
+    pub pairs: Pairs<'a>,
+}
+
 // The rates of the used pairs are in range, whatever their ends.
+// Kept: the check does not tell the length of an array behind a reference in a struct's field, so the rates are handed in.
 fn rates_in_range(rates: &[f64; 8], count: usize) -> bool
     ensures { (ends : List Float)
         → result ≡ all (λ q. in_range q.rate) (used_pairs (intervals_from ends rates.now count)) }
 {
-    let used = crate::rates::at_most_eight(count);
-    let mut i: usize = 0;
-    while i < used {
-        if !in_range(rates[i]) {
-            return false;
-        }
-        i += 1;
-    }
-    true
+    rates[..count.min(8)].iter().all(|&rate| in_range(rate))
 }
 
 // An end above the one before it and at most 2^40.
@@ -44,20 +47,18 @@ fn ascends(before: f64, end: f64) -> bool
     before < end && end <= LIMIT
 }
 
-// The ends of the used pairs ascend from above 0 to at most 2^40, whatever their rates.
-fn ends_ascend(ends: &[f64; 8], count: usize) -> bool
-    ensures { (rates : List Float) → result ≡ ascending z (used_pairs (intervals_from ends.now rates count)) }
+// The ends of the used pairs ascend from above 0 to at most 2^40.
+fn ends_ascend(pairs: Pairs<'_>) -> bool
+    ensures { result ≡ ascending z (used_pairs (lent_pairs pairs.entry)) }
 {
-    let used = crate::rates::at_most_eight(count);
+    let used = pairs.used();
     let mut before = 0.0;
-    let mut i: usize = 0;
-    while i < used {
-        let end = ends[i];
+    for i in 0..used {
+        let end = pairs.ends[i];
         if !ascends(before, end) {
             return false;
         }
         before = end;
-        i += 1;
     }
     true
 }
@@ -72,25 +73,23 @@ fn zero_pair(end: f64, rate: f64) -> bool
 }
 
 // All bits of the pairs from index `from` on are zero.
-fn unused_are_zero<'a>(ends: &'a [f64; 8], rates: &'a [f64; 8], from: usize) -> bool
-    ensures { (n : ℕ) → result ≡ all zero_pair (pairs_from (intervals_from ends.now rates.now n) from) }
+fn unused_are_zero(pairs: Pairs<'_>, from: usize) -> bool
+    ensures { result ≡ all zero_pair (pairs_from (lent_pairs pairs.entry) from) }
 {
     let mut zero = true;
-    let mut i = from;
-    while i < 8 {
-        zero = zero & zero_pair(ends[i], rates[i]);
-        i += 1;
+    for i in from..8 {
+        zero = zero & zero_pair(pairs.ends[i], pairs.rates[i]);
     }
     zero
 }
 
 // Refusal 5 of a piecewise hazard.
-fn piecewise_range_fault(trailing: f64, rates: &[f64; 8], count: usize) -> bool
-    ensures { (ends : List Float)
-        → result ≡ range_fault (HazardRate.Piecewise trailing) (intervals_from ends rates.now count) }
+fn piecewise_range_fault(trailing: f64, pairs: Pairs<'_>) -> bool
+    ensures { (ends : List Float) → result
+        ≡ range_fault (HazardRate.Piecewise trailing) (intervals_from ends pairs.entry.rates.now pairs.entry.count) }
 {
     let own = in_range(trailing);
-    let used = rates_in_range(rates, count);
+    let used = rates_in_range(pairs.rates, pairs.count);
     !(own & used)
 }
 
@@ -104,54 +103,48 @@ fn scale_fault(scale: f64) -> bool
 }
 
 // Refusal 5 of a hazard, whatever its ends.
-pub fn range_fault(hazard: HazardRate, rates: &[f64; 8], count: usize) -> bool
-    ensures { (ends : List Float) → result ≡ range_fault hazard (intervals_from ends rates.now count) }
+pub fn range_fault(hazard: HazardRate, pairs: Pairs<'_>) -> bool
+    ensures { (ends : List Float) → result
+        ≡ range_fault hazard (intervals_from ends pairs.entry.rates.now pairs.entry.count) }
 {
     match hazard {
         HazardRate::Zero => false,
         HazardRate::Constant(rate) => !in_range(rate),
         HazardRate::Gompertz(eta) => !in_range(eta),
-        HazardRate::Piecewise(trailing) => piecewise_range_fault(trailing, rates, count),
+        HazardRate::Piecewise(trailing) => piecewise_range_fault(trailing, pairs),
         HazardRate::Weibull(scale) => scale_fault(scale),
     }
 }
 
 // Refusal 6 of a hazard that uses no pairs.
-pub(crate) fn unused_fault<'a>(ends: &'a [f64; 8], rates: &'a [f64; 8], count: usize) -> bool
-    ensures { result ≡ unused_fault (intervals_from ends.now rates.now count) }
+pub(crate) fn unused_fault(pairs: Pairs<'_>) -> bool
+    ensures { result ≡ unused_fault (lent_pairs pairs.entry) }
 {
-    let none = count == 0;
-    let zero = unused_are_zero(ends, rates, 0);
+    let none = pairs.count == 0;
+    let zero = unused_are_zero(pairs, 0);
     !(none & zero)
 }
 
 // Refusal 6 of a piecewise hazard.
-fn pairs_fault<'a>(ends: &'a [f64; 8], rates: &'a [f64; 8], count: usize) -> bool
-    ensures { result ≡ pairs_fault (intervals_from ends.now rates.now count) }
+fn pairs_fault(pairs: Pairs<'_>) -> bool
+    ensures { result ≡ pairs_fault (lent_pairs pairs.entry) }
 {
-    if count > 8 {
+    if pairs.count > 8 {
         return true;
     }
-    let zero = unused_are_zero(ends, rates, count);
-    let ascend = ends_ascend(ends, count);
+    let zero = unused_are_zero(pairs, pairs.count);
+    let ascend = ends_ascend(pairs);
     !(zero & ascend)
 }
 
 // Refusal 6 of a hazard.
-pub fn intervals_fault<'a>(
-    hazard: HazardRate,
-    ends: &'a [f64; 8],
-    rates: &'a [f64; 8],
-    count: usize,
-) -> bool
-    ensures { result ≡ intervals_fault hazard (intervals_from ends.now rates.now count) }
+pub fn intervals_fault(hazard: HazardRate, pairs: Pairs<'_>) -> bool
+    ensures { result ≡ intervals_fault hazard (lent_pairs pairs.entry) }
 {
-    match hazard {
-        HazardRate::Zero => unused_fault(ends, rates, count),
-        HazardRate::Constant(_) => unused_fault(ends, rates, count),
-        HazardRate::Gompertz(_) => unused_fault(ends, rates, count),
-        HazardRate::Piecewise(_) => pairs_fault(ends, rates, count),
-        HazardRate::Weibull(_) => unused_fault(ends, rates, count),
+    if uses_pairs(hazard) {
+        pairs_fault(pairs)
+    } else {
+        unused_fault(pairs)
     }
 }
 
@@ -168,23 +161,25 @@ pub(crate) fn choice_fault(kind: u8, first: f64) -> bool
     !zero_bits(first)
 }
 
-// Refusals 4 to 6 of a hazard's fields.
-pub fn hazard_faults<'a>(
-    kind: u8,
-    first: f64,
-    count: u8,
-    ends: &'a [f64; 8],
-    rates: &'a [f64; 8],
-) -> Faults
-    ensures { result ≡ hazard_faults (fields_from kind first count ends.now rates.now) }
-{
-    let hazard = rate_of_kind(kind, first);
-    let pairs = count as usize;
-    Faults {
-        choice: choice_fault(kind, first),
-        range: range_fault(hazard, rates, pairs),
-        intervals: intervals_fault(hazard, ends, rates, pairs),
-        identifier: false,
+impl<'a> LentHazard<'a> {
+    // The hazard that the fields stand for.
+    pub fn hazard(self) -> HazardRate
+        ensures { result ≡ hazard_of (lent_fields self.entry) }
+    {
+        rate_of_kind(self.kind, self.first)
+    }
+
+    // Refusals 4 to 6 of these fields.
+    pub fn faults(self) -> Faults
+        ensures { result ≡ hazard_faults (lent_fields self.entry) }
+    {
+        let hazard = self.hazard();
+        Faults {
+            choice: choice_fault(self.kind, self.first),
+            range: range_fault(hazard, self.pairs),
+            intervals: intervals_fault(hazard, self.pairs),
+            identifier: false,
+        }
     }
 }
 
@@ -193,7 +188,7 @@ impl HazardFields {
     pub fn hazard(self) -> HazardRate
         ensures { result ≡ hazard_of self }
     {
-        rate_of_kind(self.kind, self.first)
+        self.lent().hazard()
     }
 
     // The pairs, used or not, with their count.
@@ -205,7 +200,24 @@ impl HazardFields {
         Intervals {
             ends,
             rates,
-            count: self.count as usize,
+            count: usize::from(self.count),
+        }
+    }
+
+    // These fields, lent.
+    pub fn lent(&self) -> LentHazard<'_>
+        ensures { lent_fields result ≡ self.now }
+    {
+        let count = usize::from(self.count);
+        let pairs = Pairs {
+            ends: &self.ends,
+            rates: &self.rates,
+            count,
+        };
+        LentHazard {
+            kind: self.kind,
+            first: self.first,
+            pairs,
         }
     }
 
@@ -213,6 +225,6 @@ impl HazardFields {
     pub fn faults(self) -> Faults
         ensures { result ≡ hazard_faults self }
     {
-        hazard_faults(self.kind, self.first, self.count, &self.ends, &self.rates)
+        self.lent().faults()
     }
 }

@@ -11,7 +11,7 @@ pub const INVERSE_LIMIT: f64 = 0.0000000000009094947017729282379150390625;
 // The largest threshold.
 pub const MOST_THRESHOLD: f64 = 1024.0;
 
-// x.max(0.0), with +0.0 for a negative number and for -0.0.
+// Kept: the definition Floats.not_below_zero gives +0.0 for -0.0 too, where x.max(0.0) may give either.
 pub fn not_below_zero(x: f64) -> f64
     ensures { result ≡ not_below_zero x }
 {
@@ -22,7 +22,7 @@ pub fn not_below_zero(x: f64) -> f64
 pub fn zero_bits(x: f64) -> bool
     ensures { result ≡ zero_bits x }
 {
-    if x != x { false } else { f64::to_bits(x) == 0 }
+    !x.is_nan() && f64::to_bits(x) == 0
 }
 
 // Finite and of size at most 2^40.
@@ -36,11 +36,7 @@ pub fn in_range(x: f64) -> bool
 pub fn is_time(x: f64) -> bool
     ensures { result ≡ is_time x }
 {
-    if x <= LIMIT {
-        f64::to_bits(x) < 0x8000_0000_0000_0000
-    } else {
-        false
-    }
+    x <= LIMIT && f64::to_bits(x) < 0x8000_0000_0000_0000
 }
 
 // Finite, not below 0 and not above 1,024.
@@ -54,6 +50,5 @@ pub fn is_threshold(x: f64) -> bool
 pub fn is_finite_wait(x: f64) -> bool
     ensures { result ≡ is_finite_wait x }
 {
-    let infinity = 1.0 / 0.0;
-    x >= 0.0 && x < infinity
+    x >= 0.0 && x < f64::INFINITY
 }

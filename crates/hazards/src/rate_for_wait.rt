@@ -1,30 +1,16 @@
 // Document 02, change 11: the constant rate at which a threshold is used up after a given wait.
 ghost use Rattle.std.specs.Prelude.{◌≡◌, true, ◌≤◌};
 ghost use Rattle.hazards.specs.FirstPlace.{FirstPlace, Between};
-ghost use Rattle.hazards.specs.RateForWait.{within_limits, answered, Answers};
+ghost use Rattle.hazards.specs.RateForWait.{within_limits, rate_answer, Answers};
 ghost use Rattle.hazards.specs.RateForWaitInternals.{past_limit, used_up_within, bracket_of, exact_rate};
-ghost use Rattle.hazards.specs.Floats.{z};
 
 use crate::floats::{INVERSE_LIMIT, LIMIT, MOST_THRESHOLD};
-use crate::refusals::{NO_RATE, OUTSIDE_LIMITS};
+use crate::refusals::Refusal;
 
 // The bit pattern of 2^40, the largest rate, and the one behind it.
 const LIMIT_PATTERN: u64 = 0x4270_0000_0000_0000;
 
 const PAST_LIMIT: u64 = 0x4270_0000_0000_0001;
-
-// Number 0 and the rate, or 23 or 24 and 0.0.
-#[derive(Clone, Copy)]
-pub struct RateForWait {
-    pub number: u8,
-    pub rate: f64,
-}
-
-fn without_rate(number: u8) -> RateForWait
-    ensures { result ≡ answered number z }
-{
-    RateForWait { number, rate: 0.0 }
-}
 
 // A threshold above 0 and at most 1,024, a wait from 2^-40 to 2^40.
 fn within_limits(threshold: f64, wait: f64) -> bool
@@ -89,6 +75,7 @@ fn bracket_around(threshold: f64, wait: f64) -> Bracket
 
 // The bit pattern of the smallest rate for which threshold / rate is at most the wait, or PAST_LIMIT, by bisection: bit patterns of
 // positive floats ascend with their values, and the quotient never grows as the rate grows.
+// Kept: a bisection counts no index, and the library's is over slices.
 fn first_pattern(threshold: f64, wait: f64) -> u64
     requires { within_limits threshold wait ≡ true }
     ensures { FirstPlace (used_up_within threshold wait) 1 past_limit result }
@@ -108,28 +95,28 @@ fn first_pattern(threshold: f64, wait: f64) -> u64
 }
 
 // The rate with this bit pattern where threshold / rate is the wait, else 24.
-fn exact_rate(threshold: f64, wait: f64, pattern: u64) -> RateForWait
+fn exact_rate(threshold: f64, wait: f64, pattern: u64) -> Result<f64, Refusal>
     requires { pattern ≤ past_limit }
-    ensures { result ≡ exact_rate threshold wait pattern }
+    ensures { rate_answer result ≡ exact_rate threshold wait pattern }
 {
     let rate = f64::from_bits(pattern);
     if threshold / rate == wait {
-        return RateForWait { number: 0, rate };
+        return Ok(rate);
     }
-    without_rate(NO_RATE)
+    Err(Refusal::NoRate)
 }
 
 // The smallest positive rate, at most 2^40, for which threshold / rate rounds to exactly the wait. 24 where there is none, 23 where
 // threshold or wait is outside its limits.
-pub fn rate_for_wait(threshold: f64, wait: f64) -> RateForWait
-    ensures { Answers threshold wait result }
+pub fn rate_for_wait(threshold: f64, wait: f64) -> Result<f64, Refusal>
+    ensures { Answers threshold wait (rate_answer result) }
 {
     if !within_limits(threshold, wait) {
-        return without_rate(OUTSIDE_LIMITS);
+        return Err(Refusal::OutsideLimits);
     }
     let pattern = first_pattern(threshold, wait);
     if pattern == PAST_LIMIT {
-        return without_rate(NO_RATE);
+        return Err(Refusal::NoRate);
     }
     exact_rate(threshold, wait, pattern)
 }

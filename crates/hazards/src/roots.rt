@@ -11,34 +11,22 @@ const UNIT_EXPONENT: u64 = 0x3fe0_0000_0000_0000;
 
 const INFINITY_PATTERN: u64 = 0x7ff0_0000_0000_0000;
 
-// The greatest whole number whose square is at most n, by bisection.
+// The greatest whole number whose square is at most n.
 fn small_root(n: u64) -> u64
     requires { n < 2 ^ 54 }
     ensures { (result * result ≤ n) × (n < (result + 1) * (result + 1)) × (result < 2 ^ 27) }
 {
-    let mut low: u64 = 0;
-    let mut high: u64 = 0x800_0000;
-    while low + 1 < high {
-        let middle = (low + high) / 2;
-        if middle * middle <= n {
-            low = middle;
-        } else {
-            high = middle;
-        }
-    }
-    low
+    n.isqrt()
 }
 
-// The same of n * 2^54: 27 binary digits more, one at a time. `left` is n * 4^i - root * root.
+// The same of n * 2^54: 27 binary digits more, one at a time. `left` is n * 4^i - root * root after i of them.
 fn long_root(n: u64) -> u64
     requires { n < 2 ^ 54 }
     ensures { (result * result ≤ n * 2 ^ 54) × (n * 2 ^ 54 < (result + 1) * (result + 1)) × (result < 2 ^ 54) }
 {
     let mut root = small_root(n);
     let mut left = n - root * root;
-    let mut i: u64 = 0;
-    while i < 27 {
-        i += 1;
+    for _ in 0..27u64 {
         if left > root {
             left = 4 * left - 4 * root - 1;
             root = 2 * root + 1;
@@ -127,13 +115,11 @@ fn with_all_digits(n: u64) -> Digits
     requires { (0 < n) × (n < 2 ^ 53) }
     ensures { AllDigits (n * 2 ^ 1074) result.digits result.power }
 {
-    let mut digits = n;
-    let mut power: u64 = 1074;
-    while digits < HIDDEN_DIGIT {
-        digits = 2 * digits;
-        power -= 1;
+    let shift = 52 - n.ilog2();
+    Digits {
+        digits: n << shift,
+        power: 1074 - u64::from(shift),
     }
-    Digits { digits, power }
 }
 
 // The digits of a value above 0, times 2^2148.

@@ -1,13 +1,17 @@
 // Candidates and which of them comes first.
 ghost use Rattle.std.specs.Prelude.{◌≡◌};
-ghost use Rattle.hazards.specs.Ties.{capped_piece, tie_breaker_of, tie_number, preferred, precedes, earlier};
+ghost use Rattle.hazards.specs.Lists.{foldl};
+ghost use Rattle.hazards.specs.Ties.{capped_piece, tie_breaker_of, tie_number, preferred, precedes, earlier, candidate_after};
+
+use crate::floats::is_finite_wait;
+use crate::rates::Wait;
 
 // Which of two causes at the same time comes first.
-#[derive(Clone, Copy)]
+#[derive(Clone, Copy, Debug, PartialEq, Eq)]
 pub enum TieBreaker {
-    LowestCauseId,
-    HighestCauseId,
-    ExplicitPriority,
+    LowestCauseId = 0,
+    HighestCauseId = 1,
+    ExplicitPriority = 2,
 }
 
 // A cause's event at a time (its wait in the sampler, now + wait in the clock), and the piece of its rate curve that strikes.
@@ -19,54 +23,43 @@ pub struct Candidate {
     pub piece: u8,
 }
 
-// The best of the candidates so far.
-#[derive(Clone, Copy)]
-pub enum Earliest {
-    Nothing,
-    Found(Candidate),
-}
-
 // A piece as an answer has it: 255 stands for a higher one.
 pub fn capped_piece(piece: usize) -> u8
     ensures { result ≡ capped_piece piece }
 {
-    if piece < 255 { piece as u8 } else { 255 }
+    piece.min(255) as u8
 }
 
-// The tie choice of a number; one above 2 is refused by 4 before this is asked.
-pub fn tie_breaker(tie: u8) -> TieBreaker
-    ensures { result ≡ tie_breaker_of tie }
-{
-    if tie == 0 {
-        return TieBreaker::LowestCauseId;
-    }
-    if tie == 1 {
-        return TieBreaker::HighestCauseId;
-    }
-    TieBreaker::ExplicitPriority
-}
+impl From<u8> for TieBreaker {
+    ghost from_gives = { λ tie choice. choice ≡ tie_breaker_of tie };
 
-// Document 01's number of a tie choice.
-pub fn tie_number(tie: TieBreaker) -> u8
-    ensures { result ≡ tie_number tie }
-{
-    match tie {
-        TieBreaker::LowestCauseId => 0,
-        TieBreaker::HighestCauseId => 1,
-        TieBreaker::ExplicitPriority => 2,
+    // The tie choice of a number; one above 2 is refused by 4 before this is asked.
+    fn from(tie: u8) -> TieBreaker {
+        match tie {
+            0 => TieBreaker::LowestCauseId,
+            1 => TieBreaker::HighestCauseId,
+            _ => TieBreaker::ExplicitPriority,
+        }
     }
 }
 
+impl From<TieBreaker> for u8 {
+    ghost from_gives = { λ choice tie. tie ≡ tie_number choice };
+
+    // Document 01's number of a tie choice.
+    fn from(choice: TieBreaker) -> u8 {
+        choice as u8
+    }
+}
+
+// The higher number first, then the lower id.
 fn explicitly_preferred(a: Candidate, b: Candidate) -> bool
     ensures { result ≡ preferred TieBreaker.ExplicitPriority a b }
 {
-    if b.priority < a.priority {
-        return true;
-    }
-    if a.priority < b.priority {
-        return false;
-    }
-    a.cause_id < b.cause_id
+    b.priority
+        .cmp(&a.priority)
+        .then(a.cause_id.cmp(&b.cause_id))
+        .is_lt()
 }
 
 fn preferred(tie: TieBreaker, a: Candidate, b: Candidate) -> bool
@@ -91,20 +84,41 @@ fn precedes(tie: TieBreaker, a: Candidate, b: Candidate) -> bool
     preferred(tie, a, b)
 }
 
-impl Earliest {
-    // The better of what was found and the next candidate; on a full tie what was found.
-    pub fn earlier(self, tie: TieBreaker, next: Candidate) -> Earliest
-        ensures { result ≡ earlier tie self next }
-    {
-        match self {
-            Earliest::Nothing => Earliest::Found(next),
-            Earliest::Found(best) => {
-                if precedes(tie, next, best) {
-                    Earliest::Found(next)
-                } else {
-                    Earliest::Found(best)
-                }
+// The better of what was found and the next candidate; on a full tie what was found.
+pub fn earlier(best: Option<Candidate>, tie: TieBreaker, next: Candidate) -> Option<Candidate>
+    ensures { result ≡ earlier tie best next }
+{
+    match best {
+        None => Some(next),
+        Some(found) => {
+            if precedes(tie, next, found) {
+                Some(next)
+            } else {
+                best
             }
         }
     }
+}
+
+// The better of what was found and a cause's event at a time worked out from its wait; a wait that is not finite gives none.
+pub fn with_candidate(
+    best: Option<Candidate>,
+    tie: TieBreaker,
+    cause_id: u32,
+    priority: u32,
+    wait: Wait,
+    time: f64,
+) -> Option<Candidate>
+    ensures { result ≡ foldl (earlier tie) best (candidate_after cause_id priority (λ dt. time) (Some wait)) }
+{
+    if !is_finite_wait(wait.time) {
+        return best;
+    }
+    let next = Candidate {
+        cause_id,
+        priority,
+        time,
+        piece: capped_piece(wait.piece),
+    };
+    earlier(best, tie, next)
 }

@@ -2,11 +2,12 @@
 use mathlib.Core.Path.{◌≡◌, refl}
 use mathlib.Core.Bool.{Bool, true, false, cond, ◌&&◌}
 use mathlib.Core.List.{[]}
-use Prim.Native.Nat.{ℕ, ◌+◌, ◌*◌, ◌<◌, ◌≤◌, min}
+use Prim.Native.Nat.{ℕ, ◌+◌, ◌<◌, ◌≤◌, min}
 use native.Mathlib.Omega.{arith}
+use Rattle.std.proofs.lemmas.Bool.{ltb-false}
 use borrow.Author.Tests.{eq-eqb, ne_eqb, lt-ltb, le-ltb}
 use lib.Dec.{eqb, ltb}
-use lib.ListN.{length, get_or, take, drop, get_or-eq_default}
+use lib.ListN.{length, get_or, get_or-eq_default}
 use Rattle.hazards.specs.Refusals.{invalid_state}
 use Rattle.clocks.specs.Channels.{empty_channel}
 use Rattle.hazards.specs.Ties.{tie_number, tie_breaker_of}
@@ -14,10 +15,11 @@ use Rattle.clocks.specs.Clocks.{policy_number, policy_of}
 use Rattle.clocks.specs.Layout.{WordRows, FloatRows, u32_from, byte_from, clock_of, clock_from, present_in, channel_at}
 use lib.Ieee.{nan}
 use Rattle.clocks.proofs.Tables.{get_d_table}
+use Rattle.engine.specs.InPlace.{has_sizes}
 use Rattle.engine.specs.State.{empty_slot, empty_request, slot_at}
 use Rattle.engine.specs.StateRows.{slot_of, request_from, shared_of, shared_from, state_from}
 use Rattle.engine.proofs.StateParts.{slot-at, slots_sixteen}
-use Rattle.olgaemuri.specs.Inspection.{counts_of, no_counts, applied_of, applied, no_request, request_fields, queued_request}
+use Rattle.olgaemuri.specs.Inspection.{counts_of, no_counts, applied_of, applied, no_request, request_fields, queued_request, OwnRows}
 use Rattle.olgaemuri.specs.Inspection.{no_clock, clock_where, clock_fields, no_cause, cause_of, cause_in, cause_fields}
 
 -- ---- the words alone
@@ -57,48 +59,38 @@ module _ (w : WordRows) where
 
 -- ---- a clock
 
-module _ (w : WordRows) (f : FloatRows) where
-  pub no_rows : (k : ℕ) → (length w ≡ 177 → ⊥) → no_clock ≡ clock_fields w f k
+module _ (w : WordRows) (f : FloatRows) (k : ℕ) where
+  -- past the places is the empty slot
+  slot_past : 16 ≤ k → slot_at (state_from w f) k ≡ empty_slot
+  slot_past h = get_or-eq_default (state_from w f).slots empty_slot (omega (arith, slots_sixteen w f))
+
+  -- rows of other sizes, or a place past the clocks'
+  pub no_place : (has_sizes w f && ltb k 16) ≡ false → no_clock ≡ clock_fields w f k
   unfolding clock_fields clock_where
-  no_rows k h = rw (ne_eqb (length w) 177 h)
+  no_place h = go (has_sizes w f) refl h
+    where
+      go : (b : Bool) → has_sizes w f ≡ b → (b && ltb k 16) ≡ false → no_clock ≡ clock_fields w f k
+      go false e h = rw e
+      go true e h = rw (e, slot_past (ltb-false k 16 h))
 
-  pub no_floats : (k : ℕ) → length w ≡ 177 → (length f ≡ 400 → ⊥) → no_clock ≡ clock_fields w f k
-  unfolding clock_fields clock_where
-  no_floats k e h = rw (eq-eqb (length w) 177 e, ne_eqb (length f) 400 h)
+  -- the clock of the rows that are its own, as they are lent
+  pub clock_there : (own : WordRows) (own_floats : FloatRows) → OwnRows w f k own own_floats
+      → clock_where (present_in own) (clock_from own own_floats) ≡ clock_fields w f k
+  unfolding clock_fields slot_of
+  clock_there own own_floats o = rw (o.words, o.floats, o.sizes, slot-at w f k o.within)
 
-  module _ (e : length w ≡ 177) (d : length f ≡ 400) (k : ℕ) where
-    -- past the places is the empty slot
-    pub slot_past : 16 ≤ k → slot_at (state_from w f) k ≡ empty_slot
-    slot_past h = get_or-eq_default (state_from w f).slots empty_slot (omega (arith, slots_sixteen w f))
-
-    pub past_clocks : 16 ≤ k → no_clock ≡ clock_fields w f k
-    unfolding clock_fields clock_where
-    past_clocks h = rw (eq-eqb (length w) 177 e, eq-eqb (length f) 400 d, slot_past h)
-
-    -- the clock of the rows that are its own, as they are lent
-    pub clock_there : (m n : ℕ) → m ≡ 10 → n ≡ 25 → k < 16
-        → clock_where (present_in (take m (drop (10 * k) w))) (clock_from (take m (drop (10 * k) w)) (take n (drop (25 * k) f)))
-        ≡ clock_fields w f k
-    unfolding clock_fields slot_of
-    clock_there m n em en h = rw (em, en, eq-eqb (length w) 177 e, eq-eqb (length f) 400 d, slot-at w f k h)
-
-    pub past_causes : (j : ℕ) → 16 ≤ k → no_cause ≡ cause_fields w f k j
-    unfolding cause_fields cause_in
-    past_causes j h = rw (eq-eqb (length w) 177 e, eq-eqb (length f) 400 d, slot_past h)
-
-    pub cause_there : (j m n : ℕ) → m ≡ 10 → n ≡ 25 → k < 16
-        → cause_in (present_in (take m (drop (10 * k) w))) (clock_from (take m (drop (10 * k) w)) (take n (drop (25 * k) f))) j
-        ≡ cause_fields w f k j
-    unfolding cause_fields slot_of
-    cause_there j m n em en h = rw (em, en, eq-eqb (length w) 177 e, eq-eqb (length f) 400 d, slot-at w f k h)
-
-  pub no_cause_words : (k j : ℕ) → (length w ≡ 177 → ⊥) → no_cause ≡ cause_fields w f k j
+  pub no_cause_place : (j : ℕ) → (has_sizes w f && ltb k 16) ≡ false → no_cause ≡ cause_fields w f k j
   unfolding cause_fields cause_in
-  no_cause_words k j h = rw (ne_eqb (length w) 177 h)
+  no_cause_place j h = go (has_sizes w f) refl h
+    where
+      go : (b : Bool) → has_sizes w f ≡ b → (b && ltb k 16) ≡ false → no_cause ≡ cause_fields w f k j
+      go false e h = rw e
+      go true e h = rw (e, slot_past (ltb-false k 16 h))
 
-  pub no_cause_floats : (k j : ℕ) → length w ≡ 177 → (length f ≡ 400 → ⊥) → no_cause ≡ cause_fields w f k j
-  unfolding cause_fields cause_in
-  no_cause_floats k j e h = rw (eq-eqb (length w) 177 e, ne_eqb (length f) 400 h)
+  pub cause_there : (j : ℕ) (own : WordRows) (own_floats : FloatRows) → OwnRows w f k own own_floats
+      → cause_in (present_in own) (clock_from own own_floats) j ≡ cause_fields w f k j
+  unfolding cause_fields slot_of
+  cause_there j own own_floats o = rw (o.words, o.floats, o.sizes, slot-at w f k o.within)
 
 -- ---- in a clock's own rows
 

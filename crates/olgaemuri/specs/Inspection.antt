@@ -1,9 +1,11 @@
 -- What a program asks of a state in lent memory: the fields of what its rows are read as. Where there is no such thing, and in rows of
 -- other sizes, nothing is found and every field is zero.
-use Rattle.std.specs.Prelude.{Bool, true, false, cond, ◌&&◌, ℕ, min, eqb, ltb, leb, pos, length, get_or, replicate}
+use Rattle.std.specs.Prelude.{Ok, Err, ◌≡◌, ◌*◌, ◌<◌, take, drop, Bool, true, false, cond, ◌&&◌, ℕ, min, eqb, ltb, leb, pos, length, get_or, replicate}
+use Rattle.std.specs.declared.result.Result.{Result}
 use Rattle.hazards.specs.Floats.{z}
 use Rattle.hazards.specs.Rates.{kind_number, own_rate}
-use Rattle.hazards.specs.Refusals.{invalid_state}
+use Rattle.hazards.specs.Refusals.{invalid_state, number}
+use Rattle.hazards.specs.declared.refusals.Refusal.{Refusal}
 use Rattle.hazards.specs.Ties.{tie_number}
 use Rattle.clocks.specs.Channels.{empty_channel}
 use Rattle.clocks.specs.Clocks.{SurvivalClock, policy_number}
@@ -46,6 +48,11 @@ pub record Applied : Type 0 where
 abbrev pub applied : ℕ → ℕ → Applied
 applied number bytes = record { number = number; bytes = bytes }
 
+-- as the code answers
+abbrev pub applied_from : Result ℕ Refusal → Applied
+applied_from (Ok bytes) = applied 0 bytes
+applied_from (Err refusal) = applied (number refusal) 0
+
 -- of a journal of n bytes; above its length it is refused by 1 (document 01, "Journal and undo")
 unfoldable pub applied_of : WordRows → ℕ → Applied
 applied_of w n =
@@ -71,6 +78,13 @@ queued_request w i =
     cond (has_words w && ltb i (min (shared_from w).queued 16)) (request_fields (get_or (shared_from w).queue i empty_request)) no_request
 
 -- ---- a clock
+
+-- the rows of clock k, of a state's
+pub record OwnRows (w : WordRows) (f : FloatRows) (k : ℕ) (own_words : WordRows) (own_floats : FloatRows) : Type 0 where
+  pub sizes : has_sizes w f ≡ true
+  pub within : k < 16
+  pub words : own_words ≡ take 10 (drop (10 * k) w)
+  pub floats : own_floats ≡ take 25 (drop (25 * k) f)
 
 abbrev pub no_clock : ClockFields
 no_clock = record {

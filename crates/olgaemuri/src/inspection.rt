@@ -1,24 +1,27 @@
 // What a program asks of a state in lent memory: its counts, the queued requests, the clocks and their causes. Where there is no such
 // thing, and in rows of other sizes, nothing is found and every field is zero.
-ghost use Rattle.std.specs.Prelude.{◌≡◌, ◌<◌, length};
-ghost use Rattle.clocks.specs.Layout.{Sized, clock_from, present_in};
-ghost use Rattle.olgaemuri.specs.Inspection.{counts_of, applied_of, applied, no_request, queued_request, no_clock};
+ghost use Rattle.std.specs.Prelude.{◌≡◌, ◌&&◌, false, ltb, MatchOption};
+ghost use Rattle.engine.specs.InPlace.{has_sizes};
+ghost use Rattle.clocks.specs.Layout.{clock_from, present_in};
+ghost use Rattle.olgaemuri.specs.Inspection.{counts_of, applied_of, applied_from, no_request, queued_request, no_clock, OwnRows};
 ghost use Rattle.olgaemuri.specs.Inspection.{clock_where, clock_fields, no_cause, cause_of, cause_in, cause_fields};
 
 use clocks::channels::HazardChannelState;
+use clocks::clocks::HazardInterruptionPolicy;
 use clocks::layout::{
-    ACTIVE, CLOCK_FLOATS, CLOCK_WORDS, COUNT, ENTITY_INDEX, EVENT, EVENT_INDEX, GENERATION,
-    HAS_ENTITY, LAST_UPDATE, POLICY, PRESENT, PROCESS, SCALE, SCHEDULE, SETTINGS, TIE, TIMES,
-    WINNER, WINNER_CAUSE, WINNER_PIECE, WINNER_TIME, byte_from, u32_from,
+    ACTIVE, CLOCK_FLOATS, CLOCK_WORDS, COUNT, ClockFloats, ClockWords, ENTITY_INDEX, EVENT,
+    EVENT_INDEX, GENERATION, HAS_ENTITY, LAST_UPDATE, POLICY, PRESENT, PROCESS, SCALE, SCHEDULE,
+    SETTINGS, TIE, TIMES, WINNER, WINNER_CAUSE, WINNER_PIECE, WINNER_TIME, byte_from, u32_from,
 };
 use engine::state_rows::{
     APPLIED_LENGTH, CLOCKS, COUNTS, PLACES, POSITION, QUEUED, REQUEST_COUNT, STATE_FLOATS,
     STATE_WORDS,
 };
-use hazards::rates::at_most_eight;
+use hazards::refusals::Refusal;
+use hazards::ties::TieBreaker;
 
 #[repr(C)]
-#[derive(Clone, Copy)]
+#[derive(Clone, Copy, Default)]
 pub struct Counts {
     pub queued: u64,
     pub requests_made: u64,
@@ -26,6 +29,8 @@ pub struct Counts {
     pub applied_length: u64,
 }
 
+// Kept: the C interface has no Option and no list: in this and the two below, what may not be there has a flag, `found`, and zeros, and a
+// cause has its pairs as two arrays.
 #[repr(C)]
 #[derive(Clone, Copy)]
 pub struct QueuedRequest {
@@ -79,14 +84,9 @@ pub struct CauseFields {
 pub fn counts_of(words: &[[u64; 8]]) -> Counts
     ensures { result ≡ counts_of words.now }
 {
-    if words.len() != STATE_WORDS {
-        return Counts {
-            queued: 0,
-            requests_made: 0,
-            draw_position: 0,
-            applied_length: 0,
-        };
-    }
+    let Some(words) = words.as_array::<STATE_WORDS>() else {
+        return Counts::default();
+    };
     let row = words[COUNTS];
     Counts {
         queued: row[QUEUED],
@@ -96,20 +96,18 @@ pub fn counts_of(words: &[[u64; 8]]) -> Counts
     }
 }
 
-// The length of the applied commands in a journal of so many bytes, and 0; or 1, with length 0, where it is past the journal's end.
-pub fn applied_length<'a>(words: &'a [[u64; 8]], journal_length: usize, length: &'a mut u64) -> u8
-    ensures { applied result length.new ≡ applied_of words.now journal_length }
+// The length of the applied commands in a journal of so many bytes; refused by 1 where it is past the journal's end.
+pub fn applied_length(words: &[[u64; 8]], journal_length: usize) -> Result<u64, Refusal>
+    ensures { applied_from result ≡ applied_of words.now journal_length }
 {
-    *length = 0;
-    if words.len() != STATE_WORDS {
-        return hazards::refusals::INVALID_STATE;
-    }
+    let Some(words) = words.as_array::<STATE_WORDS>() else {
+        return Err(Refusal::InvalidState);
+    };
     let bytes = words[COUNTS][APPLIED_LENGTH];
     if bytes > journal_length as u64 {
-        return hazards::refusals::INVALID_STATE;
+        return Err(Refusal::InvalidState);
     }
-    *length = bytes;
-    0
+    Ok(bytes)
 }
 
 fn no_request() -> QueuedRequest
@@ -129,13 +127,10 @@ fn no_request() -> QueuedRequest
 pub fn request_fields(words: &[[u64; 8]], place: usize) -> QueuedRequest
     ensures { result ≡ queued_request words.now place }
 {
-    if words.len() != STATE_WORDS {
+    let Some(words) = words.as_array::<STATE_WORDS>() else {
         return no_request();
-    }
-    if place >= PLACES {
-        return no_request();
-    }
-    if place as u64 >= words[COUNTS][QUEUED] {
+    };
+    if place >= PLACES || place as u64 >= words[COUNTS][QUEUED] {
         return no_request();
     }
     let request = engine::state_rows::request_at(words, place);
@@ -173,9 +168,35 @@ fn no_clock() -> ClockFields
     }
 }
 
+// A clock's own rows.
+#[derive(Clone, Copy)]
+struct ClockRows<'a> {
+    words: &'a ClockWords,
+    floats: &'a ClockFloats,
+}
+
+// Those of a clock, where the rows are a state's and have a place for it.
+fn clock_rows<'a>(
+    words: &'a [[u64; 8]],
+    floats: &'a [[f64; 8]],
+    clock: usize,
+) -> Option<ClockRows<'a>>
+    ensures { MatchOption result ((has_sizes words.now floats.now && ltb clock 16) ≡ false)
+        (λ rows. OwnRows words.now floats.now clock rows.words.now rows.floats.now) }
+{
+    let words = words.as_array::<STATE_WORDS>()?;
+    let floats = floats.as_array::<STATE_FLOATS>()?;
+    if clock >= CLOCKS {
+        return None;
+    }
+    Some(ClockRows {
+        words: words[CLOCK_WORDS * clock..].first_chunk()?,
+        floats: floats[CLOCK_FLOATS * clock..].first_chunk()?,
+    })
+}
+
 // A clock in its own rows.
-fn own_fields<'a>(words: &'a [[u64; 8]], floats: &'a [[f64; 8]]) -> ClockFields
-    requires { Sized words.now floats.now }
+fn own_fields(words: &ClockWords, floats: &ClockFloats) -> ClockFields
     ensures { result ≡ clock_where (present_in words.now) (clock_from words.now floats.now) }
 {
     let settings = words[SETTINGS];
@@ -184,16 +205,16 @@ fn own_fields<'a>(words: &'a [[u64; 8]], floats: &'a [[f64; 8]]) -> ClockFields
     if settings[PRESENT] != 1 {
         return no_clock();
     }
-    let policy = clocks::clocks::policy_of(byte_from(settings[POLICY]));
-    let tie = hazards::ties::tie_breaker(byte_from(settings[TIE]));
+    let policy = HazardInterruptionPolicy::from(byte_from(settings[POLICY]));
+    let tie = TieBreaker::from(byte_from(settings[TIE]));
     ClockFields {
         found: true,
         has_entity: settings[HAS_ENTITY] == 1,
         is_active: schedule[ACTIVE] == 1,
         has_event: schedule[EVENT] == 1,
         has_winner: schedule[WINNER] == 1,
-        policy: clocks::clocks::policy_number(policy),
-        tie: hazards::ties::tie_number(tie),
+        policy: u8::from(policy),
+        tie: u8::from(tie),
         winner_piece: byte_from(schedule[WINNER_PIECE]),
         generation: u32_from(settings[GENERATION]),
         winner_cause: u32_from(schedule[WINNER_CAUSE]),
@@ -211,18 +232,10 @@ fn own_fields<'a>(words: &'a [[u64; 8]], floats: &'a [[f64; 8]]) -> ClockFields
 pub fn clock_fields<'a>(words: &'a [[u64; 8]], floats: &'a [[f64; 8]], clock: usize) -> ClockFields
     ensures { result ≡ clock_fields words.now floats.now clock }
 {
-    if words.len() != STATE_WORDS {
+    let Some(own) = clock_rows(words, floats, clock) else {
         return no_clock();
-    }
-    if floats.len() != STATE_FLOATS {
-        return no_clock();
-    }
-    if clock >= CLOCKS {
-        return no_clock();
-    }
-    let w = CLOCK_WORDS * clock;
-    let f = CLOCK_FLOATS * clock;
-    own_fields(&words[w..w + CLOCK_WORDS], &floats[f..f + CLOCK_FLOATS])
+    };
+    own_fields(own.words, own.floats)
 }
 
 fn no_cause() -> CauseFields
@@ -265,15 +278,14 @@ fn channel_fields(c: HazardChannelState) -> CauseFields
 }
 
 // The cause at a place of a clock in its own rows.
-fn own_cause<'a>(words: &'a [[u64; 8]], floats: &'a [[f64; 8]], place: usize) -> CauseFields
-    requires { Sized words.now floats.now }
+fn own_cause(words: &ClockWords, floats: &ClockFloats, place: usize) -> CauseFields
     ensures { result ≡ cause_in (present_in words.now) (clock_from words.now floats.now) place }
 {
     let settings = words[SETTINGS];
     if settings[PRESENT] != 1 {
         return no_cause();
     }
-    if place >= at_most_eight(settings[COUNT] as usize) {
+    if place >= (settings[COUNT] as usize).min(8) {
         return no_cause();
     }
     channel_fields(clocks::channels::channel_at(words, floats, place))
@@ -288,20 +300,8 @@ pub fn cause_fields<'a>(
 ) -> CauseFields
     ensures { result ≡ cause_fields words.now floats.now clock place }
 {
-    if words.len() != STATE_WORDS {
+    let Some(own) = clock_rows(words, floats, clock) else {
         return no_cause();
-    }
-    if floats.len() != STATE_FLOATS {
-        return no_cause();
-    }
-    if clock >= CLOCKS {
-        return no_cause();
-    }
-    let first = CLOCK_WORDS * clock;
-    let first_floats = CLOCK_FLOATS * clock;
-    own_cause(
-        &words[first..first + CLOCK_WORDS],
-        &floats[first_floats..first_floats + CLOCK_FLOATS],
-        place,
-    )
+    };
+    own_cause(own.words, own.floats, place)
 }

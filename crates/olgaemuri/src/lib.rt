@@ -1,5 +1,6 @@
 // What C links by crates/olgaemuri_c, under names that no other library has: the batch run, an engine that stays open in lent memory, what
 // a program asks of its state, and the rate for a wait.
+// Kept: the C interface returns a refusal as its number, 0 where nothing is refused.
 // Definitions: specs/, and those of the engine (crates/engine/specs/Run.antt, InPlace.antt) and of hazards (RateForWait.antt).
 #![tactic(auto)]
 
@@ -15,6 +16,7 @@ ghost use Rattle.engine.specs.Run.{run_of, ran};
 ghost use Rattle.olgaemuri.specs.Calls.{Answered};
 ghost use Rattle.olgaemuri.specs.Inspection.{counts_of, applied_of, applied, queued_request, clock_fields, cause_fields};
 
+use hazards::refusals::Refusal;
 use inspection::{CauseFields, ClockFields, Counts, QueuedRequest};
 
 // The batch run (document 01: run call): returns 18, the 2, 3 or 17 that ended it, or 0.
@@ -28,7 +30,10 @@ pub fn olgaemuri_run(
     ensures { ran result journal.new answers.new res.new
         ≡ run_of commands.now stream.now journal.old answers.old res.old }
 {
-    engine::run::run(commands, stream, journal, answers, res)
+    match engine::run::run(commands, stream, journal, answers, res) {
+        Ok(()) => 0,
+        Err(refusal) => refusal.number(),
+    }
 }
 
 // Opens an engine in the rows, with an empty journal: returns 0, or 1 where the rows have other sizes, and then nothing is changed.
@@ -43,7 +48,10 @@ pub fn olgaemuri_open<'a>(
         → (result ≡ invalid_state) × Refuses words.old floats.old journal.old words.new
         floats.new journal.new) }
 {
-    engine::opening::open(words, floats, journal)
+    match engine::opening::open(words, floats, journal) {
+        Ok(()) => 0,
+        Err(refusal) => refusal.number(),
+    }
 }
 
 // One input (document 01: the command door) on the engine in the rows; its answer's bytes, and its number. 17, with nothing done, where
@@ -65,7 +73,7 @@ pub fn olgaemuri_execute<'a>(
         journal.new) }
 {
     if answer.len() < hazards::answers::ANSWER_WIDTH {
-        return engine::refusals::ANSWERS_FULL;
+        return Refusal::AnswersFull.number();
     }
     let given = engine::execute::execute(words, floats, stream, journal, input);
     hazards::answers::put_answer(answer, 0, given);
@@ -81,7 +89,9 @@ pub fn olgaemuri_applied<'a>(
 ) -> u8
     ensures { applied result length.new ≡ applied_of words.now journal_length }
 {
-    inspection::applied_length(words, journal_length, length)
+    let applied = inspection::applied_length(words, journal_length);
+    *length = applied.unwrap_or(0);
+    applied.err().map_or(0, u8::from)
 }
 
 // Requests queued and made, draw position and length of the applied commands.
@@ -125,7 +135,14 @@ pub fn olgaemuri_cause<'a>(
 pub fn olgaemuri_rate_for_wait(threshold: f64, wait: f64, rate: &mut f64) -> u8
     ensures { Answers threshold wait (answered result rate.new) }
 {
-    let found = hazards::rate_for_wait::rate_for_wait(threshold, wait);
-    *rate = found.rate;
-    found.number
+    match hazards::rate_for_wait::rate_for_wait(threshold, wait) {
+        Ok(found) => {
+            *rate = found;
+            0
+        }
+        Err(refusal) => {
+            *rate = 0.0;
+            refusal.number()
+        }
+    }
 }

@@ -1,4 +1,5 @@
 // libolgaemuri.a: the calls of crates/olgaemuri for C, under their names and with their clauses.
+// Kept: the C interface needs them in a static library, which no crate can call; a program in Rattle calls crates/olgaemuri.
 #![tactic(auto)]
 
 ghost use Rattle.std.specs.Prelude.{◌≡◌, true, false, ◌<◌, ◌≤◌, length};

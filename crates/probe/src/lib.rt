@@ -8,26 +8,18 @@ ghost use Rattle.hazards.specs.Rates.{intervals_from, hazard_at, cumulative_haza
 ghost use Rattle.hazards.specs.Roots.{nearest_root};
 
 use hazards::answers::ANSWER_WIDTH;
-use hazards::checks::HazardFields;
+use hazards::checks::{HazardFields, LentHazard};
 use hazards::draws::StreamPosition;
 use hazards::fields::{f64_at, put_f64, put_u64, u8_at, u32_at, u64_at};
-use hazards::rates::Wait;
-use hazards::sampler::{CompetingCause, SampleSettings, Sampled};
+use hazards::rates::{Pairs, Wait};
+use hazards::refusals::Refusal;
+use hazards::sampler::{CompetingCause, SampleSettings, Sampled, sample_next};
 
 // The eight floats that stand 16 bytes apart.
 pub fn floats_at(bytes: &[u8], at: usize) -> [f64; 8]
     requires { at ≤ 131072 }
 {
-    [
-        f64_at(bytes, at),
-        f64_at(bytes, at + 16),
-        f64_at(bytes, at + 32),
-        f64_at(bytes, at + 48),
-        f64_at(bytes, at + 64),
-        f64_at(bytes, at + 80),
-        f64_at(bytes, at + 96),
-        f64_at(bytes, at + 112),
-    ]
+    std::array::from_fn(|i| f64_at(bytes, at + 16 * i))
 }
 
 pub fn hazard_fields(bytes: &[u8], at: usize) -> HazardFields
@@ -44,6 +36,9 @@ pub fn hazard_fields(bytes: &[u8], at: usize) -> HazardFields
     }
 }
 
+// The bytes of a cause.
+const CAUSE_WIDTH: usize = 146;
+
 fn cause_at(bytes: &[u8], at: usize) -> CompetingCause
     requires { at ≤ 32768 }
 {
@@ -58,15 +53,7 @@ fn cause_at(bytes: &[u8], at: usize) -> CompetingCause
 pub fn causes_at(bytes: &[u8], at: usize) -> [CompetingCause; 8]
     requires { at ≤ 16384 }
 {
-    let first = cause_at(bytes, at);
-    let second = cause_at(bytes, at + 146);
-    let third = cause_at(bytes, at + 292);
-    let fourth = cause_at(bytes, at + 438);
-    let fifth = cause_at(bytes, at + 584);
-    let sixth = cause_at(bytes, at + 730);
-    let seventh = cause_at(bytes, at + 876);
-    let eighth = cause_at(bytes, at + 1022);
-    [first, second, third, fourth, fifth, sixth, seventh, eighth]
+    std::array::from_fn(|i| cause_at(bytes, at + CAUSE_WIDTH * i))
 }
 
 // tie u8, age f64, has-censor u8, censor f64.
@@ -81,100 +68,80 @@ pub fn settings_at(bytes: &[u8], at: usize) -> SampleSettings
     }
 }
 
-// What is found of an evaluation: its number, and a value or a wait; the piece of a hazard and a cumulative hazard is 0.
+// What is found of an evaluation that is not refused: a value or a wait; the piece of a hazard and a cumulative hazard is 0.
 #[derive(Clone, Copy)]
 pub struct Evaluated {
-    pub number: u8,
-    pub found: bool,
     pub value: f64,
     pub piece: usize,
 }
 
 // 0 hazard_at, 1 cumulative_hazard, else invert_cumulative_hazard.
-pub fn evaluate<'a>(
+// Kept: lists and the C interface give the operation as a byte.
+pub fn evaluate(
     op: u8,
-    kind: u8,
-    first: f64,
-    count: u8,
-    ends: &'a [f64; 8],
-    rates: &'a [f64; 8],
+    hazard: LentHazard<'_>,
     t: f64,
     w: f64,
-) -> Evaluated {
+) -> Result<Option<Evaluated>, Refusal> {
     if op > 1 {
-        let i = hazards::evaluations::evaluate_inversion(kind, first, count, ends, rates, t, w);
-        return Evaluated {
-            number: i.number,
-            found: i.found,
-            value: i.wait,
-            piece: i.piece,
-        };
+        let found = hazards::evaluations::evaluate_inversion(hazard, t, w)?;
+        return Ok(found.map(|wait: Wait| Evaluated {
+            value: wait.time,
+            piece: wait.piece,
+        }));
     }
-    let e = if op == 0 {
-        hazards::evaluations::evaluate_hazard_at(kind, first, count, ends, rates, t)
+    let value = if op == 0 {
+        hazards::evaluations::evaluate_hazard_at(hazard, t)?
     } else {
-        hazards::evaluations::evaluate_cumulative_hazard(kind, first, count, ends, rates, t)
+        hazards::evaluations::evaluate_cumulative_hazard(hazard, t)?
     };
-    Evaluated {
-        number: e.number,
-        found: e.found,
-        value: e.value,
-        piece: 0,
-    }
+    Ok(Some(Evaluated { value, piece: 0 }))
 }
 
-// The byte `found` in its place in a word.
-fn found_flag(found: bool) -> u64
-    ensures { result ≤ 256 }
-{
-    if found { 256 } else { 0 }
-}
+// The byte `found` in its place in the first word.
+const FOUND: u64 = 256;
 
 // number u8, found u8, six zero bytes, value f64, piece u64.
 pub const EVALUATION_WIDTH: usize = 24;
 
-pub fn put_evaluation(out: &mut [u8], at: usize, e: Evaluated)
+// A refusal has its number, and zero elsewhere; no wait is all zero.
+pub fn put_evaluation(out: &mut [u8], at: usize, evaluation: Result<Option<Evaluated>, Refusal>)
     requires { at ≤ 0x7fff_ffff_ffff_ffff }
     ensures { length out.new ≡ length out.old }
 {
-    let found = found_flag(e.found);
-    put_u64(out, at, (e.number as u64) + found);
-    put_f64(out, at + 8, e.value);
-    put_u64(out, at + 16, e.piece as u64);
+    let none = Evaluated {
+        value: 0.0,
+        piece: 0,
+    };
+    let (head, told) = match evaluation {
+        Err(refusal) => (u64::from(refusal.number()), none),
+        Ok(None) => (0, none),
+        Ok(Some(found)) => (FOUND, found),
+    };
+    put_u64(out, at, head);
+    put_f64(out, at + 8, told.value);
+    put_u64(out, at + 16, told.piece as u64);
 }
 
-fn lesser(a: usize, b: usize) -> usize
-    ensures { (result ≤ a) × (result ≤ b) }
-{
-    if a < b { a } else { b }
-}
+// The bytes of a point, and of a position.
+const POINT_WIDTH: usize = 16;
+
+const POSITION_WIDTH: usize = 8;
 
 // One checked evaluation for each point of 16 bytes (t f64, w f64), while there are points and room; the number of them.
 pub fn probe_evaluate(op: u8, hazard: &[u8], points: &[u8], out: &mut [u8]) -> u64 {
     let fields = hazard_fields(hazard, 0);
-    let count = lesser(points.len() / 16, out.len() / EVALUATION_WIDTH);
-    let mut i: usize = 0;
-    while i < count {
-        let at = 16 * i;
-        let t = f64_at(points, at);
-        let w = f64_at(points, at + 8);
-        let e = evaluate(
-            op,
-            fields.kind,
-            fields.first,
-            fields.count,
-            &fields.ends,
-            &fields.rates,
-            t,
-            w,
-        );
-        put_evaluation(out, EVALUATION_WIDTH * i, e);
-        i += 1;
+    let count = (points.len() / POINT_WIDTH).min(out.len() / EVALUATION_WIDTH);
+    let points = points.chunks_exact(POINT_WIDTH);
+    for (point, told) in points.zip(out.chunks_exact_mut(EVALUATION_WIDTH)) {
+        let evaluation = evaluate(op, fields.lent(), f64_at(point, 0), f64_at(point, 8));
+        put_evaluation(told, 0, evaluation);
     }
     count as u64
 }
 
 // A checked evaluation on numbers; a NaN where it is refused or there is no wait.
+// Kept: the C interface takes a hazard's numbers one by one, here and in the three evaluations below.
 pub fn probe_evaluate_numbers<'a>(
     op: u8,
     kind: u8,
@@ -185,8 +152,16 @@ pub fn probe_evaluate_numbers<'a>(
     t: f64,
     w: f64,
 ) -> f64 {
-    let e = evaluate(op, kind, first, count, ends, rates, t, w);
-    if e.found { e.value } else { 0.0 / 0.0 }
+    let pairs = Pairs {
+        ends,
+        rates,
+        count: usize::from(count),
+    };
+    let hazard = LentHazard { kind, first, pairs };
+    match evaluate(op, hazard, t, w) {
+        Ok(Some(found)) => found.value,
+        _ => 0.0 / 0.0,
+    }
 }
 
 // The three evaluations on numbers, without checks.
@@ -201,7 +176,12 @@ pub fn probe_hazard_at<'a>(
     ensures { result ≡ hazard_at (rate_of_kind kind first) (intervals_from ends.now rates.now count) t }
 {
     let hazard = hazards::rates::rate_of_kind(kind, first);
-    hazards::rates::hazard_at(hazard, ends, rates, count as usize, t)
+    let pairs = Pairs {
+        ends,
+        rates,
+        count: count as usize,
+    };
+    hazards::rates::hazard_at(hazard, pairs, t)
 }
 
 pub fn probe_cumulative_hazard<'a>(
@@ -215,7 +195,12 @@ pub fn probe_cumulative_hazard<'a>(
     ensures { result ≡ cumulative_hazard (rate_of_kind kind first) (intervals_from ends.now rates.now count) t }
 {
     let hazard = hazards::rates::rate_of_kind(kind, first);
-    hazards::rates::cumulative_hazard(hazard, ends, rates, count as usize, t)
+    let pairs = Pairs {
+        ends,
+        rates,
+        count: count as usize,
+    };
+    hazards::rates::cumulative_hazard(hazard, pairs, t)
 }
 
 // A wait, and the piece that it ends in.
@@ -237,13 +222,17 @@ pub fn probe_invert_cumulative_hazard<'a>(
     target_w: f64,
 ) -> Inverted {
     let hazard = hazards::rates::rate_of_kind(kind, first);
-    let pairs = count as usize;
-    match hazards::rates::invert_cumulative_hazard(hazard, ends, rates, pairs, t_start, target_w) {
-        Wait::After(wait, piece) => Inverted {
-            wait,
+    let pairs = Pairs {
+        ends,
+        rates,
+        count: count as usize,
+    };
+    match hazards::rates::invert_cumulative_hazard(hazard, pairs, t_start, target_w) {
+        Some(Wait { time, piece }) => Inverted {
+            wait: time,
             piece: piece as u64,
         },
-        Wait::Never => Inverted {
+        None => Inverted {
             wait: 0.0 / 0.0,
             piece: 0,
         },
@@ -274,14 +263,12 @@ pub fn probe_sample(request: &[u8], stream: &[u8], positions: &[u8], out: &mut [
     let n = u8_at(request, 0) as usize;
     let settings = settings_at(request, 1);
     let causes = causes_at(request, 19);
-    let count = lesser(positions.len() / 8, out.len() / SAMPLED_WIDTH);
-    let mut i: usize = 0;
-    while i < count {
-        let next = u64_at(positions, 8 * i) as usize;
+    let count = (positions.len() / POSITION_WIDTH).min(out.len() / SAMPLED_WIDTH);
+    let positions = positions.chunks_exact(POSITION_WIDTH);
+    for (position, told) in positions.zip(out.chunks_exact_mut(SAMPLED_WIDTH)) {
+        let next = u64_at(position, 0) as usize;
         let position = StreamPosition { next };
-        let sampled = hazards::sampler::sample_next(causes, n, settings, stream, position);
-        put_sampled(out, SAMPLED_WIDTH * i, sampled);
-        i += 1;
+        put_sampled(told, 0, sample_next(&causes, n, settings, stream, position));
     }
     count as u64
 }

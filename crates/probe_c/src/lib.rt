@@ -1,4 +1,5 @@
 // libprobe.a: the calls of crates/probe for C, under their names and with their clauses. host/bench links it.
+// Kept: the C interface needs them in a static library, which no crate can call; hazard_answers calls crates/probe.
 #![tactic(auto)]
 
 ghost use Rattle.std.specs.Prelude.{◌≡◌};

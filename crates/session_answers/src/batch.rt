@@ -1,55 +1,52 @@
 // A session through the batch run: the returned number and every byte of answers, journal and result.
 ghost use Rattle.std.specs.Prelude.{◌≤◌};
 
+use crate::commands::answered;
 use crate::parts::within;
+use crate::report::print_session;
+use crate::sessions::Session;
 use crate::tally::Tally;
+use engine::run::run;
 use hazards::answers::ANSWER_WIDTH;
 use hazards::fields::u8_at;
+use hazards::refusals::Refusal;
 use std::io;
 
 // The refusals of a run: those of its answers, and 17 and 18, which are no answer to a command.
-fn count_refusals(answers: &[u8], answered: usize, number: u8, tally: Tally) -> Tally
+fn count_refusals(answers: &[u8], answered: usize, number: u8, tally: &mut Tally)
     requires { answered ≤ 128 }
 {
-    let mut after = tally;
-    if number >= engine::refusals::ANSWERS_FULL {
-        after = after.with_number(number);
+    if number >= Refusal::AnswersFull.number() {
+        tally.count_number(number);
     }
     for i in 0..answered {
-        after = after.with_number(u8_at(answers, ANSWER_WIDTH * i));
+        tally.count_number(u8_at(answers, ANSWER_WIDTH * i));
     }
-    after
 }
 
 // Before the call the buffers hold A5, 5A and C3 hex, as they did for the Rust.
-pub fn play(
-    rt: &impl Print,
-    commands: &[u8],
-    stream: &[u8],
-    answers: &[u8],
-    journal: &[u8],
-    res: &[u8],
-    number: u8,
-    tally: Tally,
-) -> io::Result<Tally> {
-    let mut answer_space = [0xa5u8; 4096];
-    let mut journal_space = [0x5au8; 4096];
-    let mut result_space = [0xc3u8; 4096];
-    let answer_length = within(answers.len(), &answer_space);
-    let journal_length = within(journal.len(), &journal_space);
-    let result_length = within(res.len(), &result_space);
-    let own_answers = &mut answer_space[..answer_length];
-    let own_journal = &mut journal_space[..journal_length];
-    let own_result = &mut result_space[..result_length];
-    let returned = engine::run::run(commands, stream, own_journal, own_answers, own_result);
-    let same_answers = *own_answers == *answers;
-    let same_journal = *own_journal == *journal;
-    let same_result = *own_result == *res;
-    let agrees = (returned == number) & (same_answers & (same_journal & same_result));
-    let answered = crate::commands::answered(own_result, returned);
-    let after = count_refusals(own_answers, answered, returned, tally).with_session(agrees);
+pub fn play(rt: &impl Print, session: Session<'_>, tally: &mut Tally) -> io::Result<()> {
+    let mut answers = [0xa5u8; 4096];
+    let mut journal = [0x5au8; 4096];
+    let mut outcome = [0xc3u8; 4096];
+    let answer_length = within(session.answers.len(), &answers);
+    let journal_length = within(session.journal.len(), &journal);
+    let outcome_length = within(session.outcome.len(), &outcome);
+    let answers = &mut answers[..answer_length];
+    let journal = &mut journal[..journal_length];
+    let outcome = &mut outcome[..outcome_length];
+    let number = run(session.commands, session.stream, journal, answers, outcome).map_or_else(
+        u8::from,
+        |()| 0,
+    );
+    let agrees = number == session.number
+        && *answers == *session.answers
+        && *journal == *session.journal
+        && *outcome == *session.outcome;
+    count_refusals(answers, answered(outcome, number), number, tally);
+    tally.sessions = tally.sessions.with(agrees);
     if !agrees {
-        crate::report::print_session(rt, after.sessions)?;
+        print_session(rt, tally.sessions.cases)?;
     }
-    Ok(after)
+    Ok(())
 }

@@ -1,66 +1,68 @@
-// The tampered states and journals by number: first those that state validation refuses, then those that UNDO refuses by 13.
-use crate::{changes, invalid_states, other_journals, other_states, uncoded_states};
+// The tampered states and journals: first those that state validation refuses, then those that UNDO refuses by 13.
+use crate::changes::Change;
+use crate::lent::{Lent, STATE_SIZES};
+use crate::{base, invalid_states, older_rule, other_journals, other_states, uncoded_states};
 use engine::state_rows::{STATE_FLOATS, STATE_WORDS};
+use hazards::fields::put_u8;
+use hazards::refusals::Refusal;
 
-// Invalid, uncoded and of another size.
-const UNCODED: u64 = invalid_states::CASES;
-
-const SIZES: u64 = UNCODED + uncoded_states::CASES;
-
-const REFUSED_BY_1: u64 = SIZES + 4;
-
-// Another state, another journal, and the older rule's.
-const JOURNALS: u64 = REFUSED_BY_1 + other_states::CASES;
-
-const OLDER_RULE: u64 = JOURNALS + other_journals::CASES;
-
-pub const CASES: u64 = OLDER_RULE + 1;
-
-// The number that is due.
-pub fn number_of(case: u64) -> u8 {
-    if case < REFUSED_BY_1 { 1 } else { 13 }
+#[derive(Clone, Copy)]
+pub enum Case {
+    // Refused by 1: a change of the state, and so many rows of words and of floats.
+    Invalid(Change),
+    Sizes(usize, usize),
+    // By 13: a change of the state, a byte of the journal, an UNDO more, and the older rule's delivery.
+    Other(Change),
+    Journal(usize, u8),
+    UndoAppended,
+    OlderRule,
 }
 
-// How many rows of words are lent: a state's, one fewer or one more.
-pub fn word_rows(case: u64) -> usize {
-    if case == SIZES {
-        return STATE_WORDS - 1;
-    }
-    if case == SIZES + 1 {
-        return STATE_WORDS + 1;
-    }
-    STATE_WORDS
-}
+// A row fewer and a row more of each kind.
+pub const SIZES: [Case; 4] = [
+    Case::Sizes(STATE_WORDS - 1, STATE_FLOATS),
+    Case::Sizes(STATE_WORDS + 1, STATE_FLOATS),
+    Case::Sizes(STATE_WORDS, STATE_FLOATS - 1),
+    Case::Sizes(STATE_WORDS, STATE_FLOATS + 1),
+];
 
-// The same of floats.
-pub fn float_rows(case: u64) -> usize {
-    if case == SIZES + 2 {
-        return STATE_FLOATS - 1;
-    }
-    if case == SIZES + 3 {
-        return STATE_FLOATS + 1;
-    }
-    STATE_FLOATS
-}
+// All of them, in the order of their numbers.
+pub const ALL: [&[Case]; 6] = [
+    &invalid_states::CASES,
+    &uncoded_states::CASES,
+    &SIZES,
+    &other_states::CASES,
+    &other_journals::CASES,
+    &[Case::OlderRule],
+];
 
-// A case that UNDO refuses by 13, numbered from 0.
-fn tamper_for_13(case: u64, words: &mut [[u64; 8]], floats: &mut [[f64; 8]], journal: &mut [u8]) {
-    if case < other_states::CASES {
-        changes::make(other_states::change(case), words, floats);
-    } else if case < other_states::CASES + other_journals::CASES {
-        other_journals::tamper(case - other_states::CASES, words, journal);
-    } else {
-        crate::older_rule::tamper(words, floats, journal);
+impl Case {
+    // The refusal that is due.
+    pub fn due(self) -> Refusal {
+        match self {
+            Case::Invalid(_) | Case::Sizes(..) => Refusal::InvalidState,
+            _ => Refusal::ReplayFails,
+        }
     }
-}
 
-// The state and the journal of base, tampered with; where another size is lent they stay as they are.
-pub fn tamper(case: u64, words: &mut [[u64; 8]], floats: &mut [[f64; 8]], journal: &mut [u8]) {
-    if case < UNCODED {
-        changes::make(invalid_states::change(case), words, floats);
-    } else if case < SIZES {
-        changes::make(uncoded_states::change(case - UNCODED), words, floats);
-    } else if case >= REFUSED_BY_1 {
-        tamper_for_13(case - REFUSED_BY_1, words, floats, journal);
+    // How many rows of words and of floats are lent.
+    pub fn sizes(self) -> (usize, usize) {
+        match self {
+            Case::Sizes(words, floats) => (words, floats),
+            _ => STATE_SIZES,
+        }
+    }
+
+    // The state and the journal of base, tampered with; where another size is lent they stay as they are.
+    pub fn lent(self) -> Lent {
+        let mut lent = base::played();
+        match self {
+            Case::Invalid(change) | Case::Other(change) => lent.change(change),
+            Case::Sizes(..) => {}
+            Case::Journal(place, byte) => put_u8(&mut lent.journal, place, byte),
+            Case::UndoAppended => other_journals::append_undo(&mut lent),
+            Case::OlderRule => return older_rule::tampered(),
+        }
+        lent
     }
 }

@@ -8,7 +8,7 @@ mod cases;
 mod changes;
 mod commands;
 mod invalid_states;
-mod lists;
+mod lent;
 mod older_rule;
 mod other_journals;
 mod other_states;

@@ -1,5 +1,5 @@
 // What the program writes: each difference as it is met, then the counts.
-use crate::tally::Tally;
+use crate::tally::{REFUSALS, Tally};
 use crate::tampered::Verdicts;
 use std::io;
 
@@ -23,8 +23,8 @@ pub fn print_untampered(rt: &impl Print, number: u64) -> io::Result<()> {
     println!(rt; "UNDO of a state that is not tampered with is refused by {number}")
 }
 
-fn print_refusals(rt: &impl Print, refusals: [u64; 19]) -> io::Result<()> {
-    for number in 1..19 {
+fn print_refusals(rt: &impl Print, refusals: [u64; REFUSALS]) -> io::Result<()> {
+    for number in 1..REFUSALS {
         println!(rt; "refused by {number}: {}", refusals[number])?;
     }
     Ok(())
@@ -33,11 +33,11 @@ fn print_refusals(rt: &impl Print, refusals: [u64; 19]) -> io::Result<()> {
 pub fn print_tally(rt: &impl Print, tally: Tally) -> io::Result<()> {
     println!(rt;
         "batch run: {} sessions, {} differ",
-        tally.sessions, tally.sessions_differing
+        tally.sessions.cases, tally.sessions.differing
     )?;
     println!(rt;
         "one by one: {} commands, {} differ",
-        tally.commands, tally.commands_differing
+        tally.commands.cases, tally.commands.differing
     )?;
     print_refusals(rt, tally.refusals)
 }

@@ -1,159 +1,98 @@
 // States and journals that were tampered with: refusal 1 by every condition of its row and by rows that are no state, whatever the input,
 // and refusal 13 of UNDO. Each refusal has to leave state and journal as they were.
-use crate::cases;
-use crate::tally::one_more;
-use engine::state_rows::{STATE_FLOATS, STATE_WORDS};
-use hazards::answers::{ANSWER_WIDTH, Answer};
+use crate::cases::{ALL, Case};
+use crate::lent::{Lent, STATE_SIZES};
+use crate::report::{print_tampered, print_untampered};
+use crate::{base, older_rule};
+use engine::commands::UNDO;
+use hazards::answers::{ANSWER_WIDTH, Answer, put_answer};
+use hazards::refusals::Refusal;
 use std::io;
 
-// How many were refused by 1 and by 13, and how many were not.
+// How many cases were tried, how many were refused by 1 and by 13, and how much is wrong.
 #[derive(Clone, Copy)]
 pub struct Verdicts {
+    tried: u64,
     pub invalid: u64,
     pub not_replayable: u64,
     pub wrong: u64,
 }
 
 impl Verdicts {
-    fn with(self, rt: &impl Print, case: u64, refused: bool) -> io::Result<Verdicts> {
-        let number = cases::number_of(case);
-        let mut after = self;
-        if !refused {
-            crate::report::print_tampered(rt, case, number as u64)?;
-            after.wrong = one_more(self.wrong);
-        } else if number == 1 {
-            after.invalid = one_more(self.invalid);
+    fn try_case(&mut self, rt: &impl Print, case: Case) -> io::Result<()> {
+        let due = case.due();
+        let count = if !is_refused_as_due(case) {
+            print_tampered(rt, self.tried, u64::from(due.number()))?;
+            &mut self.wrong
+        } else if due == Refusal::InvalidState {
+            &mut self.invalid
         } else {
-            after.not_replayable = one_more(self.not_replayable);
+            &mut self.not_replayable
+        };
+        *count = count.saturating_add(1);
+        self.tried = self.tried.saturating_add(1);
+        Ok(())
+    }
+
+    fn try_each(&mut self, rt: &impl Print, cases: &[Case]) -> io::Result<()> {
+        for case in cases {
+            self.try_case(rt, *case)?;
         }
-        Ok(after)
+        Ok(())
     }
 }
 
-// A number, and zero elsewhere in the answer.
-fn is_refusal(answer: Answer, number: u8) -> bool {
+// The refusal's number, and zero elsewhere in the answer.
+fn is_refusal(answer: Answer, refusal: Refusal) -> bool {
     let mut given = [0u8; ANSWER_WIDTH];
-    hazards::answers::put_answer(&mut given, 0, answer);
+    put_answer(&mut given, 0, answer);
     let mut expected = [0u8; ANSWER_WIDTH];
-    expected[0] = number;
+    expected[0] = refusal.number();
     given == expected
 }
 
-// The state and the journal of a case, in the front rows.
-fn hand(
-    case: u64,
-    words: &mut [[u64; 8]],
-    floats: &mut [[f64; 8]],
-    journal: &mut [u8],
-    stream: &[u8],
-) {
-    if STATE_WORDS <= words.len() {
-        if STATE_FLOATS <= floats.len() {
-            let state_words = &mut words[0..STATE_WORDS];
-            let state_floats = &mut floats[0..STATE_FLOATS];
-            crate::base::play(state_words, state_floats, journal, stream);
-            cases::tamper(case, state_words, state_floats, journal);
-        }
+// Whether an input is answered by a refusal and changes nothing.
+fn is_refused(case: Case, input: &[u8], refusal: Refusal) -> bool {
+    let before = case.lent();
+    let mut lent = before;
+    let answer = lent.execute(case.sizes(), &base::stream(), input);
+    is_refusal(answer, refusal) && lent.is_same(&before)
+}
+
+// By the refusal that is due: 1 whatever the input, that is no bytes, no command, REMOVE, DELIVER or UNDO; 13 for UNDO.
+fn is_refused_as_due(case: Case) -> bool {
+    let due = case.due();
+    if due != Refusal::InvalidState {
+        return is_refused(case, &[UNDO], due);
     }
+    let inputs: [&[u8]; 5] = [b"", b"\x00", b"\x03\x00\x01\x00\x00\x00", b"\x07", b"\x08"];
+    inputs.iter().all(|input| is_refused(case, input, due))
 }
 
-// An input on as many of the rows as the case lends.
-fn give<'a>(
-    case: u64,
-    words: &mut [[u64; 8]],
-    floats: &mut [[f64; 8]],
-    journal: &mut [u8],
-    stream: &'a [u8],
-    input: &'a [u8],
-) -> Answer {
-    let word_rows = cases::word_rows(case);
-    let float_rows = cases::float_rows(case);
-    if word_rows <= words.len() {
-        if float_rows <= floats.len() {
-            return engine::execute::execute(
-                &mut words[0..word_rows],
-                &mut floats[0..float_rows],
-                stream,
-                journal,
-                input,
-            );
-        }
-    }
-    hazards::answers::no_event(0)
-}
-
-// Whether an input is answered by a number and changes nothing. There is room for a row more than a state's of either kind.
-fn is_refused(case: u64, input: &[u8], number: u8) -> bool {
-    let stream = crate::base::stream();
-    let mut words = [[0u64; 8]; STATE_WORDS + 1];
-    let mut floats = [[0.0; 8]; STATE_FLOATS + 1];
-    let mut journal = [0u8; 400];
-    hand(case, &mut words, &mut floats, &mut journal, &stream);
-    let words_before = words;
-    let floats_before = floats;
-    let journal_before = journal;
-    let answer = give(case, &mut words, &mut floats, &mut journal, &stream, input);
-    let refused = is_refusal(answer, number);
-    let same_journal = journal == journal_before;
-    let same_words = crate::same_rows::same_words(&words, &words_before);
-    let same_floats = crate::same_rows::same_floats(&floats, &floats_before);
-    refused & (same_journal & (same_words & same_floats))
-}
-
-// No bytes, no command, REMOVE, DELIVER and UNDO.
-fn is_invalid(case: u64) -> bool {
-    let nothing = is_refused(case, b"", 1);
-    let junk = is_refused(case, b"\x00", 1);
-    let remove = is_refused(case, b"\x03\x00\x01\x00\x00\x00", 1);
-    let deliver = is_refused(case, b"\x07", 1);
-    let undo = is_refused(case, b"\x08", 1);
-    nothing & (junk & (remove & (deliver & undo)))
-}
-
-// By the number that is due: 1 whatever the input, 13 for UNDO.
-fn is_refused_as_due(case: u64) -> bool {
-    if cases::number_of(case) == 1 {
-        return is_invalid(case);
-    }
-    is_refused(case, b"\x08", 13)
-}
-
-fn is_undone(
-    rt: &impl Print,
-    words: &mut [[u64; 8]],
-    floats: &mut [[f64; 8]],
-    journal: &mut [u8],
-    stream: &[u8],
-) -> io::Result<bool> {
-    let undo = [engine::commands::UNDO];
-    let answer = engine::execute::execute(words, floats, stream, journal, &undo);
+fn is_undone(rt: &impl Print, mut lent: Lent) -> io::Result<bool> {
+    let answer = lent.execute(STATE_SIZES, &base::stream(), &[UNDO]);
     if answer.number != 0 {
-        crate::report::print_untampered(rt, answer.number as u64)?;
+        print_untampered(rt, answer.number as u64)?;
     }
     Ok(answer.number == 0)
 }
 
 // Without tampering UNDO is accepted, so that a refusal comes from the change.
 fn try_untampered(rt: &impl Print) -> io::Result<Verdicts> {
-    let stream = crate::base::stream();
-    let mut words = [[0u64; 8]; STATE_WORDS];
-    let mut floats = [[0.0; 8]; STATE_FLOATS];
-    let mut journal = [0u8; 400];
-    crate::base::play(&mut words, &mut floats, &mut journal, &stream);
-    let one_clock = is_undone(rt, &mut words, &mut floats, &mut journal, &stream)?;
-    crate::older_rule::play(&mut words, &mut floats, &mut journal);
-    let two_clocks = is_undone(rt, &mut words, &mut floats, &mut journal, &stream)?;
+    let one_clock = is_undone(rt, base::played())?;
+    let two_clocks = is_undone(rt, older_rule::played())?;
     Ok(Verdicts {
+        tried: 0,
         invalid: 0,
         not_replayable: 0,
-        wrong: if one_clock & two_clocks { 0 } else { 1 },
+        wrong: !(one_clock && two_clocks) as u64,
     })
 }
 
 pub fn try_all(rt: &impl Print) -> io::Result<Verdicts> {
     let mut verdicts = try_untampered(rt)?;
-    for case in 0..cases::CASES {
-        verdicts = verdicts.with(rt, case, is_refused_as_due(case))?;
+    for cases in ALL {
+        verdicts.try_each(rt, cases)?;
     }
     Ok(verdicts)
 }

@@ -6,7 +6,7 @@ use Rattle.olgaemuri.proofs.olgaemuri_execute.Goals as goal
 pub returns-then-answer-lt-ANSWER_WIDTH : goal.returns-then-answer-lt-ANSWER_WIDTH
 returns-then-answer-lt-ANSWER_WIDTH c =
     let short = c.if-answer-lt-ANSWER_WIDTH.true in
-    ((λ h. absurd (omega arith)), (λ h. (refl, refl, record { words = refl; floats = refl; journal = refl })))
+    ((λ h. absurd (omega arith)), (λ h. (c.number.ensures, refl, record { words = refl; floats = refl; journal = refl })))
 
 pub returns : goal.returns
 returns c = (

@@ -1,7 +1,7 @@
 //! Codes, offsets and widths of the commands.
 
 use crate::changes::{changed, floats, range};
-use crate::document::{constants, table, widths};
+use crate::document::{codes, constants, table, widths};
 use olgaemuri::{Command, Entity, Hazard, Pair, Policy, Tie, width};
 use std::ops::Range;
 
@@ -40,12 +40,15 @@ fn layouts() -> Vec<Layout> {
 #[test]
 fn codes_and_widths_are_the_engine_s_and_the_crate_s() {
     let layouts = layouts();
-    let codes: Vec<_> = layouts
+    let document: Vec<_> = layouts
         .iter()
-        .map(|l| (l.name, usize::from(l.code)))
+        .map(|l| (l.name.to_string(), usize::from(l.code)))
         .collect();
-    assert_eq!(codes, constants("u8"));
-    let document: Vec<_> = layouts.iter().map(|l| (l.name, l.width)).collect();
+    assert_eq!(document, codes());
+    let document: Vec<_> = layouts
+        .iter()
+        .map(|l| (l.name.to_string(), l.width))
+        .collect();
     assert_eq!(document, widths());
     for layout in &layouts {
         assert_eq!(width(layout.code), Some(layout.width), "{}", layout.name);

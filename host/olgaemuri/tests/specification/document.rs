@@ -55,19 +55,49 @@ pub fn constants(kind: &str) -> Vec<(&'static str, usize)> {
     numbers.collect()
 }
 
-/// The widths of the function `width` in commands.rt, by the code's name.
-pub fn widths() -> Vec<(&'static str, usize)> {
-    let (_, body) = COMMANDS
-        .split_once("pub fn width(")
-        .expect("the function `width`");
-    let (_, arms) = body.split_once("match code {").expect("its arms");
-    let arms = arms.lines().skip(1).take_while(|line| !line.contains('}'));
-    let arms = arms.map(|line| {
-        line.trim()
-            .trim_end_matches(',')
-            .split_once(" => ")
-            .expect("an arm")
+/// The lines of commands.rt between a head and the next line that closes a brace.
+fn lines_behind(head: &str) -> impl Iterator<Item = &'static str> {
+    let (_, body) = COMMANDS.split_once(head).expect("the head of an item");
+    let lines = body.lines().skip(1).map(str::trim);
+    lines.take_while(|line| !line.starts_with('}'))
+}
+
+/// The codes of the enum `Command` in commands.rt, by the document's names.
+pub fn codes() -> Vec<(String, usize)> {
+    let variants = lines_behind("pub enum Command {");
+    let pairs = variants.map(|line| {
+        line.trim_end_matches(',')
+            .split_once(" = ")
+            .expect("a variant with its code")
     });
-    let known = arms.filter(|(name, _)| *name != "_");
-    known.map(|(name, width)| (name, number(width))).collect()
+    pairs
+        .map(|(name, code)| (name.to_uppercase(), literal(code).expect("a code")))
+        .collect()
+}
+
+/// The widths of `Command::width` in commands.rt, in the order of the codes.
+pub fn widths() -> Vec<(String, usize)> {
+    let arms: Vec<(&str, &str)> = lines_behind("        match self {")
+        .map(|line| {
+            line.trim_end_matches(',')
+                .split_once(" => ")
+                .expect("an arm")
+        })
+        .collect();
+    let width = |name: &str| {
+        let names = |arm: &str| {
+            arm.split(" | ")
+                .filter_map(|path| path.strip_prefix("Command::"))
+                .any(|variant| variant.to_uppercase() == name)
+        };
+        let (_, width) = arms.iter().find(|(arm, _)| names(arm)).expect("an arm");
+        number(width)
+    };
+    codes()
+        .into_iter()
+        .map(|(name, _)| {
+            let width = width(&name);
+            (name, width)
+        })
+        .collect()
 }

@@ -6,12 +6,13 @@ use olgaemuri::Refusal;
 /// Every refusal with its number, as the definitions have it, in the order of checking.
 const DEFINITIONS: &str = include_str!("../../../../crates/hazards/specs/Refusals.antt");
 
-/// The names and numbers of the definitions that are plain decimal numbers.
+/// The names and numbers of the definitions that are plain decimal numbers, of no argument.
 fn definitions() -> Vec<(&'static str, usize)> {
     let lines = DEFINITIONS
         .lines()
         .filter_map(|line| line.split_once(" = "));
-    let numbers = lines.filter_map(|(name, value)| Some((name, value.parse().ok()?)));
+    let named = lines.filter(|(name, _)| !name.contains(' '));
+    let numbers = named.filter_map(|(name, value)| Some((name, value.parse().ok()?)));
     numbers.collect()
 }
 

@@ -2,27 +2,21 @@
 use mathlib.Core.Path.{ap}
 use native.Mathlib.Omega.{arith}
 use lib.Ieee.{of_bits}
-use lib.ListN.{length-set}
-use Rattle.clocks.specs.Layout.{clock_from}
+use Rattle.clocks.specs.Layout.{clock_from, Sized}
 use Rattle.clocks.specs.declared.channels.HazardChannelState.{HazardChannelState}
 use Rattle.clocks.proofs.RowLaws.{with_channel_at, leaves_as}
 use Rattle.clocks.proofs.ChannelStores.{words_of, numbers_of, channel_back, stored_coded, rows_stored}
 use Rattle.clocks.proofs.channels.put_channel.Goals as goal
-
-pub bounds-floats-j-2 : goal.bounds-floats-j-2
-bounds-floats-j-2 c = simp length-set (omega arith)
-
-pub bounds-floats-j-3 : goal.bounds-floats-j-3
-bounds-floats-j-3 c = simp length-set (omega arith)
 
 pub returns : goal.returns
 unfolding of_bits
 returns c =
     let a = c.args in
     let k : HazardChannelState = a.c in
+    let sized : Sized a.words.now a.floats.now = record { words = omega arith; floats = omega arith } in
     leaves_as
     (rw (c.own_rate-rate.ensures, c.kind_number-kind.ensures)
-    (rows_stored a.words.now a.floats.now a.j c.requires.0 c.requires.1 (words_of k) (numbers_of k)
+    (rows_stored a.words.now a.floats.now a.j c.requires sized (words_of k) (numbers_of k)
     k.intervals.ends k.intervals.rates
     (λ h. stored_coded k (omega arith) (omega arith))))
     (ap (with_channel_at (clock_from a.words.now a.floats.now) a.j) (channel_back k (omega arith) (omega arith)))

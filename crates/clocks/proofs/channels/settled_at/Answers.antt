@@ -8,4 +8,4 @@ pub returns : goal.returns
 unfolding settled_hazard channel_from
 returns c =
     c.accumulated_at.ensures
-    ∙ rw (c.rate_of_kind.ensures, c.byte_from.ensures)
+    ∙ rw (c.rate_of_kind-hazard.ensures, c.byte_from.ensures)

@@ -1,16 +1,13 @@
 -- `scheduling::censored_only` meets its contract: the three cases without a candidate.
-use mathlib.Core.Path.{sym, ◌∙◌}
-use borrow.Author.Tests.{not-true, not-false}
+use mathlib.Core.Path.{refl, sym, ◌∙◌}
 use Rattle.clocks.proofs.SchedulingCases.{no_candidate_no_censor, no_candidate_late, no_candidate_censored}
 use Rattle.clocks.proofs.scheduling.censored_only.Goals as goal
 
-pub returns-then-not-censor : goal.returns-then-not-censor
-returns-then-not-censor c = c.not_realized.ensures ∙ sym (no_candidate_no_censor _ _ (not-true _ c.if-not-censor.true))
+pub returns-in_default : goal.returns-in_default
+returns-in_default c = sym (no_candidate_no_censor _ _ (rw c.in_default.is))
 
-pub returns-then-censor-now : goal.returns-then-censor-now
-returns-then-censor-now c =
-    c.realized.ensures
-    ∙ sym (no_candidate_censored _ _ (not-false _ c.if-not-censor.false) c.if-censor-now.true)
+pub returns-then-end-now : goal.returns-then-end-now
+returns-then-end-now c = c.realized.ensures ∙ rw c.in-Some.is (sym (no_candidate_censored _ _ refl c.if-end-now.true))
 
-pub returns-else-censor-now : goal.returns-else-censor-now
-returns-else-censor-now c = c.not_realized-else-censor-now.ensures ∙ sym (no_candidate_late _ _ (not-false _ c.if-not-censor.false) c.if-censor-now.false)
+pub returns : goal.returns
+returns c = rw c.in-Some.is (sym (no_candidate_late _ _ refl c.if-end-now.false))

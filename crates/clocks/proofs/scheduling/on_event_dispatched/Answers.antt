@@ -16,7 +16,7 @@ returns-then-not-winner c =
     let e = sym (dispatched_none (clock_from a.words.now a.floats.now) (won ∙ not-true _ c.if-not-winner.true)) in (
       leaves_as c.put_schedule.ensures
           (rw (c.not_scheduled.ensures, c.no_winner.ensures) (ap (λ (r : Dispatched). r.clock) e)),
-      c.not_realized.ensures ∙ ap (λ (r : Dispatched). r.event) e,
+      ap (λ (r : Dispatched). r.event) e,
     )
 
 pub returns-then-winner : goal.returns-then-winner

@@ -10,19 +10,19 @@ pub set_again-requires : goal.set_again-requires
 set_again-requires c =
     let w = c.args.words.now in
     let f = c.args.floats.now in
-    let h = place_used w f c.args.setting.cause_id (sym (c.place_of_cause.ensures f) ∙ c.in-At.is) in
-    (omega arith, c.requires)
+    let h = place_used w f c.args.setting.cause_id (sym (c.place_of_cause.ensures f) ∙ c.in-Some.is) in
+    omega arith
 
-pub returns-in-At : goal.returns-in-At
-returns-in-At c =
+pub returns-in-Some : goal.returns-in-Some
+returns-in-Some c =
     let a = c.args in
     let f = a.floats.now in
-    let place = sym c.in-At.is ∙ c.place_of_cause.ensures f in
+    let place = sym c.in-Some.is ∙ c.place_of_cause.ensures f in
     rw (set-held (clock_from a.words.now f) a.setting a.stream.now a.position place) at c.set_again.ensures
 
-pub returns-in-Absent : goal.returns-in-Absent
-returns-in-Absent c =
+pub returns-in-None : goal.returns-in-None
+returns-in-None c =
     let a = c.args in
     let f = a.floats.now in
-    let place = sym c.in-Absent.is ∙ c.place_of_cause.ensures f in
+    let place = sym c.in-None.is ∙ c.place_of_cause.ensures f in
     rw (set-absent (clock_from a.words.now f) a.setting a.stream.now a.position place) at c.set_new.ensures

@@ -2,14 +2,16 @@
 use mathlib.Core.Path.{refl}
 use native.Mathlib.Omega.{arith}
 use lib.Ieee.{of_bits}
+use Rattle.std.proofs.Common.{rules}
+use Rattle.hazards.proofs.RefusalLaws.{number_not_zero}
+use Rattle.hazards.specs.declared.refusals.Refusal.TheVariants.{TooManyCauses}
 use Rattle.clocks.specs.Clocks.{used_channels}
 use Rattle.clocks.specs.Layout.{clock_from}
 use Rattle.clocks.proofs.OwnRows.{count_in}
 use Rattle.clocks.proofs.PlaceRows.{used_rows}
 use Rattle.clocks.proofs.Places.{new_most}
-use Rattle.clocks.proofs.RowLaws.{leaves_none}
 use Rattle.clocks.proofs.SettingCases.{new_ninth, new_refused, new_drawn}
-use Rattle.clocks.proofs.SettingInPlace.{set-leaves}
+use Rattle.clocks.proofs.SettingInPlace.{set-leaves, refused-leaves}
 use Rattle.clocks.proofs.setting.set_new.Goals as goal
 
 pub returns-then-words-ge8 : goal.returns-then-words-ge8
@@ -17,18 +19,20 @@ returns-then-words-ge8 c =
     let a = c.args in
     let w = a.words.now in
     let f = a.floats.now in
-    set-leaves (new_ninth (clock_from w f) a.setting a.stream.now a.position (rw (count_in w f) c.if-words-ge8.true))
-    (leaves_none w f) (λ _. (refl, refl))
+    refused-leaves w f a.position TooManyCauses
+    (new_ninth (clock_from w f) a.setting a.stream.now a.position (rw (count_in w f) c.if-words-ge8.true))
 
-pub returns-then-drawn-ne0 : goal.returns-then-drawn-ne0
-returns-then-drawn-ne0 c =
+pub returns-in_err-drawn : goal.returns-in_err-drawn
+returns-in_err-drawn c =
     let a = c.args in
     let w = a.words.now in
     let f = a.floats.now in
-    set-leaves
+    let refusal = c.in_err-drawn.field-0.0 in
+    let e =
+    refused-leaves w f a.position refusal
     (new_refused (clock_from w f) a.setting a.stream.now a.position (rw (count_in w f) c.if-words-ge8.false)
-    c.draw_from-drawn.ensures c.if-drawn-ne0.true)
-    (leaves_none w f) (λ _. (refl, refl))
+    c.in_err-drawn.ensures (number_not_zero refusal)) in
+    search (rules, e)
 
 pub insert_channel-requires : goal.insert_channel-requires
 insert_channel-requires c =
@@ -39,7 +43,7 @@ insert_channel-requires c =
     let used = used_rows w f in
     let count = count_in w f in
     let few = c.if-words-ge8.false in
-    (omega arith, c.requires, omega arith)
+    (omega arith, omega arith)
 
 pub returns : goal.returns
 unfolding of_bits
@@ -47,7 +51,7 @@ returns c =
     let a = c.args in
     let w = a.words.now in
     let f = a.floats.now in
-    set-leaves
+    set-leaves a.position c.in_ok-drawn.drawn.position.next
     (new_drawn (clock_from w f) a.setting a.stream.now a.position (rw (count_in w f) c.if-words-ge8.false)
-    c.draw_from-drawn.ensures c.if-drawn-ne0.false c.channel_of-channel.ensures (c.place_for_new-at.ensures f) refl)
-    c.insert_channel.ensures (λ n. absurd (n refl))
+    c.in_ok-drawn.ensures refl c.channel_of-channel.ensures (c.place_for_new-at.ensures f) refl)
+    refl c.insert_channel.ensures

@@ -2,26 +2,16 @@
 use native.Mathlib.Omega.{arith}
 use Prim.Native.Nat.{◌-◌}
 use native.Mathlib.Nat.{zero-add}
-use lib.Pow.{pow_pos}
 use Rattle.clocks.proofs.TickRounding.{small_shift, split_fits, split-sum, high_shift}
 use Rattle.clocks.proofs.ticks.shifted.Goals as goal
 
 pub overflow_mul-result : goal.overflow_mul-result
 overflow_mul-result c = record { fits = rw c.power_of_two.ensures (small_shift c.args.digits c.args.e c.requires.0 (omega arith)) }
 
-pub returns-then-e-le11 : goal.returns-then-e-le11
-returns-then-e-le11 c = rw c.power_of_two.ensures (omega arith)
-
-pub nonzero_rem-result : goal.nonzero_rem-result
-nonzero_rem-result c = omega (arith, pow_pos (64 - c.args.e))
-
 pub overflow_mul-result-then-e-lt64 : goal.overflow_mul-result-then-e-lt64
 overflow_mul-result-then-e-lt64 c =
     let a = c.args in
     record { fits = rw (c.power_of_two-unit.ensures, c.power_of_two-then-e-lt64.ensures) (split_fits a.digits a.e (omega arith)) }
-
-pub nonzero_div-result : goal.nonzero_div-result
-nonzero_div-result c = omega (arith, pow_pos (64 - c.args.e))
 
 pub returns-then-e-lt64 : goal.returns-then-e-lt64
 returns-then-e-lt64 c =

@@ -1,5 +1,5 @@
 -- `validation::channels_coded` meets its contract: at each turn the channels below j are coded where the words joined so far pass.
-use mathlib.Core.Path.{◌≡◌, sym, ◌∙◌}
+use mathlib.Core.Path.{sym, ◌∙◌}
 use mathlib.Core.List.{[]}
 use Prim.Native.Nat.{◌+◌, ◌*◌}
 use borrow.Author.Tests.{not-true, not-false}
@@ -15,7 +15,7 @@ use Rattle.clocks.proofs.validation.channels_coded.Invariants.{coded_at}
 use Rattle.clocks.proofs.validation.channels_coded.Goals as goal
 
 pub loop-j-init : goal.loop-j-init
-loop-j-init c = (omega arith, every_none _)
+loop-j-init c = every_none _
 
 pub returns-then-not-kind_coded : goal.returns-then-not-kind_coded
 returns-then-not-kind_coded c =
@@ -31,13 +31,6 @@ loop-j-preserved c =
     let ws = get_or a.words.now (2 + c.loop-j.j) [] in
     let ns = get_or a.floats.now (1 + 3 * c.loop-j.j) [] in
     let passes = sym c.kind_coded.ensures ∙ not-false _ c.if-not-kind_coded.false-raw in
-    let both = both_true (ltb (get_or ws 2 0) kinds) (coded_numbers (get_or ws 2 0) ns) passes in (
-      omega arith,
-      every_step (coded_at a.words.now a.floats.now) c.loop-j.j
-          ∙ rw (c.loop-j.invariant.1, both.1, and_true (coded_words ws)) (joined_more c.loop-j.ids c.loop-j.spare ws both.0),
-    )
-
-pub returns : goal.returns
-returns c =
-    let eight : c.loop-j.j ≡ 8 = omega arith in
-    sym (rw eight at c.loop-j.invariant.1)
+    let both = both_true (ltb (get_or ws 2 0) kinds) (coded_numbers (get_or ws 2 0) ns) passes in
+    every_step (coded_at a.words.now a.floats.now) c.loop-j.j
+    ∙ rw (c.loop-j.invariant, both.1, and_true (coded_words ws)) (joined_more c.loop-j.ids c.loop-j.spare ws both.0)

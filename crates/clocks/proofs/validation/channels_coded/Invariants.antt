@@ -2,7 +2,7 @@
 use mathlib.Core.Path.{◌≡◌}
 use mathlib.Core.Bool.{Bool, ◌&&◌}
 use mathlib.Core.List.{[]}
-use Prim.Native.Nat.{ℕ, ◌+◌, ◌*◌, ◌≤◌, ◌-◌}
+use Prim.Native.Nat.{ℕ, ◌+◌, ◌*◌}
 use lib.Dec.{eqb, ltb}
 use lib.ListN.{get_or}
 use Rattle.clocks.specs.Layout.{WordRows, FloatRows, coded_channel, every_below}
@@ -13,7 +13,4 @@ abbrev pub coded_at : WordRows → FloatRows → ℕ → Bool
 coded_at w f j = coded_channel (get_or w (2 + j) []) (get_or f (1 + 3 * j) [])
 
 abbrev pub invariant-loop-j : goal.invariant-loop-j
-invariant-loop-j l = (l.j ≤ 8) × (every_below l.j (coded_at l.words l.floats) ≡ (ltb l.ids 4294967296 && eqb l.spare 0))
-
-abbrev pub decreases-loop-j : goal.decreases-loop-j
-decreases-loop-j l = 8 - l.j
+invariant-loop-j l = every_below l.j (coded_at l.words l.floats) ≡ (ltb l.ids 4294967296 && eqb l.spare 0)

@@ -1,6 +1,6 @@
 -- `validation::kind_coded` meets its contract: a rate is tested where the kind is 0.
 use mathlib.Core.Path.{◌≡◌, sym, ◌∙◌}
-use borrow.Author.Tests.{not-true, not-false, ne_eqb, lt-ltb, le-ltb}
+use borrow.Author.Tests.{not-true, not-false, ne_eqb, lt-ltb}
 use Rattle.clocks.specs.Layout.{spare_zero, coded_numbers}
 use Rattle.clocks.proofs.validation.kind_coded.Goals as goal
 use Rattle.clocks.proofs.validation.kind_coded.Goals.{then-kind-eq0+else-not-zero_bits, else-kind-eq0}
@@ -19,6 +19,3 @@ returns-then-kind-lt-KINDS c =
       | else-kind-eq0 w ↦ rw (ne_eqb _ _ w.if-kind-eq0.false)
     ] in
     rw (lt-ltb _ _ c.if-kind-lt-KINDS.true) (c.spare_zero.ensures ∙ e)
-
-pub returns-else-kind-lt-KINDS : goal.returns-else-kind-lt-KINDS
-returns-else-kind-lt-KINDS c = rw (le-ltb _ _ c.if-kind-lt-KINDS.false)

@@ -1,5 +1,7 @@
 -- `clock_calls::create_in` meets its contract.
 use mathlib.Core.Path.{◌≡◌, ◌∙◌, ap}
+use native.Mathlib.Omega.{arith}
+use Rattle.engine.specs.StateRows.{SizedState}
 use Rattle.engine.specs.Commands.{created_clock}
 use Rattle.engine.specs.State.{with_slot, ClockSlot}
 use Rattle.engine.specs.Execution.{holding}
@@ -14,13 +16,14 @@ returns c =
     let a = c.args in
     let w = a.words.now in
     let f = a.floats.now in
+    let sized : SizedState w f = record { words = omega arith; floats = omega arith } in
     let e = call.ensures in
     let here : slot_of call.new.words call.new.floats ≡ holding (created_clock a.command.now) =
     (λ i. record { present = e.1 i; clock = e.0 i }) in (
-      slot_left w f a.clock c.requires.0 c.requires.1 call.new.words call.new.floats call.auto.words call.auto.floats
+      slot_left w f a.clock c.requires sized call.new.words call.new.floats call.auto.words call.auto.floats
           ∙ ap (λ (x : ClockSlot). with_slot (state_from w f) a.clock x (shared_from w)) here,
-      shared_kept w f a.clock c.requires.0 c.requires.1 call.new.words call.new.floats call.auto.words call.auto.floats,
+      shared_kept w f a.clock c.requires sized call.new.words call.new.floats call.auto.words call.auto.floats,
       λ h.
-          slot_left_coded w f a.clock c.requires.0 c.requires.1 call.new.words call.new.floats call.auto.words call.auto.floats h
+          slot_left_coded w f a.clock c.requires sized call.new.words call.new.floats call.auto.words call.auto.floats h
           e.2,
     )

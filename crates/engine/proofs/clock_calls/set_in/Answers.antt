@@ -2,6 +2,9 @@
 use mathlib.Core.Path.{◌∙◌, ap}
 use Prim.Native.Nat.{◌*◌}
 use borrow.Rule.Slice.PartMut.{put_mid, put_same}
+use native.Mathlib.Omega.{arith}
+use Rattle.engine.specs.StateRows.{SizedState}
+use Rattle.std.proofs.lemmas.Result.{on_err_weaker}
 use Rattle.clocks.specs.Layout.{WordRows, FloatRows}
 use Rattle.clocks.specs.Setting.{set_channel}
 use Rattle.clocks.specs.RowsInternals.{channel_draw}
@@ -14,19 +17,22 @@ use Rattle.engine.proofs.clock_calls.set_in.Goals as goal
 pub returns : goal.returns
 unfolding shared_from shared_of
 returns c =
-    let call = c.set_channel in
+    let call = c.set_rows in
     let a = c.args in
     let w = a.words.now in
     let f = a.floats.now in
+    let sized : SizedState w f = record { words = omega arith; floats = omega arith } in
     let k = a.clock in
     let position = (shared_from w).position in
-    let there = clock_there w f k c.requires.0 in (
-      clock_left w f k c.requires.0 c.requires.1 call.new.words call.new.floats call.auto.words call.auto.floats _
+    let there = clock_there w f k c.requires in (
+      clock_left w f k c.requires sized call.new.words call.new.floats call.auto.words call.auto.floats _
           (leaves_as call.ensures.0
           (ap (λ (x : SurvivalClock). (set_channel x a.setting a.stream.now position).clock) there)),
       call.ensures.1 ∙ ap (λ (x : SurvivalClock). channel_draw (set_channel x a.setting a.stream.now position)) there,
-      λ n. (
-        ap (λ (z : WordRows). put_mid (10 * k) (words_lent k) w z) (call.ensures.2 n).0 ∙ put_same (10 * k) (words_lent k) w,
-        ap (λ (y : FloatRows). put_mid (25 * k) (floats_lent k) f y) (call.ensures.2 n).1 ∙ put_same (25 * k) (floats_lent k) f,
-      ),
+      on_err_weaker call.result
+          (λ n. (
+            ap (λ (z : WordRows). put_mid (10 * k) (words_lent k) w z) n.0 ∙ put_same (10 * k) (words_lent k) w,
+            ap (λ (y : FloatRows). put_mid (25 * k) (floats_lent k) f y) n.1 ∙ put_same (25 * k) (floats_lent k) f,
+          ))
+          call.ensures.2,
     )

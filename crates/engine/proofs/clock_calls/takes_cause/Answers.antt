@@ -11,5 +11,6 @@ pub returns : goal.returns
 returns c =
     λ floats.
     let a = c.args in
-    c.takes_cause.ensures (take (floats_lent a.clock) (drop (25 * a.clock) floats))
-    ∙ ap (λ (k : SurvivalClock). takes_cause k a.cause) (clock_there a.words.now floats a.clock c.requires.0)
+    let rows = rw c.unwrap.ensures at c.as_array-rows.ensures.cases in
+    (rw rows.same at c.takes_cause.ensures (take (floats_lent a.clock) (drop (25 * a.clock) floats)))
+    ∙ ap (λ (k : SurvivalClock). takes_cause k a.cause) (clock_there a.words.now floats a.clock c.requires)

@@ -1,30 +1,16 @@
 -- `comparison::same_float` meets its contract.
-use mathlib.Core.Path.{sym, ◌∙◌}
-use Rattle.hazards.proofs.Patterns.{same_no_nan}
+use Rattle.std.proofs.Common.{rules}
 use Rattle.engine.specs.Comparison.{same_float}
-use Rattle.engine.proofs.NotItself.{differs_is_nan}
 use Rattle.engine.proofs.comparison.same_float.Goals as goal
 
-pub returns-then-a : goal.returns-then-a
+pub returns-then-is_nan : goal.returns-then-is_nan
 unfolding same_float
-returns-then-a c =
-    let x = c.args in
-    rw (sym (differs_is_nan x.a) ∙ c.if-a.true, differs_is_nan x.b)
+returns-then-is_nan c = search rules
 
-pub returns-then-b : goal.returns-then-b
+pub returns-then-is_nan-2 : goal.returns-then-is_nan-2
 unfolding same_float
-returns-then-b c =
-    let x = c.args in
-    rw (sym (differs_is_nan x.a) ∙ c.if-a.false, sym (differs_is_nan x.b) ∙ c.if-b.true)
-
-pub float_to_bits-result : goal.float_to_bits-result
-float_to_bits-result c = same_no_nan c.args.a c.if-a.false
-
-pub float_to_bits-result-2 : goal.float_to_bits-result-2
-float_to_bits-result-2 c = same_no_nan c.args.b c.if-b.false
+returns-then-is_nan-2 c = search rules
 
 pub returns : goal.returns
 unfolding same_float
-returns c =
-    let x = c.args in
-    rw (sym (differs_is_nan x.a) ∙ c.if-a.false, sym (differs_is_nan x.b) ∙ c.if-b.false)
+returns c = search rules

@@ -1,31 +1,19 @@
--- `comparison::same_floats` meets its contract: at each turn the rows below i are the same.
-use mathlib.Core.Path.{◌≡◌, sym, ◌∙◌}
-use lib.ListN.{length}
-use borrow.Author.Tests.{not-true, not-false}
-use Rattle.clocks.proofs.EveryBelow.{every_none, every_more, every_fails}
-use Rattle.engine.specs.ComparisonInternals.{same_float_rows}
-use native.Mathlib.Omega.{arith}
-use Rattle.engine.proofs.comparison.same_floats.Invariants.{same_at}
+-- `comparison::same_floats` meets its contract: every pair is tested.
+use mathlib.Core.Path.{◌∙◌}
+use mathlib.Core.List.{List, []}
+use lib.Ieee.{Float}
+use Rattle.std.proofs.Common.{rules, tests}
+use Rattle.std.proofs.lemmas.Iterator.{YieldsList-from_slice, YieldsList-from_zip}
+use Rattle.std.proofs.lemmas.Iterator.Search.{all_from_yields_List}
+use Rattle.engine.specs.ComparisonInternals.{same_float_row, same_float_rows}
+use Rattle.engine.proofs.PlaceByPlace.{pairs_tested}
 use Rattle.engine.proofs.comparison.same_floats.Goals as goal
-
-pub loop-i-init : goal.loop-i-init
-loop-i-init c = (omega arith, every_none _)
-
-pub returns-then-not-same_float_row : goal.returns-then-not-same_float_row
-unfolding same_float_rows
-returns-then-not-same_float_row c =
-    let a = c.args in
-    let differs = sym c.same_float_row.ensures ∙ not-true _ c.if-not-same_float_row.true-raw in
-    sym (every_fails (same_at a.a.now a.b.now) (length a.a.now) c.loop-i.i (omega arith) differs)
-
-pub loop-i-preserved : goal.loop-i-preserved
-loop-i-preserved c =
-    let a = c.args in
-    let same = sym c.same_float_row.ensures ∙ not-false _ c.if-not-same_float_row.false-raw in
-    (omega arith, every_more (same_at a.a.now a.b.now) c.loop-i.i c.loop-i.invariant.1 same)
 
 pub returns : goal.returns
 unfolding same_float_rows
 returns c =
-    let all : c.loop-i.i ≡ length c.args.a.now = omega arith in
-    sym (rw all at c.loop-i.invariant.1)
+    let a = c.args.a.now in
+    let b = c.args.b.now in
+    all_from_yields_List (λ (p : List Float × List Float). same_float_row p.0 p.1) c.all.new.self _ c.all.result c.all.ensures.ran
+    (YieldsList-from_zip (YieldsList-from_slice a cc) (YieldsList-from_slice b cc)) (λ x b q k. search (rules, tests))
+    ∙ pairs_tested same_float_row [] [] a b c.requires

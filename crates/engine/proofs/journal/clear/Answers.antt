@@ -10,10 +10,10 @@ pub returns : goal.returns
 returns c =
     let a = c.args in
     let bytes = a.bytes.now in
-    let end = c.at_most-end.result in
+    let end = c.min-end.result in
     let whole = end / 8 * 8 in
-    let rest = c.clear_singly in
-    zeros_joined bytes c.clear_eights.new.bytes rest.new.bytes whole end (omega arith) (omega arith)
+    let rest = c.fill in
+    zeros_joined bytes c.clear_eights.new.bytes rest.new.self whole end (omega arith) (omega arith)
     (c.clear_eights.ensures ∙ cleared_whole bytes whole (omega arith))
-    rest.ensures
+    (rest.ensures.after (λ y h. h))
     ∙ sym (cleared-front bytes a.count {end = end} (omega arith))

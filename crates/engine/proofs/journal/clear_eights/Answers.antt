@@ -7,7 +7,7 @@ use Rattle.engine.proofs.PartLaws.{cleared-front}
 use Rattle.engine.proofs.journal.clear_eights.Goals as goal
 
 pub loop-turn-init : goal.loop-turn-init
-loop-turn-init c = (refl, omega arith, refl)
+loop-turn-init c = (refl, refl)
 
 pub bounds-bytes-i-in-loop-turn : goal.bounds-bytes-i-in-loop-turn
 unfolding zeros_stored
@@ -43,8 +43,7 @@ loop-turn-preserved c =
     let l = c.loop-turn in
     let bytes = c.args.bytes.now in (
       zeros_next bytes l.bytes (l.turn * 8) 7 ((l.turn + 1) * 8) (omega arith) (omega arith) l.invariant.0,
-      omega arith,
-      stored-length c.loop-turn.bytes (c.loop-turn.turn * 8) 7 ∙ l.invariant.2,
+      stored-length c.loop-turn.bytes (c.loop-turn.turn * 8) 7 ∙ l.invariant.1,
     )
 
 pub returns : goal.returns

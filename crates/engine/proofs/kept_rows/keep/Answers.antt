@@ -1,4 +1,8 @@
 -- `kept_rows::keep` meets its contract.
+use mathlib.Core.Path.{◌≡◌}
+use lib.ListN.{length}
+use native.Mathlib.Omega.{arith}
+use Rattle.engine.specs.StateRows.{SizedState}
 use Rattle.engine.proofs.KeptParts.{keeps_slot, keeps_shared, keeps_coded}
 use Rattle.engine.proofs.kept_rows.keep.Goals as goal
 
@@ -9,14 +13,15 @@ returns c =
     let f = a.floats.now in
     let k = a.clock in
     let old = a.kept.now in
-    let here = c.copy_words in
-    let rest = c.copy_words-2 in
-    let floats = c.copy_floats in
-    let n = c.requires.2.words in (
-      keeps_slot w f k c.requires.0 c.requires.1 old n here.new.to rest.new.to floats.new.to
-          here.ensures rest.ensures floats.ensures,
-      keeps_shared w f k c.requires.0 c.requires.1 old n here.new.to rest.new.to floats.new.to
-          here.ensures rest.ensures floats.ensures,
-      keeps_coded w f k c.requires.0 c.requires.1 old n here.new.to rest.new.to floats.new.to
-          here.ensures rest.ensures floats.ensures,
+    let here = c.copy_from_slice in
+    let rest = c.copy_from_slice-2 in
+    let floats = c.copy_from_slice-3 in
+    let sized : SizedState w f = record { words = omega arith; floats = omega arith } in
+    let n : length old ≡ 27 = omega arith in (
+      keeps_slot w f k c.requires sized old n here.new.self rest.new.self floats.new.self
+          here.ensures.after rest.ensures.after floats.ensures.after,
+      keeps_shared w f k c.requires sized old n here.new.self rest.new.self floats.new.self
+          here.ensures.after rest.ensures.after floats.ensures.after,
+      keeps_coded w f k c.requires sized old n here.new.self rest.new.self floats.new.self
+          here.ensures.after rest.ensures.after floats.ensures.after,
     )

@@ -1,24 +1,21 @@
--- `queue::clear_from` meets its contract: at each turn the places before `i` are as they shall be.
-use mathlib.Core.Path.{refl}
+-- `queue::clear_from` meets its contract: the rows from one on are filled with zero.
+use mathlib.Core.Path.{◌≡◌, refl, sym}
+use Prim.Native.Nat.{◌+◌, ◌-◌}
 use native.Mathlib.Omega.{arith}
-use lib.ListN.{length-set}
-use Rattle.engine.proofs.QueueRowLaws.{clearing_none, clearing_more, clearing-all}
+use lib.ListN.{length, take, drop, replicate, length-drop, length-replicate}
+use lib.Seq.{length-take-le}
+use Rattle.std.proofs.lemmas.List.Elements.{same_from_all_zip}
+use Rattle.std.proofs.lemmas.Slice.{put_mid-paste}
+use Rattle.engine.proofs.QueueRowLaws.{no_words, emptied}
 use Rattle.engine.proofs.queue.clear_from.Goals as goal
-
-pub loop-i-init : goal.loop-i-init
-loop-i-init c = (omega arith, omega arith, refl, clearing_none c.args.words.now c.args.from)
-
-pub loop-i-preserved : goal.loop-i-preserved
-loop-i-preserved c =
-    let l = c.loop-i in (
-      omega arith,
-      omega arith,
-      simp length-set (omega arith),
-      clearing_more c.args.words.now l.words c.args.from l.i l.invariant.3 (omega arith) l.invariant.0 (omega arith),
-    )
 
 pub returns : goal.returns
 returns c =
-    let l = c.loop-i in
-    let a = c.args in
-    clearing-all a.words.now l.words a.from l.i l.invariant.3 (omega arith)
+    let w = c.args.words.now in
+    let from = c.args.from in
+    let n = 177 - (161 + from) in
+    let wide : n ≡ 16 - from = omega arith in
+    let part : length (take n (drop (161 + from) w)) ≡ n = length-take-le n (drop (161 + from) w) (omega (arith, length-drop (161 + from) w)) in
+    let filled = c.fill.ensures.after (λ y q. same_from_all_zip _ no_words y q.whole (λ a b e. e)) in
+    rw (put_mid-paste (161 + from) n w c.fill.new.self (replicate n no_words) n (rw part at filled) refl (sym (length-replicate n no_words)), wide)
+    (emptied w (omega arith) from c.requires)

@@ -9,10 +9,7 @@ use Rattle.engine.proofs.queue.move_up.Goals as goal
 use Rattle.engine.proofs.queue.move_up.Goals.{then-row-index, else-row-index}
 
 pub loop-i-init : goal.loop-i-init
-loop-i-init c = (omega arith, refl, moving_none c.args.words.now c.args.index)
-
-pub slice_copy_out-row : goal.slice_copy_out-row
-slice_copy_out-row c = omega (arith, c.used_places-used.ensures)
+loop-i-init c = moving_none c.args.words.now c.args.index
 
 pub bounds-words-kept : goal.bounds-words-kept
 bounds-words-kept c = omega (arith, c.used_places-used.ensures)
@@ -25,22 +22,15 @@ loop-i-preserved c =
     let kept = c.loop-i.kept in
     let index = c.args.index in
     let h : i < min (count_at w₀ 0) 16 = omega (arith, c.used_places-used.ensures) in
-    let sized : length w ≡ 177 = omega arith in
     elim c.if-row-index.branch [
-      | then-row-index x ↦ (
-        omega arith,
-        rw x.words-is (simp length-set (omega arith)),
-        rw (x.words-is, x.kept-is) (moving_more w₀ w index i kept c.loop-i.invariant.2 h sized x.if-row-index.true),
-      )
-      | else-row-index x ↦ (
-        omega arith,
-        rw x.words-is (omega arith),
-        rw (x.words-is, x.kept-is) (moving_left w₀ w index i kept c.loop-i.invariant.2 h x.if-row-index.false),
-      )
+      | then-row-index x ↦
+          let sized = simp length-set at (rw x.words-is at c.if-row-index.array_long) in
+          rw (x.words-is, x.kept-is) (moving_more w₀ w index i kept c.loop-i.invariant h sized x.if-row-index.true)
+      | else-row-index x ↦ rw (x.words-is, x.kept-is) (moving_left w₀ w index i kept c.loop-i.invariant h x.if-row-index.false)
     ]
 
 pub returns : goal.returns
 returns c =
     let a = c.args in
-    moving-all a.words.now c.loop-i.words a.index c.loop-i.i c.loop-i.kept c.loop-i.invariant.2
+    moving-all a.words.now c.loop-i.words a.index c.loop-i.i c.loop-i.kept c.loop-i.invariant
     (omega (arith, c.used_places-used.ensures))

@@ -10,22 +10,18 @@ use Rattle.engine.proofs.queue.next_request.Goals as goal
 
 pub loop-i-init : goal.loop-i-init
 loop-i-init c =
-    let w = c.args.words.now in (
-      omega (arith, c.used_places-i.ensures),
-      sym (next_none (row_end w c.used_places-i.result (omega (arith, c.used_places-i.ensures)))),
-    )
+    let w = c.args.words.now in
+    sym (next_none (row_end w c.used_places-used.result (omega (arith, c.used_places-used.ensures))))
 
 pub loop-i-preserved : goal.loop-i-preserved
 loop-i-preserved c =
     let w = c.args.words.now in
-    let i = c.loop-i.i in (
-      omega arith,
-      c.earlier_of-best.ensures
-          ∙ ap₂ (λ (r : Request) (o : Option Request). earlier_of (some r) o) c.request_at.ensures c.loop-i.invariant.1
-          ∙ sym (next_more (row_back w i (omega arith) (omega arith))),
-    )
+    let i = c.loop-i.i in
+    c.earlier_of-best.ensures
+    ∙ ap₂ (λ (r : Request) (o : Option Request). earlier_of (some r) o) c.request_at.ensures c.loop-i.invariant
+    ∙ sym (next_more (row_back w i (omega arith) (omega (arith, c.used_places-used.ensures))))
 
 pub returns : goal.returns
 returns c =
     let e : c.loop-i.i ≡ 0 = omega arith in
-    rw e at c.loop-i.invariant.1
+    rw e at c.loop-i.invariant

@@ -10,12 +10,12 @@ use Rattle.engine.specs.State.{EngineState}
 use Rattle.engine.proofs.ReplaySteps.{Rest}
 use Rattle.engine.proofs.replay.last_command.Given as goal
 
-abbrev pub invariant-loop-at : goal.invariant-loop-at
-invariant-loop-at l =
+abbrev pub invariant-loop-command : goal.invariant-loop-command
+invariant-loop-command l =
     (l.place ≤ length l.bytes)
     × (l.at ≤ length l.bytes)
     × ((stream : List ℕ) (n : ℕ) (s before : EngineState) (last : ℕ) → replay_all (engine_of stream n) l.bytes ≡ ends s before last
     → Rest (engine_of stream n) l.bytes (ends s before last) l.place l.at)
 
-abbrev pub decreases-loop-at : goal.decreases-loop-at
-decreases-loop-at l = length l.bytes - l.at
+abbrev pub decreases-loop-command : goal.decreases-loop-command
+decreases-loop-command l = length l.bytes - l.at

@@ -1,29 +1,35 @@
 -- `run::answer_command` meets its contract.
-use mathlib.Core.Path.{refl}
+use mathlib.Core.Path.{refl, ◌∙◌, ap}
+use Prim.Native.Nat.{ℕ}
 use native.Mathlib.Omega.{arith}
 use lib.ListN.{length}
+use Rattle.engine.specs.Refusals.{answer_from}
+use Rattle.engine.specs.RunInternals.{answer_at}
 use Rattle.engine.specs.StateRows.{shared_of, shared_from}
-use Rattle.engine.proofs.PerformedInPlace.{performs_fits}
+use Rattle.engine.proofs.TriedInPlace.{numbered, tried_fits}
 use Rattle.engine.proofs.run.answer_command.Goals as goal
-
-pub bounds-words-160 : goal.bounds-words-160
-bounds-words-160 c = let r = c.requires.0 in omega (arith, r.sized.words)
-
-pub perform-answer-requires : goal.perform-answer-requires
-perform-answer-requires c = let p = c.requires in (p.0, p.1, p.2)
 
 pub answer_at-requires : goal.answer_at-requires
 unfolding shared_from shared_of
-answer_at-requires c z =
+answer_at-requires c ok =
     let a = c.args in
-    performs_fits a.stream.now (length a.journal.now) a.words.now a.floats.now a.command.now c.perform-answer.new.words
-    c.perform-answer.new.floats c.perform-answer.result c.perform-answer.ensures z
-
-pub bounds-words-160-2 : goal.bounds-words-160-2
-bounds-words-160-2 c =
-    let r = c.requires.0 in
-    omega (arith, r.sized.words, c.perform-answer.auto.words)
+    tried_fits a.stream.now (length a.journal.now) a.words.now a.floats.now a.command.now c.perform-outcome.new.words
+    c.perform-outcome.new.floats c.perform-outcome.result c.perform-outcome.ensures ok
 
 pub returns : goal.returns
 unfolding shared_from shared_of
-returns c = record { answer = c.perform-answer.result; performs = c.perform-answer.ensures; written = c.answer_at.ensures; counted = refl }
+returns c =
+    let a = c.args in
+    let did = c.perform-outcome in
+    record {
+      answer = answer_from did.result;
+      performs = did.ensures.0;
+      written =
+          c.answer_at.ensures
+          ∙ ap
+          (λ (m : ℕ).
+          answer_at m (answer_from did.result) (shared_from a.words.now).applied_length a.journal.now a.answers.now a.place
+          a.command.now)
+          (numbered did.result did.ensures);
+      counted = refl;
+    }

@@ -10,13 +10,15 @@ use lib.Seq.{length-take-le}
 use Rattle.hazards.specs.Answers.{answer_width, no_event, with_answer}
 use Rattle.engine.specs.Refusals.{nothing_applied}
 use Rattle.engine.specs.Commands as commands
-use Rattle.engine.specs.Commands.{width_of}
+use Rattle.engine.specs.Commands.{code_of, width_of}
 use Rattle.engine.specs.Engine.{code}
 use Rattle.engine.specs.Instance.{engine_of}
 use Rattle.engine.specs.StateRows.{state_from, SizedState}
 use Rattle.engine.specs.ExecutionInternals.{Ready}
 use Rattle.engine.specs.RunInternals.{is_undone, rest_of_run}
 use Rattle.engine.specs.State.{EngineState}
+use Rattle.engine.proofs.CommandCodes.{decoded, reads}
+use Rattle.engine.proofs.FrontCommands.{undo_code}
 use Rattle.engine.proofs.CommandLists.{Whole}
 use Rattle.engine.proofs.JournalBytes.{rest_of, part_of, code_at}
 use Rattle.engine.proofs.PerformedInPlace.{shared_read}
@@ -34,6 +36,11 @@ bounds-commands-at c =
     let there = c.requires.1 in
     omega (arith, there.wide, there.long, length-drop c.args.p.read c.args.commands.now)
 
+pub unwrap-input-requires : goal.unwrap-input-requires
+unwrap-input-requires c =
+    let there = c.requires.1 in
+    reads _ c.try_from.result c.try_from.ensures (rw (code_at c.args.commands.now c.args.p.read) at there.wide)
+
 pub overflow_add-end : goal.overflow_add-end
 overflow_add-end c =
     let bytes : List ℕ = c.args.commands.now in
@@ -41,7 +48,8 @@ overflow_add-end c =
     let bound : length c.args.journal.now < 2 ^ 63 = omega arith in
     let here = ongoing_input _ _ c.requires.0 bound c.requires.1 in
     let code_is : code (drop place bytes) ≡ get_or bytes place 0 = code_at bytes place in
-    let wide : c.width.result ≡ width_of (code (drop place bytes)) = c.width.ensures ∙ ap width_of (sym code_is) in
+    let read = decoded _ c.unwrap-input.result c.try_from.ensures c.unwrap-input.ensures in
+    let wide : c.width.result ≡ width_of (code (drop place bytes)) = c.width.ensures.0 ∙ ap width_of (read ∙ sym code_is) in
     let fits : (0 < c.width.result) × (place + c.width.result ≤ length bytes) = input_fits _ _ _ _ _ here c.width.result wide in
     omega (arith, fits.1)
 
@@ -55,21 +63,22 @@ revert-requires c =
     let within_journal : c.args.p.applied ≤ length c.args.journal.now = omega (arith, running.applied, c.requires.0.applied) in
     within_journal
 
-pub returns-then-code-eq-UNDO : goal.returns-then-code-eq-UNDO
-returns-then-code-eq-UNDO c b =
+pub returns-in-Undo : goal.returns-in-Undo
+returns-in-Undo c b =
     let bytes : List ℕ = c.args.commands.now in
     let place : ℕ = c.args.p.read in
     let bound : length c.args.journal.now < 2 ^ 63 = omega arith in
     let here = ongoing_input _ _ b bound c.requires.1 in
     let code_is : code (drop place bytes) ≡ get_or bytes place 0 = code_at bytes place in
-    let wide : c.width.result ≡ width_of (code (drop place bytes)) = c.width.ensures ∙ ap width_of (sym code_is) in
+    let read = decoded _ c.unwrap-input.result c.try_from.ensures c.unwrap-input.ensures in
+    let wide : c.width.result ≡ width_of (code (drop place bytes)) = c.width.ensures.0 ∙ ap width_of (read ∙ sym code_is) in
     let fits : (0 < c.width.result) × (place + c.width.result ≤ length bytes) = input_fits _ _ _ _ _ here c.width.result wide in
     let a = c.args in
-    let undo_answer : c.no_event.result ≡ no_event (cond (eqb a.p.applied 0) nothing_applied 0) =
-    c.no_event.ensures ∙ ap no_event c.undo_number.ensures in
+    let undo_answer : c.answer_from.result ≡ no_event (cond (eqb a.p.applied 0) nothing_applied 0) =
+    c.answer_from.ensures ∙ c.undone.ensures in
     let reverted = c.revert in
     input_answered _ _ b.state
-    (next_deferred _ _ _ _ _ here c.width.result wide (code_is ∙ c.if-code-eq-UNDO.true)
+    (next_deferred _ _ _ _ _ here c.width.result wide (code_is ∙ (sym read ∙ ap code_of c.in-Undo.is))
     a.p.applied b.applied reverted.ensures.0 reverted.ensures.1 (omega arith) (omega arith)
     (state_from a.words.now a.floats.now) (c.put_answer.ensures ∙ ap (with_answer _ _) undo_answer))
     (omega (arith, fits.0))
@@ -99,7 +108,8 @@ slice_bounds-command-end c =
     let bound : length c.args.journal.now < 2 ^ 63 = omega arith in
     let here = ongoing_input _ _ c.requires.0 bound c.requires.1 in
     let code_is : code (drop place bytes) ≡ get_or bytes place 0 = code_at bytes place in
-    let wide : c.width.result ≡ width_of (code (drop place bytes)) = c.width.ensures ∙ ap width_of (sym code_is) in
+    let read = decoded _ c.unwrap-input.result c.try_from.ensures c.unwrap-input.ensures in
+    let wide : c.width.result ≡ width_of (code (drop place bytes)) = c.width.ensures.0 ∙ ap width_of (read ∙ sym code_is) in
     let fits : (0 < c.width.result) × (place + c.width.result ≤ length bytes) = input_fits _ _ _ _ _ here c.width.result wide in
     omega (arith, fits.1)
 
@@ -112,7 +122,8 @@ slice_bounds-is_undone-count c =
     let bound : length c.args.journal.now < 2 ^ 63 = omega arith in
     let here = ongoing_input _ _ c.requires.0 bound c.requires.1 in
     let code_is : code (drop place bytes) ≡ get_or bytes place 0 = code_at bytes place in
-    let wide : c.width.result ≡ width_of (code (drop place bytes)) = c.width.ensures ∙ ap width_of (sym code_is) in
+    let read = decoded _ c.unwrap-input.result c.try_from.ensures c.unwrap-input.ensures in
+    let wide : c.width.result ≡ width_of (code (drop place bytes)) = c.width.ensures.0 ∙ ap width_of (read ∙ sym code_is) in
     let fits : (0 < c.width.result) × (place + c.width.result ≤ length bytes) = input_fits _ _ _ _ _ here c.width.result wide in
     omega (arith, fits.1)
 
@@ -123,7 +134,8 @@ slice_bounds-is_undone-start c =
     let bound : length c.args.journal.now < 2 ^ 63 = omega arith in
     let here = ongoing_input _ _ c.requires.0 bound c.requires.1 in
     let code_is : code (drop place bytes) ≡ get_or bytes place 0 = code_at bytes place in
-    let wide : c.width.result ≡ width_of (code (drop place bytes)) = c.width.ensures ∙ ap width_of (sym code_is) in
+    let read = decoded _ c.unwrap-input.result c.try_from.ensures c.unwrap-input.ensures in
+    let wide : c.width.result ≡ width_of (code (drop place bytes)) = c.width.ensures.0 ∙ ap width_of (read ∙ sym code_is) in
     let fits : (0 < c.width.result) × (place + c.width.result ≤ length bytes) = input_fits _ _ _ _ _ here c.width.result wide in
     omega (arith, fits.1)
 
@@ -134,16 +146,10 @@ answer_undone-requires c =
     let bound : length c.args.journal.now < 2 ^ 63 = omega arith in
     let here = ongoing_input _ _ c.requires.0 bound c.requires.1 in
     let code_is : code (drop place bytes) ≡ get_or bytes place 0 = code_at bytes place in
-    let wide : c.width.result ≡ width_of (code (drop place bytes)) = c.width.ensures ∙ ap width_of (sym code_is) in
-    let was = c.requires.2 in
+    let read = decoded _ c.unwrap-input.result c.try_from.ensures c.unwrap-input.ensures in
+    let wide : c.width.result ≡ width_of (code (drop place bytes)) = c.width.ensures.0 ∙ ap width_of (read ∙ sym code_is) in
     let sized : SizedState c.if-p.words c.if-p.floats =
-    elim c.if-p.branch [
-      | then-p w ↦ record {
-        words = ap length w.words-is ∙ (w.replay.auto.words ∙ was.words);
-        floats = ap length w.floats-is ∙ (w.replay.auto.floats ∙ was.floats);
-      }
-      | else-p w ↦ record { words = ap length w.words-is ∙ was.words; floats = ap length w.floats-is ∙ was.floats }
-    ] in
+    record { words = omega arith; floats = omega arith } in
     let fresh : state_from c.if-p.words c.if-p.floats ≡ c.requires.0.state =
     elim c.if-p.branch [
       | then-p w ↦
@@ -160,7 +166,7 @@ answer_undone-requires c =
     (sym fresh) here in
     let ready : Ready c.if-p.words c.if-p.floats =
     sound_ready _ _ c.if-p.words c.if-p.floats sized now_here.running.bound (running_sound _ _ _ _ _ now_here.running) in
-    let other : code (drop place bytes) ≡ commands.undo → ⊥ = λ q. c.if-code-eq-UNDO.false (sym code_is ∙ q) in
+    let other : code (drop place bytes) ≡ commands.undo → ⊥ = λ q. c.in_default.not-Undo (undo_code _ (read ∙ (sym code_is ∙ q))) in
     let whole : Whole (engine_of c.args.stream.now (length c.args.journal.now)) (part_of bytes place c.width.result) =
     command_whole _ _ _ _ _ now_here c.width.result wide other in
     let end : ℕ = place + c.width.result in
@@ -168,7 +174,7 @@ answer_undone-requires c =
     let answer : ℕ = answer_width * c.args.p.answered in
     let next_is : is_undone (rest_of bytes end) room answer ≡ true = sym c.is_undone.ensures ∙ c.if-is_undone.true in
     let both = undone_room bytes end room answer next_is in
-    (ready, omega (arith, whole.len, whole.pos), whole.other, both)
+    (ready, (omega (arith, whole.len, whole.pos), whole.other), both)
 
 pub overflow_add-next-then-answer_undone : goal.overflow_add-next-then-answer_undone
 overflow_add-next-then-answer_undone c =
@@ -178,7 +184,8 @@ overflow_add-next-then-answer_undone c =
     let commands_bound : length bytes < 2 ^ 63 = omega arith in
     let here = ongoing_input _ _ c.requires.0 bound c.requires.1 in
     let code_is : code (drop place bytes) ≡ get_or bytes place 0 = code_at bytes place in
-    let wide : c.width.result ≡ width_of (code (drop place bytes)) = c.width.ensures ∙ ap width_of (sym code_is) in
+    let read = decoded _ c.unwrap-input.result c.try_from.ensures c.unwrap-input.ensures in
+    let wide : c.width.result ≡ width_of (code (drop place bytes)) = c.width.ensures.0 ∙ ap width_of (read ∙ sym code_is) in
     let fits : (0 < c.width.result) × (place + c.width.result ≤ length bytes) = input_fits _ _ _ _ _ here c.width.result wide in
     let end : ℕ = place + c.width.result in
     let room : ℕ = length c.args.answers.now in
@@ -199,58 +206,6 @@ overflow_add-next-then-answer_undone-2 c =
     let within : end < length bytes = undone_within bytes end room answer next_is in
     omega (arith, within, commands_bound)
 
-pub shape_of-words-then-answer_undone : goal.shape_of-words-then-answer_undone
-shape_of-words-then-answer_undone c =
-    let was = c.requires.2 in
-    let sized : SizedState c.if-p.words c.if-p.floats =
-    elim c.if-p.branch [
-      | then-p w ↦ record {
-        words = ap length w.words-is ∙ (w.replay.auto.words ∙ was.words);
-        floats = ap length w.floats-is ∙ (w.replay.auto.floats ∙ was.floats);
-      }
-      | else-p w ↦ record { words = ap length w.words-is ∙ was.words; floats = ap length w.floats-is ∙ was.floats }
-    ] in
-    c.answer_undone.auto.words ∙ (sized.words ∙ sym was.words)
-
-pub shape_of-floats-then-answer_undone : goal.shape_of-floats-then-answer_undone
-shape_of-floats-then-answer_undone c =
-    let was = c.requires.2 in
-    let sized : SizedState c.if-p.words c.if-p.floats =
-    elim c.if-p.branch [
-      | then-p w ↦ record {
-        words = ap length w.words-is ∙ (w.replay.auto.words ∙ was.words);
-        floats = ap length w.floats-is ∙ (w.replay.auto.floats ∙ was.floats);
-      }
-      | else-p w ↦ record { words = ap length w.words-is ∙ was.words; floats = ap length w.floats-is ∙ was.floats }
-    ] in
-    c.answer_undone.auto.floats ∙ (sized.floats ∙ sym was.floats)
-
-pub shape_of-words-else-answer_undone : goal.shape_of-words-else-answer_undone
-shape_of-words-else-answer_undone c =
-    let was = c.requires.2 in
-    let sized : SizedState c.if-p.words c.if-p.floats =
-    elim c.if-p.branch [
-      | then-p w ↦ record {
-        words = ap length w.words-is ∙ (w.replay.auto.words ∙ was.words);
-        floats = ap length w.floats-is ∙ (w.replay.auto.floats ∙ was.floats);
-      }
-      | else-p w ↦ record { words = ap length w.words-is ∙ was.words; floats = ap length w.floats-is ∙ was.floats }
-    ] in
-    c.answer_undone.auto.words ∙ (sized.words ∙ sym was.words)
-
-pub shape_of-floats-else-answer_undone : goal.shape_of-floats-else-answer_undone
-shape_of-floats-else-answer_undone c =
-    let was = c.requires.2 in
-    let sized : SizedState c.if-p.words c.if-p.floats =
-    elim c.if-p.branch [
-      | then-p w ↦ record {
-        words = ap length w.words-is ∙ (w.replay.auto.words ∙ was.words);
-        floats = ap length w.floats-is ∙ (w.replay.auto.floats ∙ was.floats);
-      }
-      | else-p w ↦ record { words = ap length w.words-is ∙ was.words; floats = ap length w.floats-is ∙ was.floats }
-    ] in
-    c.answer_undone.auto.floats ∙ (sized.floats ∙ sym was.floats)
-
 pub returns-then-answer_undone : goal.returns-then-answer_undone
 returns-then-answer_undone c b =
     let bytes : List ℕ = c.args.commands.now in
@@ -258,7 +213,8 @@ returns-then-answer_undone c b =
     let bound : length c.args.journal.now < 2 ^ 63 = omega arith in
     let here = ongoing_input _ _ b bound c.requires.1 in
     let code_is : code (drop place bytes) ≡ get_or bytes place 0 = code_at bytes place in
-    let wide : c.width.result ≡ width_of (code (drop place bytes)) = c.width.ensures ∙ ap width_of (sym code_is) in
+    let read = decoded _ c.unwrap-input.result c.try_from.ensures c.unwrap-input.ensures in
+    let wide : c.width.result ≡ width_of (code (drop place bytes)) = c.width.ensures.0 ∙ ap width_of (read ∙ sym code_is) in
     let fits : (0 < c.width.result) × (place + c.width.result ≤ length bytes) = input_fits _ _ _ _ _ here c.width.result wide in
     let fresh : state_from c.if-p.words c.if-p.floats ≡ b.state =
     elim c.if-p.branch [
@@ -276,7 +232,7 @@ returns-then-answer_undone c b =
     (sym fresh) here in
     let counted : c.args.p.applied ≡ (state_from c.if-p.words c.if-p.floats).shared.applied_length =
     b.applied ∙ ap (λ (s : EngineState). s.shared.applied_length) (sym fresh) in
-    let other : code (drop place bytes) ≡ commands.undo → ⊥ = λ q. c.if-code-eq-UNDO.false (sym code_is ∙ q) in
+    let other : code (drop place bytes) ≡ commands.undo → ⊥ = λ q. c.in_default.not-Undo (undo_code _ (read ∙ (sym code_is ∙ q))) in
     let end : ℕ = place + c.width.result in
     let room : ℕ = length c.args.answers.now in
     let answer : ℕ = answer_width * c.args.p.answered in
@@ -293,7 +249,8 @@ returns-else-answer_undone c b =
     let bound : length c.args.journal.now < 2 ^ 63 = omega arith in
     let here = ongoing_input _ _ b bound c.requires.1 in
     let code_is : code (drop place bytes) ≡ get_or bytes place 0 = code_at bytes place in
-    let wide : c.width.result ≡ width_of (code (drop place bytes)) = c.width.ensures ∙ ap width_of (sym code_is) in
+    let read = decoded _ c.unwrap-input.result c.try_from.ensures c.unwrap-input.ensures in
+    let wide : c.width.result ≡ width_of (code (drop place bytes)) = c.width.ensures.0 ∙ ap width_of (read ∙ sym code_is) in
     let fits : (0 < c.width.result) × (place + c.width.result ≤ length bytes) = input_fits _ _ _ _ _ here c.width.result wide in
     let fresh : state_from c.if-p.words c.if-p.floats ≡ b.state =
     elim c.if-p.branch [
@@ -311,7 +268,7 @@ returns-else-answer_undone c b =
     (sym fresh) here in
     let counted : c.args.p.applied ≡ (state_from c.if-p.words c.if-p.floats).shared.applied_length =
     b.applied ∙ ap (λ (s : EngineState). s.shared.applied_length) (sym fresh) in
-    let other : code (drop place bytes) ≡ commands.undo → ⊥ = λ q. c.if-code-eq-UNDO.false (sym code_is ∙ q) in
+    let other : code (drop place bytes) ≡ commands.undo → ⊥ = λ q. c.in_default.not-Undo (undo_code _ (read ∙ (sym code_is ∙ q))) in
     input_answered _ _ b.state
     (goes_on_refused _ _ _ _ _ c.if-p.words c.if-p.floats now_here c.width.result wide other
     c.answer_undone.ensures (omega arith) c.args.p.applied counted false c.if-answer_undone.false)
@@ -328,16 +285,10 @@ answer_command-requires c =
     let running = running_sound _ _ _ _ _ here.running in
     let within_journal : c.args.p.applied ≤ length c.args.journal.now = omega (arith, running.applied, c.requires.0.applied) in
     let code_is : code (drop place bytes) ≡ get_or bytes place 0 = code_at bytes place in
-    let wide : c.width.result ≡ width_of (code (drop place bytes)) = c.width.ensures ∙ ap width_of (sym code_is) in
-    let was = c.requires.2 in
+    let read = decoded _ c.unwrap-input.result c.try_from.ensures c.unwrap-input.ensures in
+    let wide : c.width.result ≡ width_of (code (drop place bytes)) = c.width.ensures.0 ∙ ap width_of (read ∙ sym code_is) in
     let sized : SizedState c.if-p.words c.if-p.floats =
-    elim c.if-p.branch [
-      | then-p w ↦ record {
-        words = ap length w.words-is ∙ (w.replay.auto.words ∙ was.words);
-        floats = ap length w.floats-is ∙ (w.replay.auto.floats ∙ was.floats);
-      }
-      | else-p w ↦ record { words = ap length w.words-is ∙ was.words; floats = ap length w.floats-is ∙ was.floats }
-    ] in
+    record { words = omega arith; floats = omega arith } in
     let fresh : state_from c.if-p.words c.if-p.floats ≡ c.requires.0.state =
     elim c.if-p.branch [
       | then-p w ↦
@@ -356,37 +307,11 @@ answer_command-requires c =
     c.requires.0.applied ∙ ap (λ (s : EngineState). s.shared.applied_length) (sym fresh) in
     let ready : Ready c.if-p.words c.if-p.floats =
     sound_ready _ _ c.if-p.words c.if-p.floats sized now_here.running.bound (running_sound _ _ _ _ _ now_here.running) in
-    let other : code (drop place bytes) ≡ commands.undo → ⊥ = λ q. c.if-code-eq-UNDO.false (sym code_is ∙ q) in
+    let other : code (drop place bytes) ≡ commands.undo → ⊥ = λ q. c.in_default.not-Undo (undo_code _ (read ∙ (sym code_is ∙ q))) in
     let whole : Whole (engine_of c.args.stream.now (length c.args.journal.now)) (part_of bytes place c.width.result) =
     command_whole _ _ _ _ _ now_here c.width.result wide other in
     let shared = ap (λ p. p.applied_length) (shared_read c.if-p.words c.if-p.floats) in
-    (ready, omega (arith, whole.len, whole.pos), whole.other, omega (arith, within_journal, counted, shared))
-
-pub shape_of-words : goal.shape_of-words
-shape_of-words c =
-    let was = c.requires.2 in
-    let sized : SizedState c.if-p.words c.if-p.floats =
-    elim c.if-p.branch [
-      | then-p w ↦ record {
-        words = ap length w.words-is ∙ (w.replay.auto.words ∙ was.words);
-        floats = ap length w.floats-is ∙ (w.replay.auto.floats ∙ was.floats);
-      }
-      | else-p w ↦ record { words = ap length w.words-is ∙ was.words; floats = ap length w.floats-is ∙ was.floats }
-    ] in
-    c.answer_command.auto.words ∙ (sized.words ∙ sym was.words)
-
-pub shape_of-floats : goal.shape_of-floats
-shape_of-floats c =
-    let was = c.requires.2 in
-    let sized : SizedState c.if-p.words c.if-p.floats =
-    elim c.if-p.branch [
-      | then-p w ↦ record {
-        words = ap length w.words-is ∙ (w.replay.auto.words ∙ was.words);
-        floats = ap length w.floats-is ∙ (w.replay.auto.floats ∙ was.floats);
-      }
-      | else-p w ↦ record { words = ap length w.words-is ∙ was.words; floats = ap length w.floats-is ∙ was.floats }
-    ] in
-    c.answer_command.auto.floats ∙ (sized.floats ∙ sym was.floats)
+    (ready, (omega (arith, whole.len, whole.pos), whole.other), omega (arith, within_journal, counted, shared))
 
 pub returns : goal.returns
 returns c b =
@@ -395,7 +320,8 @@ returns c b =
     let bound : length c.args.journal.now < 2 ^ 63 = omega arith in
     let here = ongoing_input _ _ b bound c.requires.1 in
     let code_is : code (drop place bytes) ≡ get_or bytes place 0 = code_at bytes place in
-    let wide : c.width.result ≡ width_of (code (drop place bytes)) = c.width.ensures ∙ ap width_of (sym code_is) in
+    let read = decoded _ c.unwrap-input.result c.try_from.ensures c.unwrap-input.ensures in
+    let wide : c.width.result ≡ width_of (code (drop place bytes)) = c.width.ensures.0 ∙ ap width_of (read ∙ sym code_is) in
     let fits : (0 < c.width.result) × (place + c.width.result ≤ length bytes) = input_fits _ _ _ _ _ here c.width.result wide in
     let fresh : state_from c.if-p.words c.if-p.floats ≡ b.state =
     elim c.if-p.branch [
@@ -411,7 +337,7 @@ returns c b =
     (rest_of_run bytes c.args.stream.now b.state c.args.journal.now c.args.answers.now c.args.p)
     c.args.journal.now c.args.answers.now s c.args.p.answered place)
     (sym fresh) here in
-    let other : code (drop place bytes) ≡ commands.undo → ⊥ = λ q. c.if-code-eq-UNDO.false (sym code_is ∙ q) in
+    let other : code (drop place bytes) ≡ commands.undo → ⊥ = λ q. c.in_default.not-Undo (undo_code _ (read ∙ (sym code_is ∙ q))) in
     input_answered _ _ b.state
     (goes_on_command _ _ _ _ _ c.if-p.words c.if-p.floats now_here c.width.result wide other
     c.answer_command.ensures (omega arith) false)

@@ -3,15 +3,14 @@ use mathlib.Core.Path.{refl, ap, ◌∙◌}
 use Prim.Native.Nat.{◌<◌, ◌^◌}
 use native.Mathlib.Omega.{arith}
 use lib.ListN.{length}
+use Rattle.hazards.proofs.RefusalLaws.{number_not_zero}
 use Rattle.engine.specs.Run.{ran}
 use Rattle.engine.specs.RunInternals.{Ongoing, opened_run}
+use Rattle.engine.proofs.Outcomes.{refused_as}
 use Rattle.engine.proofs.RunTurns.{Input, running_ends, run_stops, run_goes_on}
 use Rattle.engine.proofs.RunUndos.{deferred_begins}
 use Rattle.engine.proofs.OngoingRuns.{deferred_ongoing, goes_on_answered}
 use Rattle.engine.proofs.run.run_commands.Goals as goal
-
-pub open_state-requires : goal.open_state-requires
-open_state-requires c = record { words = refl; floats = refl }
 
 pub loop-p-init : goal.loop-p-init
 loop-p-init c =
@@ -20,23 +19,24 @@ loop-p-init c =
     let bound : length a.journal.now < 2 ^ 63 = omega arith in (
       deferred_begins a.commands.now a.stream.now (length a.journal.now) a.answers.now opened.ensures.0 c.requires.0
           bound,
-      record { words = opened.auto.words; floats = opened.auto.floats },
+      record { words = omega arith; floats = omega arith },
       c.requires.1,
     )
 
-pub end_run-number-requires : goal.end_run-number-requires
-end_run-number-requires c = let l = c.loop-p.invariant in (l.0.running.room, l.2)
+pub end_run-requires : goal.end_run-requires
+end_run-requires c = let l = c.loop-p.invariant in (l.0.running.room, l.2)
 
 -- ---- the run ends before the input
 
-pub shape_of-journal-then-number-ne0 : goal.shape_of-journal-then-number-ne0
-shape_of-journal-then-number-ne0 c = c.loop-p.invariant.0.running.same_journal
+pub shape_of-journal-in_err-end_run : goal.shape_of-journal-in_err-end_run
+shape_of-journal-in_err-end_run c = c.loop-p.invariant.0.running.same_journal
 
-pub returns-then-number-ne0 : goal.returns-then-number-ne0
-returns-then-number-ne0 c =
+pub returns-in_err-end_run : goal.returns-in_err-end_run
+returns-in_err-end_run c =
     let more : c.loop-p.p.read < length c.args.commands.now =
     c.loop-p-test.true in
-    run_stops _ _ _ _ _ c.loop-p.invariant.0.running more c.loop-p.res c.end_run-number.ensures c.if-number-ne0.true
+    rw (refused_as c.from_residual.result c.from_residual.ensures.1)
+    (run_stops _ _ _ _ _ c.loop-p.invariant.0.running more c.loop-p.res c.in_err-end_run.ensures (number_not_zero _))
 
 -- ---- the input is answered
 
@@ -48,16 +48,16 @@ answer_input-p-requires c =
     (length c.args.answers.now)
     (opened_run c.args.commands.now c.args.stream.now (length c.args.journal.now)
     c.args.answers.now)
-    c.loop-p.journal c.end_run-number.new.answers c.loop-p.invariant.0.current
+    c.loop-p.journal c.end_run.new.answers c.loop-p.invariant.0.current
     c.loop-p.p.answered c.loop-p.p.read =
     let l = c.loop-p in
-    run_goes_on _ _ _ _ _ l.invariant.0.running more l.res c.end_run-number.ensures c.if-number-ne0.false in
+    run_goes_on _ _ _ _ _ l.invariant.0.running more l.res c.in_ok-end_run.ensures refl in
     let standing : Ongoing c.args.commands.now c.args.stream.now c.loop-p.words c.loop-p.floats
-    c.loop-p.journal c.end_run-number.new.answers c.loop-p.p =
+    c.loop-p.journal c.end_run.new.answers c.loop-p.p =
     let d = c.loop-p.invariant.0 in
     deferred_ongoing _ _ (record { current = d.current; running = input.running; fresh = d.fresh; counted = d.counted }) in
     let x = input in
-    (standing, record { wide = x.wide; long = x.long; space = x.space }, c.loop-p.invariant.1)
+    (standing, record { wide = x.wide; long = x.long; space = x.space })
 
 pub loop-p-smaller : goal.loop-p-smaller
 loop-p-smaller c =
@@ -67,12 +67,12 @@ loop-p-smaller c =
     (length c.args.answers.now)
     (opened_run c.args.commands.now c.args.stream.now (length c.args.journal.now)
     c.args.answers.now)
-    c.loop-p.journal c.end_run-number.new.answers c.loop-p.invariant.0.current
+    c.loop-p.journal c.end_run.new.answers c.loop-p.invariant.0.current
     c.loop-p.p.answered c.loop-p.p.read =
     let l = c.loop-p in
-    run_goes_on _ _ _ _ _ l.invariant.0.running more l.res c.end_run-number.ensures c.if-number-ne0.false in
+    run_goes_on _ _ _ _ _ l.invariant.0.running more l.res c.in_ok-end_run.ensures refl in
     let standing : Ongoing c.args.commands.now c.args.stream.now c.loop-p.words c.loop-p.floats
-    c.loop-p.journal c.end_run-number.new.answers c.loop-p.p =
+    c.loop-p.journal c.end_run.new.answers c.loop-p.p =
     let d = c.loop-p.invariant.0 in
     deferred_ongoing _ _ (record { current = d.current; running = input.running; fresh = d.fresh; counted = d.counted }) in
     let after = c.answer_input-p.ensures standing in
@@ -86,18 +86,18 @@ loop-p-preserved c =
     (length c.args.answers.now)
     (opened_run c.args.commands.now c.args.stream.now (length c.args.journal.now)
     c.args.answers.now)
-    c.loop-p.journal c.end_run-number.new.answers c.loop-p.invariant.0.current
+    c.loop-p.journal c.end_run.new.answers c.loop-p.invariant.0.current
     c.loop-p.p.answered c.loop-p.p.read =
     let l = c.loop-p in
-    run_goes_on _ _ _ _ _ l.invariant.0.running more l.res c.end_run-number.ensures c.if-number-ne0.false in
+    run_goes_on _ _ _ _ _ l.invariant.0.running more l.res c.in_ok-end_run.ensures refl in
     let standing : Ongoing c.args.commands.now c.args.stream.now c.loop-p.words c.loop-p.floats
-    c.loop-p.journal c.end_run-number.new.answers c.loop-p.p =
+    c.loop-p.journal c.end_run.new.answers c.loop-p.p =
     let d = c.loop-p.invariant.0 in
     deferred_ongoing _ _ (record { current = d.current; running = input.running; fresh = d.fresh; counted = d.counted }) in
     let l = c.loop-p in (
       goes_on_answered _ _ standing.state input (c.answer_input-p.ensures standing)
           (omega (arith, l.invariant.0.running.same_journal)) (omega (arith, l.invariant.0.running.same_answers)),
-      record { words = c.answer_input-p.auto.words ∙ l.invariant.1.words; floats = c.answer_input-p.auto.floats ∙ l.invariant.1.floats },
+      record { words = omega arith; floats = omega arith },
       omega (arith, l.invariant.2),
     )
 

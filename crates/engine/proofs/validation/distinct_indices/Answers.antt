@@ -8,7 +8,7 @@ use native.Mathlib.Omega.{arith}
 use Rattle.engine.proofs.validation.distinct_indices.Goals as goal
 
 pub loop-i-init : goal.loop-i-init
-loop-i-init c = (omega arith, distinct_none)
+loop-i-init c = distinct_none
 
 pub returns-then-is_among : goal.returns-then-is_among
 returns-then-is_among c =
@@ -21,14 +21,12 @@ returns-then-is_among c =
 pub loop-i-preserved : goal.loop-i-preserved
 loop-i-preserved c =
     let w = c.args.words.now in
-    let i = c.loop-i.i in (
-      omega arith,
-      distinct_next (queue_from w) i empty_request (omega (arith, queue-length w)) c.loop-i.invariant.1
-          (rw (queue_index w i empty_request (omega arith)) (sym c.is_among.ensures ∙ c.if-is_among.false)),
-    )
+    let i = c.loop-i.i in
+    distinct_next (queue_from w) i empty_request (omega (arith, queue-length w)) c.loop-i.invariant
+    (rw (queue_index w i empty_request (omega arith)) (sym c.is_among.ensures ∙ c.if-is_among.false))
 
 pub returns : goal.returns
 returns c =
     let w = c.args.words.now in
     let e : c.loop-i.i ≡ queued_of w = omega arith in
-    rw (queued_in w) (sym (rw e at c.loop-i.invariant.1))
+    rw (queued_in w) (sym (rw e at c.loop-i.invariant))

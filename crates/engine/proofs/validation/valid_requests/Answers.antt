@@ -9,7 +9,7 @@ use native.Mathlib.Omega.{arith}
 use Rattle.engine.proofs.validation.valid_requests.Goals as goal
 
 pub loop-i-init : goal.loop-i-init
-loop-i-init c = (omega arith, λ f. refl)
+loop-i-init c = λ f. refl
 
 pub returns-then-not-valid_request : goal.returns-then-not-valid_request
 returns-then-not-valid_request c =
@@ -17,20 +17,18 @@ returns-then-not-valid_request c =
     let next = queue_next w (queued_of w) c.loop-i.i (omega arith) (omega arith) in
     λ f.
     let fails = sym (c.valid_request.ensures f) ∙ not-true _ c.if-not-valid_request.true-raw in
-    rw (queued_in w) (sym (all-fails (valid_request (state_from w f)) next fails) ∙ c.loop-i.invariant.1 f)
+    rw (queued_in w) (sym (all-fails (valid_request (state_from w f)) next fails) ∙ c.loop-i.invariant f)
 
 pub loop-i-preserved : goal.loop-i-preserved
 loop-i-preserved c =
     let w = c.args.words.now in
-    let next = queue_next w (queued_of w) c.loop-i.i (omega arith) (omega arith) in (
-      omega arith,
-      λ f.
-          let passes = sym (c.valid_request.ensures f) ∙ not-false _ c.if-not-valid_request.false-raw in
-          sym (all-next (valid_request (state_from w f)) next passes) ∙ c.loop-i.invariant.1 f,
-    )
+    let next = queue_next w (queued_of w) c.loop-i.i (omega arith) (omega arith) in
+    λ f.
+    let passes = sym (c.valid_request.ensures f) ∙ not-false _ c.if-not-valid_request.false-raw in
+    sym (all-next (valid_request (state_from w f)) next passes) ∙ c.loop-i.invariant f
 
 pub returns : goal.returns
 returns c =
     let w = c.args.words.now in
     let none = slice_none (queue_from w) (queued_of w) c.loop-i.i (omega arith) in
-    λ f. rw (queued_in w) (sym (all_none (valid_request (state_from w f)) none) ∙ c.loop-i.invariant.1 f)
+    λ f. rw (queued_in w) (sym (all_none (valid_request (state_from w f)) none) ∙ c.loop-i.invariant f)

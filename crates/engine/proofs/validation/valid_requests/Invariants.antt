@@ -1,6 +1,5 @@
 -- `validation::valid_requests` meets its contract: at each turn the requests from i on pass where all pass.
 use mathlib.Core.Path.{◌≡◌}
-use Prim.Native.Nat.{◌≤◌, ◌-◌}
 use lib.ListN.{take, drop}
 use Rattle.hazards.specs.Lists.{all}
 use Rattle.clocks.specs.Layout.{FloatRows}
@@ -10,10 +9,6 @@ use Rattle.engine.proofs.validation.valid_requests.Given as goal
 
 abbrev pub invariant-loop-i : goal.invariant-loop-i
 invariant-loop-i l =
-    (l.i ≤ l.queued)
-    × ((floats : FloatRows)
+    ((floats : FloatRows)
     → all (valid_request (state_from l.words floats)) (drop l.i (take l.queued (queue_from l.words)))
     ≡ all (valid_request (state_from l.words floats)) (take l.queued (queue_from l.words)))
-
-abbrev pub decreases-loop-i : goal.decreases-loop-i
-decreases-loop-i l = l.queued - l.i

@@ -5,7 +5,3 @@ use Rattle.hazards.proofs.checks.ascends.Goals as goal
 pub returns-then-before-end : goal.returns-then-before-end
 unfolding of_bits
 returns-then-before-end c = simp c.if-before-end.true
-
-pub returns-else-before-end : goal.returns-else-before-end
-unfolding of_bits
-returns-else-before-end c = simp c.if-before-end.false

@@ -16,10 +16,6 @@ pub returns-in-Gompertz : goal.returns-in-Gompertz
 unfolding range_fault
 returns-in-Gompertz c = λ ends. rw c.in-Gompertz.is (ap not c.in_range-in-Gompertz.ensures)
 
-pub returns-in-Piecewise : goal.returns-in-Piecewise
-unfolding range_fault
-returns-in-Piecewise c = λ ends. rw c.in-Piecewise.is (c.piecewise_range_fault.ensures ends)
-
 pub returns-in-Weibull : goal.returns-in-Weibull
 unfolding range_fault
 returns-in-Weibull c = λ ends. rw c.in-Weibull.is c.scale_fault.ensures

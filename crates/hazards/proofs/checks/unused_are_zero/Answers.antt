@@ -1,25 +1,18 @@
 -- `checks::unused_are_zero` meets its contract.
-use mathlib.Core.Path.{refl, sym, ◌∙◌}
+use mathlib.Core.Path.{sym, ◌∙◌}
 use native.Mathlib.Omega.{arith}
 use Rattle.hazards.specs.Checks.{zero_pair}
-use Rattle.hazards.specs.Rates.{intervals_from, pair_at}
+use Rattle.hazards.specs.Rates.{lent_pairs, pair_at}
 use Rattle.hazards.proofs.ListLaws.{all-so-far, all_done}
 use Rattle.hazards.proofs.Pieces.{pieces_next, pieces_end}
 use Rattle.hazards.proofs.checks.unused_are_zero.Goals as goal
 
-pub loop-i-init : goal.loop-i-init
-loop-i-init c = λ n. refl
-
 pub loop-i-preserved : goal.loop-i-preserved
 loop-i-preserved c =
-    let a = c.args in
-    λ n.
-    let next = pieces_next (pair_at (intervals_from a.ends.now a.rates.now n)) 8 c.loop-i.i (omega arith) in
-    all-so-far zero_pair c.loop-i.zero next c.zero_pair-zero.ensures ∙ c.loop-i.invariant n
+    let next = pieces_next (pair_at (lent_pairs c.args.pairs)) 8 c.loop-i.i (omega arith) in
+    all-so-far zero_pair c.loop-i.zero next c.zero_pair-zero.ensures ∙ c.loop-i.invariant
 
 pub returns : goal.returns
 returns c =
-    let a = c.args in
-    λ n.
-    let end = pieces_end (pair_at (intervals_from a.ends.now a.rates.now n)) 8 c.loop-i.i (omega arith) in
-    sym (all_done zero_pair c.loop-i.zero end) ∙ c.loop-i.invariant n
+    let end = pieces_end (pair_at (lent_pairs c.args.pairs)) 8 c.loop-i.i (omega arith) in
+    sym (all_done zero_pair c.loop-i.zero end) ∙ c.loop-i.invariant

@@ -9,21 +9,17 @@ use Rattle.hazards.proofs.DrawLaws.{draw_past, draw_used_up, draw_bad, draw_good
 use Rattle.hazards.proofs.draws.draw_at.Goals as goal
 
 pub returns-then-position-length : goal.returns-then-position-length
-returns-then-position-length c =
-    let a = c.args in
-    c.refused.ensures ∙ sym (draw_past a.stream.now a.position c.if-position-length.true)
+returns-then-position-length c = sym (draw_past c.args.stream.now c.args.position c.if-position-length.true)
 
 pub returns-then-position-length-2 : goal.returns-then-position-length-2
-returns-then-position-length-2 c =
-    let a = c.args in
-    c.refused-then-position-length-2.ensures ∙ sym (draw_used_up a.stream.now a.position c.if-position-length-2.true)
+returns-then-position-length-2 c = sym (draw_used_up c.args.stream.now c.args.position c.if-position-length-2.true)
 
 pub returns-then-not-is_threshold : goal.returns-then-not-is_threshold
 returns-then-not-is_threshold c =
     let a = c.args in
     let e : is_threshold (threshold_at a.stream.now a.position) ≡ false =
     ap is_threshold (sym c.f64_at-threshold.ensures) ∙ sym c.is_threshold.ensures ∙ not-true _ c.if-not-is_threshold.true-raw in
-    c.refused-then-not-is_threshold.ensures ∙ sym (draw_bad a.stream.now a.position (omega arith) e)
+    sym (draw_bad a.stream.now a.position (omega arith) e)
 
 pub returns : goal.returns
 returns c =

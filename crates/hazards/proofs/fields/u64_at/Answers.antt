@@ -1,9 +1,12 @@
--- A word of eight bytes.
-use lib.Dec.{lit≤}
+-- A word of 8 bytes, if it lies whole.
+use mathlib.Core.Path.{◌∙◌}
+use Rattle.hazards.proofs.FieldBytes.{reads_field, reads_none}
 use Rattle.hazards.proofs.fields.u64_at.Goals as goal
 
-pub word_at-requires : goal.word_at-requires
-word_at-requires c = lit≤ tt
+pub returns-in-Some : goal.returns-in-Some
+returns-in-Some c =
+    let a = c.args in
+    c.from_le_bytes.ensures ∙ reads_field 7 a.bytes.now a.at c.in-Some.ensures.0 c.in-Some.ensures.1
 
-pub returns : goal.returns
-returns c = c.word_at.ensures.0
+pub returns-in-None : goal.returns-in-None
+returns-in-None c = reads_none 7 c.args.bytes.now c.args.at c.in-None.ensures

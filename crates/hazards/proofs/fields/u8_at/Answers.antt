@@ -1,11 +1,14 @@
--- A word of one byte is below 2^8.
-use mathlib.Core.Path.{◌∙◌}
-use native.Mathlib.Nat.{mod-eq_of_lt}
-use lib.Dec.{lit≤}
+-- `fields::u8_at` meets its contract.
+use mathlib.Core.Path.{◌∙◌, ap}
+use native.Mathlib.Omega.{arith}
+use Prim.Native.Nat.{ℕ}
+use Rattle.std.specs.Prelude.{Option}
+use Rattle.std.specs.Option.{unwrap_or}
+use Rattle.hazards.proofs.FieldBytes.{reads_byte}
 use Rattle.hazards.proofs.fields.u8_at.Goals as goal
 
-pub word_at-requires : goal.word_at-requires
-word_at-requires c = lit≤ tt
-
 pub returns : goal.returns
-returns c = mod-eq_of_lt c.word_at.ensures.1 ∙ c.word_at.ensures.0
+returns c =
+    let a = c.args in
+    c.unwrap_or.ensures ∙ ap (λ (o : Option ℕ). unwrap_or o 0) c.copied.ensures ∙ c.get.ensures.lookup.4 (omega arith) 0
+    ∙ reads_byte a.bytes.now a.at

@@ -1,11 +1,7 @@
 -- `floats::is_time` meets its contract.
 use lib.Ieee.{of_bits}
 use Rattle.hazards.specs.Floats.{is_time}
-use Rattle.hazards.proofs.CheckLaws.{at_most_number}
 use Rattle.hazards.proofs.floats.is_time.Goals as goal
-
-pub float_to_bits-result : goal.float_to_bits-result
-float_to_bits-result c = at_most_number _ _ c.if-x.true
 
 pub returns-then-x : goal.returns-then-x
 unfolding is_time of_bits
@@ -13,4 +9,4 @@ returns-then-x c = rw c.if-x.true
 
 pub returns-else-x : goal.returns-else-x
 unfolding is_time of_bits
-returns-else-x c = rw c.if-x.false
+returns-else-x c = simp c.if-x.false

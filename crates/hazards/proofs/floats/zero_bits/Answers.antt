@@ -1,17 +1,14 @@
 -- `floats::zero_bits` meets its contract.
-use mathlib.Core.Path.{refl}
+use mathlib.Core.Path.{refl, sym}
 use lib.Ieee.{to_bits}
 use Rattle.hazards.specs.Floats.{zero_bits}
-use Rattle.hazards.proofs.Patterns.{differs, same_no_nan}
+use Rattle.hazards.proofs.Patterns.{is_nan_lem}
 use Rattle.hazards.proofs.floats.zero_bits.Goals as goal
 
-pub float_to_bits-result : goal.float_to_bits-result
-float_to_bits-result c = same_no_nan _ c.if-x.false
-
-pub returns-then-x : goal.returns-then-x
-unfolding zero_bits to_bits
-returns-then-x c = rw (differs _ c.if-x.true)
-
-pub returns-else-x : goal.returns-else-x
+pub returns-then-not-is_nan : goal.returns-then-not-is_nan
 unfolding zero_bits
-returns-else-x c = refl
+returns-then-not-is_nan c = refl
+
+pub returns-else-not-is_nan : goal.returns-else-not-is_nan
+unfolding zero_bits to_bits
+returns-else-not-is_nan c = rw (c.if-not-is_nan.false, is_nan_lem _ (sym c.if-not-is_nan.ensures.value)) refl

@@ -8,15 +8,6 @@ use Rattle.hazards.proofs.rate_for_wait.bracket_around.Goals as goal
 pub float_to_bits-near : goal.float_to_bits-near
 float_to_bits-near c = nearest_number c.args.threshold c.args.wait c.requires
 
-pub returns-then-near-lt3 : goal.returns-then-near-lt3
-returns-then-near-lt3 c = rw c.all_rates.ensures (whole (omega arith))
-
-pub returns-then-near-ge-LIMIT_PATTERN : goal.returns-then-near-ge-LIMIT_PATTERN
-returns-then-near-ge-LIMIT_PATTERN c = rw c.all_rates-then-near-ge-LIMIT_PATTERN.ensures (whole (omega arith))
-
-pub returns-then-used_up_within : goal.returns-then-used_up_within
-returns-then-used_up_within c = rw c.all_rates-then-used_up_within.ensures (whole (omega arith))
-
 -- the first pattern is behind the one below and not behind the one above
 pub returns-then-used_up_within-2 : goal.returns-then-used_up_within-2
 returns-then-used_up_within-2 c =
@@ -24,6 +15,3 @@ returns-then-used_up_within-2 c =
     lower_half
     (upper_half m (whole (omega arith)) (omega arith) (omega arith) (sym c.used_up_within.ensures ∙ c.if-used_up_within.false))
     (omega arith) (omega arith) (sym c.used_up_within-2.ensures ∙ c.if-used_up_within-2.true)
-
-pub returns : goal.returns
-returns c = rw c.all_rates-2.ensures (whole (omega arith))

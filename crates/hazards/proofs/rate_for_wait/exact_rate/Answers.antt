@@ -13,4 +13,4 @@ returns-then-threshold-rate c = rw c.if-threshold-rate.true
 
 pub returns : goal.returns
 unfolding exact_rate
-returns c = rw c.if-threshold-rate.false c.without_rate.ensures
+returns c = rw c.if-threshold-rate.false

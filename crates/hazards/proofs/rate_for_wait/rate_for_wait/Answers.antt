@@ -8,19 +8,13 @@ use Rattle.hazards.proofs.RateForWait.{past_answers, exact_answers}
 use Rattle.hazards.proofs.rate_for_wait.rate_for_wait.Goals as goal
 
 pub returns-then-not-within_limits : goal.returns-then-not-within_limits
-returns-then-not-within_limits c = rw c.without_rate.ensures (outside (sym c.within_limits.ensures ∙ not-true _ c.if-not-within_limits.true-raw))
-
-pub first_pattern-pattern-requires : goal.first_pattern-pattern-requires
-first_pattern-pattern-requires c = sym c.within_limits.ensures ∙ not-false _ c.if-not-within_limits.false-raw
+returns-then-not-within_limits c = outside (sym c.within_limits.ensures ∙ not-true _ c.if-not-within_limits.true-raw)
 
 pub returns-then-pattern-eq-PAST_LIMIT : goal.returns-then-pattern-eq-PAST_LIMIT
 returns-then-pattern-eq-PAST_LIMIT c =
     let l = sym c.within_limits.ensures ∙ not-false _ c.if-not-within_limits.false-raw in
     let a = c.args in
-    rw c.without_rate-then-pattern-eq-PAST_LIMIT.ensures (past_answers a.threshold a.wait l c.first_pattern-pattern.ensures c.if-pattern-eq-PAST_LIMIT.true)
-
-pub exact_rate-requires : goal.exact_rate-requires
-exact_rate-requires c = c.first_pattern-pattern.ensures.ends
+    past_answers a.threshold a.wait l c.first_pattern-pattern.ensures c.if-pattern-eq-PAST_LIMIT.true
 
 pub returns : goal.returns
 returns c =

@@ -9,4 +9,4 @@ returns-then-rate c = simp c.if-rate.true
 
 pub returns-else-rate : goal.returns-else-rate
 unfolding constant_wait of_bits
-returns-else-rate c = simp c.if-rate.false
+returns-else-rate c = simp (c.if-rate.false, c.without_piece.ensures)

@@ -25,7 +25,7 @@ returns-else-eta c = simp (c.if-t.false, c.in-Gompertz.is, c.if-eta.false)
 
 pub returns-in-Piecewise : goal.returns-in-Piecewise
 unfolding cumulative_hazard cumulative_of_rate of_bits
-returns-in-Piecewise c = simp (c.if-t.false, c.in-Piecewise.is) c.piecewise_cumulative.ensures
+returns-in-Piecewise c = simp (c.if-t.false, c.in-Piecewise.is) c.cumulative.ensures
 
 pub returns-in-Weibull : goal.returns-in-Weibull
 unfolding cumulative_hazard cumulative_of_rate of_bits

@@ -9,4 +9,4 @@ returns-then-is_finite_wait c = rw (sym c.is_finite_wait.ensures ∙ c.if-is_fin
 
 pub returns-else-is_finite_wait : goal.returns-else-is_finite_wait
 unfolding ends_in
-returns-else-is_finite_wait c = rw (sym c.is_finite_wait.ensures ∙ c.if-is_finite_wait.false)
+returns-else-is_finite_wait c = rw (sym c.is_finite_wait.ensures ∙ c.if-is_finite_wait.false, c.without_piece.ensures)

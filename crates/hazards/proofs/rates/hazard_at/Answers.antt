@@ -25,7 +25,7 @@ returns-else-eta c = simp (c.if-t.false, c.in-Gompertz.is, c.if-eta.false)
 
 pub returns-in-Piecewise : goal.returns-in-Piecewise
 unfolding hazard_at hazard_of_rate of_bits
-returns-in-Piecewise c = simp (c.if-t.false, c.in-Piecewise.is) c.piecewise_hazard.ensures
+returns-in-Piecewise c = simp (c.if-t.false, c.in-Piecewise.is) c.hazard.ensures
 
 pub returns-in-Weibull : goal.returns-in-Weibull
 unfolding hazard_at hazard_of_rate of_bits

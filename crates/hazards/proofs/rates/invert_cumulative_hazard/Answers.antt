@@ -5,7 +5,7 @@ use Rattle.hazards.proofs.rates.invert_cumulative_hazard.Goals as goal
 
 pub returns-then-target_w : goal.returns-then-target_w
 unfolding invert_cumulative_hazard wait_of_rate of_bits
-returns-then-target_w c = simp c.if-target_w.true
+returns-then-target_w c = simp (c.if-target_w.true, c.without_piece.ensures)
 
 pub returns-in-Zero : goal.returns-in-Zero
 unfolding invert_cumulative_hazard wait_of_rate of_bits
@@ -25,7 +25,7 @@ pub returns-in-Piecewise : goal.returns-in-Piecewise
 unfolding invert_cumulative_hazard wait_of_rate of_bits
 returns-in-Piecewise c =
     simp (c.if-target_w.false, c.in-Piecewise.is, ← c.not_below_zero-in-Piecewise.ensures)
-    c.piecewise_wait.ensures
+    c.wait.ensures
 
 pub returns-in-Weibull : goal.returns-in-Weibull
 unfolding invert_cumulative_hazard wait_of_rate of_bits

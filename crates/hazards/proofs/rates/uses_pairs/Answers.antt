@@ -1,23 +1,23 @@
--- `rates::uses_pairs` meets its contract: each constructor.
+-- `rates::uses_pairs` meets its contract: a hazard in pieces, or any other.
+use mathlib.Core.Path.{◌≡◌, refl}
+use mathlib.Core.Bool.{false}
+use lib.Ieee.{Float}
 use Rattle.hazards.specs.Rates.{uses_pairs}
+use Rattle.hazards.specs.declared.rates.HazardRate.{HazardRate}
+use Rattle.hazards.specs.declared.rates.HazardRate.TheVariants.{Zero, Constant, Gompertz, Piecewise, Weibull}
 use Rattle.hazards.proofs.rates.uses_pairs.Goals as goal
 
-pub returns-in-Zero : goal.returns-in-Zero
+others_none : (h : HazardRate) → ((trailing : Float) → h ≡ Piecewise trailing → ⊥) → false ≡ uses_pairs h
 unfolding uses_pairs
-returns-in-Zero c = rw c.in-Zero.is
-
-pub returns-in-Constant : goal.returns-in-Constant
-unfolding uses_pairs
-returns-in-Constant c = rw c.in-Constant.is
-
-pub returns-in-Gompertz : goal.returns-in-Gompertz
-unfolding uses_pairs
-returns-in-Gompertz c = rw c.in-Gompertz.is
+others_none Zero n = refl
+others_none (Constant rate) n = refl
+others_none (Gompertz eta) n = refl
+others_none (Piecewise trailing) n = absurd (n trailing refl)
+others_none (Weibull scale) n = refl
 
 pub returns-in-Piecewise : goal.returns-in-Piecewise
 unfolding uses_pairs
 returns-in-Piecewise c = rw c.in-Piecewise.is
 
-pub returns-in-Weibull : goal.returns-in-Weibull
-unfolding uses_pairs
-returns-in-Weibull c = rw c.in-Weibull.is
+pub returns-in_default : goal.returns-in_default
+returns-in_default c = others_none c.args.hazard c.in_default.not-Piecewise

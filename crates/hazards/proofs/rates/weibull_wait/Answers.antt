@@ -9,4 +9,5 @@ returns-then-scale c = simp c.if-scale.true
 
 pub returns : goal.returns
 unfolding weibull_wait of_bits
-returns c = simp (c.if-scale.false, ← c.weibull_cumulative.ensures, ← c.nearest_root-s.ensures, c.not_below_zero.ensures)
+returns c =
+    simp (c.if-scale.false, ← c.weibull_cumulative.ensures, ← c.nearest_root-s.ensures, ← c.not_below_zero.ensures, c.without_piece.ensures)

@@ -2,14 +2,9 @@
 use mathlib.Core.Path.{sym, ap, ◌∙◌}
 use lib.Ieee.{of_bits, binary64}
 use denote.Floats.{passes}
-use Rattle.hazards.proofs.Patterns.{above_number}
 use Rattle.hazards.proofs.PatternOrder.{pattern_finite, pattern_above_zero}
 use Rattle.hazards.proofs.FloatRoots.{finite_number, root_of_other, root_of_infinity, other_positive, root_of_positive}
 use Rattle.hazards.proofs.roots.nearest_root.Goals as goal
-
-pub float_to_bits-pattern : goal.float_to_bits-pattern
-unfolding of_bits
-float_to_bits-pattern c = above_number _ c.args.x c.if-x.true
 
 pub returns-then-pattern-eq-INFINITY_PATTERN : goal.returns-then-pattern-eq-INFINITY_PATTERN
 unfolding of_bits

@@ -9,6 +9,3 @@ returns-in-LowestCauseId c = rw c.in-LowestCauseId.is
 pub returns-in-HighestCauseId : goal.returns-in-HighestCauseId
 unfolding preferred
 returns-in-HighestCauseId c = rw c.in-HighestCauseId.is
-
-pub returns-in-ExplicitPriority : goal.returns-in-ExplicitPriority
-returns-in-ExplicitPriority c = rw c.in-ExplicitPriority.is c.explicitly_preferred.ensures

@@ -5,13 +5,19 @@ use Rattle.olgaemuri.specs.Inspection.{applied_of}
 use Rattle.olgaemuri.proofs.Inspected.{no_length}
 use Rattle.olgaemuri.proofs.inspection.applied_length.Goals as goal
 
-pub returns-then-words-ne-STATE_WORDS : goal.returns-then-words-ne-STATE_WORDS
-returns-then-words-ne-STATE_WORDS c = no_length c.args.words.now c.args.journal_length c.if-words-ne-STATE_WORDS.true
+pub returns-in_default : goal.returns-in_default
+returns-in_default c = no_length c.args.words.now c.args.journal_length c.in_default.ensures.cases
 
 pub returns-then-bytes-journal_length : goal.returns-then-bytes-journal_length
 unfolding applied_of shared_from shared_of
-returns-then-bytes-journal_length c = rw (eq-eqb _ 177 c.if-words-ne-STATE_WORDS.false, lt-leb _ _ c.if-bytes-journal_length.true)
+returns-then-bytes-journal_length c =
+    let whole = c.in-Some.ensures.cases in
+    let past = rw whole.same at c.if-bytes-journal_length.true in
+    rw (eq-eqb _ 177 whole.long, lt-leb _ _ past)
 
 pub returns : goal.returns
 unfolding applied_of shared_from shared_of
-returns c = rw (eq-eqb _ 177 c.if-words-ne-STATE_WORDS.false, le-leb _ _ c.if-bytes-journal_length.false)
+returns c =
+    let whole = c.in-Some.ensures.cases in
+    let within = rw whole.same at c.if-bytes-journal_length.false in
+    rw (whole.same, eq-eqb _ 177 whole.long, le-leb _ _ within)

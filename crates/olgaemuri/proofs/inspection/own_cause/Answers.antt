@@ -10,11 +10,11 @@ returns-then-settings-ne1 c =
     let a = c.args in
     c.no_cause.ensures ∙ absent_cause a.words.now a.floats.now a.place c.if-settings-ne1.true
 
-pub returns-then-place-at_most_eight : goal.returns-then-place-at_most_eight
-returns-then-place-at_most_eight c =
+pub returns-then-place-min : goal.returns-then-place-min
+returns-then-place-min c =
     let a = c.args in
-    c.no_cause-then-place-at_most_eight.ensures
-    ∙ past_used a.words.now a.floats.now a.place c.if-settings-ne1.false (omega (arith, c.at_most_eight.ensures, c.if-place-at_most_eight.true))
+    c.no_cause-then-place-min.ensures
+    ∙ past_used a.words.now a.floats.now a.place c.if-settings-ne1.false (omega (arith, c.min.ensures, c.if-place-min.true))
 
 pub returns : goal.returns
 returns c =
@@ -22,4 +22,4 @@ returns c =
     c.channel_fields.ensures
     ∙ (ap cause_of c.channel_at.ensures
     ∙ used_there a.words.now a.floats.now a.place c.if-settings-ne1.false
-    (omega (arith, c.at_most_eight.ensures, c.if-place-at_most_eight.false)))
+    (omega (arith, c.min.ensures, c.if-place-min.false)))

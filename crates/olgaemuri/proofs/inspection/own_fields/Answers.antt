@@ -13,11 +13,8 @@ returns-then-settings-ne1 c = rw (c.no_clock.ensures, ne_eqb _ 1 c.if-settings-n
 
 pub returns : goal.returns
 returns c =
-    let policy =
-    c.policy_number.ensures
-    ∙ ap policy_number (c.policy_of-policy.ensures ∙ ap policy_of c.byte_from.ensures) in
-    let tie =
-    c.tie_number.ensures ∙ ap tie_number (c.tie_breaker-tie.ensures ∙ ap tie_breaker_of c.byte_from-2.ensures) in
+    let policy = c.from.ensures ∙ ap policy_number (c.from-policy.ensures ∙ ap policy_of c.byte_from.ensures) in
+    let tie = c.from-2.ensures ∙ ap tie_number (c.from-tie.ensures ∙ ap tie_breaker_of c.byte_from-2.ensures) in
     own_there c.args.words.now c.args.floats.now _ _ _ _ _ policy tie c.byte_from-3.ensures
     c.u32_from.ensures c.u32_from-2.ensures
     c.if-settings-ne1.false

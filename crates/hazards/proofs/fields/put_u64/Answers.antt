@@ -1,0 +1,6 @@
+-- The library's 8 bytes of the number are the definition's.
+use Rattle.hazards.proofs.FieldBytes.{writes_field}
+use Rattle.hazards.proofs.fields.put_u64.Goals as goal
+
+pub returns : goal.returns
+returns c = let a = c.args in writes_field 8 a.bytes.now a.at a.x c.to_le_bytes.ensures c.put_field.ensures
