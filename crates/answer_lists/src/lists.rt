@@ -1,14 +1,35 @@
 // A list's bytes, case by case.
-ghost use Rattle.std.specs.Prelude.{◌^◌, ◌≤◌, ◌<◌, IfOk, IfSome, IfNone, length, take};
-ghost use Rattle.std.specs.Io.KnownBytes.{Consumes, IsAtEnd};
+ghost use Rattle.std.specs.Prelude.{◌^◌, ◌≤◌, ◌<◌, ◌≢◌, IfOk, IfErr, IfSome, IfNone, length, take};
+ghost use Rattle.std.specs.Io.{ReadsAtMost};
+ghost use Rattle.std.specs.Io.KnownBytes.{Consumes, IsAtEnd, ReadConsumes};
+ghost use Rattle.std.specs.IoError.{error_kind};
 ghost use Rattle.answer_lists.specs.Lists.{ConsumesFewer, Replays};
 
 use crate::count::Count;
 use std::io;
-use std::io::Read;
+use std::io::{ErrorKind, Read};
 
 // No list is read further than so many cases.
 pub const MOST_CASES: u64 = 1000000;
+
+// One read, tried again where a signal interrupts it.
+fn read_some<R: Read>(list: &mut R, bytes: &mut [u8]) -> io::Result<usize>
+    ensures bound { ReadsAtMost result bytes.new }
+    ensures bytes { ReadConsumes (R.remaining list.old) (R.remaining list.new) result bytes.new }
+    ensures retried { IfErr result (λ e. error_kind e ≢ ErrorKind.Interrupted) }
+{
+    for _ in 0..u64::MAX {
+        match list.read(bytes) {
+            Ok(count) => return Ok(count),
+            Err(e) => {
+                if e.kind() != ErrorKind::Interrupted {
+                    return Err(e);
+                }
+            }
+        }
+    }
+    Err(io::Error::from(ErrorKind::TimedOut))
+}
 
 // Reads until the bytes are full or the list ends, and tells how many were read.
 pub fn read_full<R: Read>(list: &mut R, bytes: &mut [u8]) -> io::Result<usize>
@@ -16,10 +37,14 @@ pub fn read_full<R: Read>(list: &mut R, bytes: &mut [u8]) -> io::Result<usize>
     ensures read { IfOk result
         (λ count. Consumes (R.remaining list.old) (R.remaining list.new) (take count bytes.new)) }
     ensures end { IfOk result (λ count. count < length bytes.new → IsAtEnd (R.remaining list.new)) }
+    ensures retried { IfErr result (λ e. error_kind e ≢ ErrorKind.Interrupted) }
 {
     let mut done = 0;
     for _ in 0..bytes.len() {
-        let count = list.read(&mut bytes[done..])?;
+        if done == bytes.len() {
+            break;
+        }
+        let count = read_some(list, &mut bytes[done..])?;
         if count == 0 {
             break;
         }

@@ -1,4 +1,7 @@
 // The steps of a clock in its rows, each decoded from its command's bytes.
+ghost use Rattle.std.specs.Prelude.{◌≡◌};
+ghost use Rattle.clocks.specs.RowsInternals.{channel_drawn};
+
 use clocks::clocks::{EntityId, HazardInterruptionPolicy};
 use clocks::layout::{CLOCK_FLOATS, CLOCK_WORDS, ClockFloats, ClockWords};
 use clocks::scheduling::{QueueChange, RealizedEvent};
@@ -10,6 +13,7 @@ use engine::commands::{
 };
 use hazards::answers::{Answer, event_of, no_event};
 use hazards::fields::{f64_at, u8_at, u32_at, u64_at};
+use hazards::refusals::Refusal;
 use hazards::ties::TieBreaker;
 
 // Where a step's requests so far and its draw position stand.
@@ -30,6 +34,17 @@ pub struct Clock {
 pub struct Played {
     pub answer: Answer,
     pub position: usize,
+}
+
+// The number of a SET's draw, and the position after it: a refusal leaves it.
+fn number_and_position(position: usize, drawn: Result<usize, Refusal>) -> (u8, usize)
+    ensures { result
+        ≡ ((channel_drawn position drawn).number, (channel_drawn position drawn).position) }
+{
+    match drawn {
+        Ok(next) => (0, next),
+        Err(refusal) => (refusal.number(), position),
+    }
 }
 
 impl Clock {
@@ -80,15 +95,11 @@ impl Clock {
 
     fn set(&mut self, case: &[u8], stream: &[u8], position: usize) -> Played {
         let setting = set_command(case).setting;
-        match set_channel(&mut self.words, &mut self.floats, setting, stream, position) {
-            Ok(position) => Played {
-                answer: no_event(0),
-                position,
-            },
-            Err(refusal) => Played {
-                answer: no_event(refusal.number()),
-                position,
-            },
+        let drawn = set_channel(&mut self.words, &mut self.floats, setting, stream, position);
+        let (number, position) = number_and_position(position, drawn);
+        Played {
+            answer: no_event(number),
+            position,
         }
     }
 

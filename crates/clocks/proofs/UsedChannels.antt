@@ -45,6 +45,10 @@ module _ (cs : List HazardChannelState) (count : ℕ) (eight : length cs ≡ 8) 
   used_end i h = drop_of_length-le (take count cs) {i = i} (rw used-length h)
 
 -- ---- the search for a cause: `at` channels do not have it, and the next has it, or not, or there is none
+none_further : (p : Option ℕ) → further 0 p ≡ p
+none_further (Some at) = ap Some (omega arith)
+none_further None = refl
+
 one_further : (n : ℕ) (p : Option ℕ) → further n (further 1 p) ≡ further (n + 1) p
 one_further n (Some at) = ap Some (omega arith)
 one_further n None = refl
@@ -52,6 +56,9 @@ one_further n None = refl
 module _ (us : List HazardChannelState) (cause : ℕ) where
   abbrev pub Searched : ℕ → Type 0
   Searched at = further at (place_of_cause cause (drop at us)) ≡ place_of_cause cause us
+
+  pub search_start : Searched 0
+  search_start = none_further (place_of_cause cause us)
 
   module _ (at : ℕ) (searched : Searched at) where
     module _ {c : HazardChannelState} (first : drop at us ≡ c ∷ drop (at + 1) us) where

@@ -101,7 +101,7 @@ fn valid_channel(words: &ClockWords, floats: &ClockFloats, j: usize) -> bool
         rates: &floats[RATES + CHANNEL_FLOATS * j],
         count: ws[PAIRS] as usize,
     };
-    let range = hazards::checks::range_fault(hazard, pairs);
+    let range = hazards::checks::range_fault(hazard, pairs.rates, pairs.count);
     let intervals = hazards::checks::intervals_fault(hazard, pairs);
     let finite = all_finite(ns[ACCUMULATED], ns[THRESHOLD], ns[START]);
     !range & (!intervals & finite)

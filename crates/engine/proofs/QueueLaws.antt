@@ -1,4 +1,4 @@
--- Laws of the queue: the queued requests one after another, and what is left without one.
+-- Laws of the queue: the order of two requests case by case, the queued ones one after another, and what is left without one.
 use mathlib.Core.Path.{◌≡◌, refl, sym, ap}
 use mathlib.Core.Bool.{Bool, true, false, not, cond}
 use mathlib.Core.List.{List, [], ◌∷◌, ◌++◌, append-nil}
@@ -6,22 +6,47 @@ use mathlib.Core.Option.{none, some}
 use Prim.Native.Nat.{ℕ, suc, ◌+◌, ◌-◌, ◌^◌, ◌<◌, ◌≤◌, min}
 use native.Mathlib.Numerals.{add-one}
 use native.Mathlib.Omega.{arith}
-use lib.Dec.{eqb, lit≤}
+use lib.Dec.{eqb, ltb, lit≤}
 use lib.IntN.{ℤ}
 use lib.ListN.{length, get_or, take, drop, length-take, drop_of_length-le}
 use lib.Seq.{drop-cons, take-suc, take_all, get_or-take}
-use lib.Signed.{mag}
+use lib.Signed.{lt_z, mag}
 use mir.Facts.{to_z-of_z}
 use mir.Syntax.{w32}
 use mir.Val.{to_z, of_z, hbits}
 use borrow.Author.Tests.{eq-eqb, ne_eqb}
-use Rattle.engine.specs.Queue.{earlier_of, next_request, keep_if, without, is_queued}
+use Rattle.engine.specs.Queue.{request_ticks, comes_first, earlier_of, next_request, keep_if, without, is_queued}
 use Rattle.engine.specs.State.{empty_request}
 use Rattle.engine.specs.declared.state.Request.{Request}
 
 -- ---- a priority, as the code compares it
 pub reads_back : (z : ℤ) → mag z < 2 ^ hbits w32 → z ≡ to_z w32 (of_z w32 z)
 reads_back z f = sym (to_z-of_z {w = w32} (record { sfits = f }))
+
+-- ---- which of two comes first
+module _ (a b : Request) where
+  pub fewer_first : ltb (request_ticks a) (request_ticks b) ≡ true → comes_first a b ≡ true
+  unfolding comes_first
+  fewer_first t = rw t
+
+  module _ (t : ltb (request_ticks a) (request_ticks b) ≡ false) where
+    pub more_later : ltb (request_ticks b) (request_ticks a) ≡ true → comes_first a b ≡ false
+    unfolding comes_first
+    more_later u = rw (t, u)
+
+    module _ (u : ltb (request_ticks b) (request_ticks a) ≡ false) where
+      pub higher_first : lt_z b.priority a.priority ≡ true → comes_first a b ≡ true
+      unfolding comes_first
+      higher_first p = rw (t, u, p)
+
+      module _ (p : lt_z b.priority a.priority ≡ false) where
+        pub lower_later : lt_z a.priority b.priority ≡ true → comes_first a b ≡ false
+        unfolding comes_first
+        lower_later q = rw (t, u, p, q)
+
+        pub by_index : lt_z a.priority b.priority ≡ false → comes_first a b ≡ ltb a.index b.index
+        unfolding comes_first
+        by_index q = rw (t, u, p, q)
 
 -- ---- the queued requests, of sixteen places
 module _ (rs : List Request) (n : ℕ) (sixteen : length rs ≡ 16) where

@@ -1,8 +1,9 @@
 -- Document 01, "Journal and undo": what is written over the front of a part of the journal, and the part that the applied commands fill.
 -- UNDO is in Replay, the copy of an accepted command into the free part in Execute (write), the commands that stand in Sessions.
-use Rattle.std.specs.Prelude.{cond, Option, Some, None, List, [], ◌++◌, ℕ, min, leb, length, take, drop, replicate}
+use Rattle.std.specs.Prelude.{cond, Result, Ok, Err, List, [], ◌++◌, ℕ, min, leb, length, take, drop, replicate}
 use denote.Ref.{Bor}
-use Rattle.hazards.specs.Refusals.{invalid_state}
+use Rattle.hazards.specs.Refusals.{number, invalid_state}
+use Rattle.hazards.specs.declared.refusals.Refusal.{Refusal}
 
 -- a command over the first bytes of the free part; one that is longer than the free part changes nothing
 unfoldable pub copied_into : List ℕ → List ℕ → List ℕ
@@ -20,10 +21,10 @@ pub record Part : Type 0 where
 abbrev pub part : List ℕ → ℕ → Part
 part bytes number = record { bytes = bytes; number = number }
 
--- as the code gives them: none is an empty part with refusal 1
-abbrev pub part_of : Option (Bor (List ℕ)) → Part
-part_of None = part [] invalid_state
-part_of (Some bytes) = part bytes.now 0
+-- as the code gives them: a refusal is an empty part with its number
+abbrev pub part_of : Result (Bor (List ℕ)) Refusal → Part
+part_of (Ok bytes) = part bytes.now 0
+part_of (Err refusal) = part [] (number refusal)
 
 -- the applied commands (document 01: standing commands) as that part of the journal; a length above the journal's is refused by 1 with an
 -- empty part

@@ -2,12 +2,15 @@
 ghost use Rattle.std.specs.Prelude.{◌≡◌, ◌*◌, ◌≤◌, length};
 ghost use Rattle.engine.specs.Journal.{copied_into, cleared_front, part_of, applied_part};
 
+use crate::copying::copy_over;
+use hazards::refusals::Refusal;
+
 // The command over the first bytes of the free part; one that is longer changes nothing.
 pub fn copy_into(free: &mut [u8], command: &[u8])
     ensures { free.new ≡ copied_into free.old command.now }
 {
     if command.len() <= free.len() {
-        free[..command.len()].copy_from_slice(command);
+        copy_over(&mut free[..command.len()], command);
     }
 }
 
@@ -40,10 +43,14 @@ pub fn clear(bytes: &mut [u8], count: usize)
     bytes[eights * 8..end].fill(0);
 }
 
-// The applied commands (document 01: standing commands), as that part of the caller's journal; none where their length is past the
-// journal's end.
-pub fn applied_commands(applied_length: usize, journal: &[u8]) -> Option<&[u8]>
+// The applied commands (document 01: standing commands), as that part of the caller's journal; refused by 1 where their length is past
+// the journal's end.
+pub fn applied_commands(applied_length: usize, journal: &[u8]) -> Result<&[u8], Refusal>
     ensures { part_of result ≡ applied_part journal.now applied_length }
 {
-    journal.get(..applied_length)
+    if applied_length <= journal.len() {
+        Ok(&journal[..applied_length])
+    } else {
+        Err(Refusal::InvalidState)
+    }
 }

@@ -4,6 +4,7 @@ ghost use Rattle.engine.specs.State.{slot_at, with_slot};
 ghost use Rattle.engine.specs.StateRows.{shared_from, state_from, SizedState, CodedState};
 ghost use Rattle.engine.specs.KeptRows.{kept_slot, kept_shared, SizedKept, CodedKept};
 
+use crate::copying::copy_over;
 use crate::state_rows::{COUNTS, STATE_FLOATS, STATE_WORDS};
 use clocks::layout::{CLOCK_FLOATS, CLOCK_WORDS};
 
@@ -26,9 +27,12 @@ pub(crate) fn keep(
 {
     let w = CLOCK_WORDS * clock;
     let f = CLOCK_FLOATS * clock;
-    kept[..CLOCK_WORDS].copy_from_slice(&words[w..w + CLOCK_WORDS]);
-    kept[CLOCK_WORDS..KEPT_WORDS].copy_from_slice(&words[COUNTS..STATE_WORDS]);
-    kept_floats.copy_from_slice(&floats[f..f + CLOCK_FLOATS]);
+    copy_over(&mut kept[..CLOCK_WORDS], &words[w..w + CLOCK_WORDS]);
+    copy_over(
+        &mut kept[CLOCK_WORDS..KEPT_WORDS],
+        &words[COUNTS..STATE_WORDS],
+    );
+    copy_over(kept_floats, &floats[f..f + CLOCK_FLOATS]);
 }
 
 // The clock and the shared state that are kept come back to their places.
@@ -48,7 +52,10 @@ pub(crate) fn put_back(
 {
     let w = CLOCK_WORDS * clock;
     let f = CLOCK_FLOATS * clock;
-    words[w..w + CLOCK_WORDS].copy_from_slice(&kept[..CLOCK_WORDS]);
-    words[COUNTS..STATE_WORDS].copy_from_slice(&kept[CLOCK_WORDS..KEPT_WORDS]);
-    floats[f..f + CLOCK_FLOATS].copy_from_slice(kept_floats);
+    copy_over(&mut words[w..w + CLOCK_WORDS], &kept[..CLOCK_WORDS]);
+    copy_over(
+        &mut words[COUNTS..STATE_WORDS],
+        &kept[CLOCK_WORDS..KEPT_WORDS],
+    );
+    copy_over(&mut floats[f..f + CLOCK_FLOATS], kept_floats);
 }

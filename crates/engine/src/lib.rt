@@ -6,6 +6,7 @@
 pub mod clock_calls;
 pub mod commands;
 pub mod comparison;
+pub mod copying;
 pub mod execute;
 pub mod execution;
 pub mod journal;

@@ -11,6 +11,7 @@ ghost use Rattle.engine.specs.KeptRows.{SizedKept, CodedKept};
 ghost use Rattle.engine.specs.InPlace.{Executes};
 
 use crate::commands::Command;
+use crate::copying::copy_over;
 use crate::execution::perform;
 use crate::kept_rows::KEPT_WORDS;
 use crate::state_rows::{APPLIED_LENGTH, COUNTS, STATE_FLOATS, STATE_WORDS};
@@ -155,8 +156,8 @@ pub(crate) fn undo(
         return Err(Refusal::ReplayFails);
     }
     crate::kept_rows::put_back(&mut end, &mut end_floats, last.clock, &kept, &kept_floats);
-    words.copy_from_slice(&end);
-    floats.copy_from_slice(&end_floats);
+    copy_over(words, &end);
+    copy_over(floats, &end_floats);
     let place = last.place;
     crate::journal::clear(&mut journal[place..], applied - place);
     Ok(no_event(0))

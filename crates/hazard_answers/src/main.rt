@@ -2,12 +2,16 @@
 // there are and how many differ. The lists' layouts, and how they were made, are in host/README.md.
 #![tactic(auto)]
 
+ghost use Rattle.std.specs.Prelude.{◌≡◌};
+ghost use Rattle.hazards.specs.RateForWait.{rate_answer};
+
 use answer_lists::count::Count;
 use answer_lists::lists::replay;
 use hazards::answers::ANSWER_WIDTH;
 use hazards::draws::StreamPosition;
 use hazards::fields::{f64_at, put_f64, put_u64, u8_at, u64_at};
 use hazards::rate_for_wait::rate_for_wait;
+use hazards::refusals::Refusal;
 use probe::{EVALUATION_WIDTH, SAMPLED_WIDTH};
 use std::fs::File;
 use std::io;
@@ -58,12 +62,19 @@ fn sample_agrees(case: &[u8]) -> bool {
     case.get(EXPECTED..SAMPLE_CASE) == Some(&out)
 }
 
-// threshold f64, wait f64; expected: number u8, rate f64.
-fn rate_agrees(case: &[u8]) -> bool {
-    let (number, rate) = match rate_for_wait(f64_at(case, 0), f64_at(case, 8)) {
+// The number of what was found, and the rate: 0.0 beside a refusal.
+fn number_and_rate(found: Result<f64, Refusal>) -> (u8, f64)
+    ensures { result ≡ ((rate_answer found).number, (rate_answer found).rate) }
+{
+    match found {
         Ok(rate) => (0, rate),
         Err(refusal) => (refusal.number(), 0.0),
-    };
+    }
+}
+
+// threshold f64, wait f64; expected: number u8, rate f64.
+fn rate_agrees(case: &[u8]) -> bool {
+    let (number, rate) = number_and_rate(rate_for_wait(f64_at(case, 0), f64_at(case, 8)));
     let mut out = [0u8; 8];
     put_f64(&mut out, 0, rate);
     number == u8_at(case, 16) && u64_at(&out, 0) == u64_at(case, 17)

@@ -8,7 +8,7 @@ ghost use Rattle.hazards.specs.Checks.{scale_fault, range_fault, pairs_from, zer
 ghost use Rattle.hazards.specs.Checks.{intervals_of, lent_fields, hazard_faults};
 
 use crate::floats::{INVERSE_LIMIT, LIMIT, in_range, zero_bits};
-use crate::rates::{HazardRate, Intervals, KINDS, Pairs, rate_of_kind, uses_pairs};
+use crate::rates::{HazardRate, Intervals, KINDS, Pairs, rate_of_kind};
 use crate::refusals::Faults;
 
 // The fields of a hazard as in SET.
@@ -84,12 +84,12 @@ fn unused_are_zero(pairs: Pairs<'_>, from: usize) -> bool
 }
 
 // Refusal 5 of a piecewise hazard.
-fn piecewise_range_fault(trailing: f64, pairs: Pairs<'_>) -> bool
-    ensures { (ends : List Float) → result
-        ≡ range_fault (HazardRate.Piecewise trailing) (intervals_from ends pairs.entry.rates.now pairs.entry.count) }
+fn piecewise_range_fault(trailing: f64, rates: &[f64; 8], count: usize) -> bool
+    ensures { (ends : List Float)
+        → result ≡ range_fault (HazardRate.Piecewise trailing) (intervals_from ends rates.now count) }
 {
     let own = in_range(trailing);
-    let used = rates_in_range(pairs.rates, pairs.count);
+    let used = rates_in_range(rates, count);
     !(own & used)
 }
 
@@ -103,20 +103,20 @@ fn scale_fault(scale: f64) -> bool
 }
 
 // Refusal 5 of a hazard, whatever its ends.
-pub fn range_fault(hazard: HazardRate, pairs: Pairs<'_>) -> bool
-    ensures { (ends : List Float) → result
-        ≡ range_fault hazard (intervals_from ends pairs.entry.rates.now pairs.entry.count) }
+pub fn range_fault(hazard: HazardRate, rates: &[f64; 8], count: usize) -> bool
+    ensures { (ends : List Float) → result ≡ range_fault hazard (intervals_from ends rates.now count) }
 {
     match hazard {
         HazardRate::Zero => false,
         HazardRate::Constant(rate) => !in_range(rate),
         HazardRate::Gompertz(eta) => !in_range(eta),
-        HazardRate::Piecewise(trailing) => piecewise_range_fault(trailing, pairs),
+        HazardRate::Piecewise(trailing) => piecewise_range_fault(trailing, rates, count),
         HazardRate::Weibull(scale) => scale_fault(scale),
     }
 }
 
 // Refusal 6 of a hazard that uses no pairs.
+#[inline(always)]
 pub(crate) fn unused_fault(pairs: Pairs<'_>) -> bool
     ensures { result ≡ unused_fault (lent_pairs pairs.entry) }
 {
@@ -141,10 +141,12 @@ fn pairs_fault(pairs: Pairs<'_>) -> bool
 pub fn intervals_fault(hazard: HazardRate, pairs: Pairs<'_>) -> bool
     ensures { result ≡ intervals_fault hazard (lent_pairs pairs.entry) }
 {
-    if uses_pairs(hazard) {
-        pairs_fault(pairs)
-    } else {
-        unused_fault(pairs)
+    match hazard {
+        HazardRate::Zero => unused_fault(pairs),
+        HazardRate::Constant(_) => unused_fault(pairs),
+        HazardRate::Gompertz(_) => unused_fault(pairs),
+        HazardRate::Piecewise(_) => pairs_fault(pairs),
+        HazardRate::Weibull(_) => unused_fault(pairs),
     }
 }
 
@@ -170,13 +172,14 @@ impl<'a> LentHazard<'a> {
     }
 
     // Refusals 4 to 6 of these fields.
+    #[inline(always)]
     pub fn faults(self) -> Faults
         ensures { result ≡ hazard_faults (lent_fields self.entry) }
     {
         let hazard = self.hazard();
         Faults {
             choice: choice_fault(self.kind, self.first),
-            range: range_fault(hazard, self.pairs),
+            range: range_fault(hazard, self.pairs.rates, self.pairs.count),
             intervals: intervals_fault(hazard, self.pairs),
             identifier: false,
         }

@@ -10,6 +10,7 @@ use crate::rates::Wait;
 use crate::refusals::Refusal;
 
 // 4 on the hazard, 5 on hazard, time and w, then 6.
+#[inline(always)]
 fn evaluation_refusal(hazard: LentHazard<'_>, in_limits: bool) -> Result<(), Refusal>
     ensures { refused_number result ≡ evaluation_refusal (lent_fields hazard.entry) in_limits }
 {
@@ -39,6 +40,7 @@ pub fn evaluate_cumulative_hazard(hazard: LentHazard<'_>, t: f64) -> Result<f64,
 
 // invert_cumulative_hazard: the wait from t_start on until target_w more has accumulated, and the piece that it ends in; an infinite wait
 // is one too.
+#[inline(always)]
 pub fn evaluate_inversion(
     hazard: LentHazard<'_>,
     t_start: f64,

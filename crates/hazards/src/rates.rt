@@ -288,6 +288,7 @@ fn weibull_wait(scale: f64, start: f64, w: f64) -> Option<Wait>
 }
 
 // The wait from an age on until the hazard accumulated reaches w.
+#[inline(always)]
 pub fn invert_cumulative_hazard(
     hazard: HazardRate,
     pairs: Pairs<'_>,

@@ -30,13 +30,9 @@ fn single_rate_faults(fields: LentHazard<'_>) -> Faults
     requires { uses_pairs (hazard_of (lent_fields fields)) ≡ false }
     ensures { result ≡ hazard_faults (lent_fields fields.entry) }
 {
-    let none = Pairs {
-        count: 0,
-        ..fields.pairs
-    };
     Faults {
         choice: crate::checks::choice_fault(fields.kind, fields.first),
-        range: crate::checks::range_fault(fields.hazard(), none),
+        range: crate::checks::range_fault(fields.hazard(), fields.pairs.rates, 0),
         intervals: crate::checks::unused_fault(fields.pairs),
         identifier: false,
     }

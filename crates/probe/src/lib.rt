@@ -3,8 +3,10 @@
 // 146 bytes: cause u32, priority u32, hazard.
 #![tactic(auto)]
 
-ghost use Rattle.std.specs.Prelude.{◌≤◌, length, ◌≡◌};
+ghost use Rattle.std.specs.Prelude.{◌≤◌, length, ◌≡◌, IfOk, IfErr, IfSome, IfNone};
+ghost use Rattle.hazards.specs.Floats.{z};
 ghost use Rattle.hazards.specs.Rates.{intervals_from, hazard_at, cumulative_hazard, rate_of_kind};
+ghost use Rattle.hazards.specs.Refusals.{number};
 ghost use Rattle.hazards.specs.Roots.{nearest_root};
 
 use hazards::answers::ANSWER_WIDTH;
@@ -77,6 +79,7 @@ pub struct Evaluated {
 
 // 0 hazard_at, 1 cumulative_hazard, else invert_cumulative_hazard.
 // Kept: lists and the C interface give the operation as a byte.
+#[inline(always)]
 pub fn evaluate(
     op: u8,
     hazard: LentHazard<'_>,
@@ -104,21 +107,35 @@ const FOUND: u64 = 256;
 // number u8, found u8, six zero bytes, value f64, piece u64.
 pub const EVALUATION_WIDTH: usize = 24;
 
+// What is written of an evaluation: the first word, the value and the piece.
+#[derive(Clone, Copy)]
+struct Parts {
+    head: u64,
+    value: f64,
+    piece: usize,
+}
+
 // A refusal has its number, and zero elsewhere; no wait is all zero.
+fn told(evaluation: Result<Option<Evaluated>, Refusal>) -> Parts
+    ensures refused { IfErr evaluation (λ refusal. result ≡ record { head = number refusal; value = z; piece = 0 }) }
+    ensures none { IfOk evaluation (λ found. IfNone found (result ≡ record { head = 0; value = z; piece = 0 })) }
+    ensures found { IfOk evaluation (λ found. IfSome found
+        (λ e. result ≡ record { head = 256; value = e.value; piece = e.piece })) }
+{
+    let (head, value, piece) = match evaluation {
+        Err(refusal) => (u64::from(refusal.number()), 0.0, 0),
+        Ok(None) => (0, 0.0, 0),
+        Ok(Some(found)) => (FOUND, found.value, found.piece),
+    };
+    Parts { head, value, piece }
+}
+
 pub fn put_evaluation(out: &mut [u8], at: usize, evaluation: Result<Option<Evaluated>, Refusal>)
     requires { at ≤ 0x7fff_ffff_ffff_ffff }
     ensures { length out.new ≡ length out.old }
 {
-    let none = Evaluated {
-        value: 0.0,
-        piece: 0,
-    };
-    let (head, told) = match evaluation {
-        Err(refusal) => (u64::from(refusal.number()), none),
-        Ok(None) => (0, none),
-        Ok(Some(found)) => (FOUND, found),
-    };
-    put_u64(out, at, head);
+    let told = told(evaluation);
+    put_u64(out, at, told.head);
     put_f64(out, at + 8, told.value);
     put_u64(out, at + 16, told.piece as u64);
 }

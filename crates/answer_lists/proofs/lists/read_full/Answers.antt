@@ -23,8 +23,8 @@ loop-preserved g c =
     let from = c.loop.done in
     let room = length c.loop.bytes - from in
     let within = c.loop.invariant.within in
-    let part = slice_range-put_mid from room c.in_ok-count.count c.loop.bytes c.read.new.buf within c.in_ok-count.ensures.bound.0 in
-    let joined = take_split from (from + c.in_ok-count.count) c.loop.bytes (put_mid from room c.loop.bytes c.read.new.buf) (omega arith) (take-put_mid_below _ _ _ _ _ (le_refl _) within) in
+    let part = slice_range-put_mid from room c.in_ok-count.count c.loop.bytes c.read_some.new.bytes within c.in_ok-count.ensures.bound.0 in
+    let joined = take_split from (from + c.in_ok-count.count) c.loop.bytes (put_mid from room c.loop.bytes c.read_some.new.bytes) (omega arith) (take-put_mid_below _ _ _ _ _ (le_refl _) within) in
     record {
       kept = search rules;
       within = search rules;

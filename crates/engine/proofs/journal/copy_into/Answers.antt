@@ -6,7 +6,7 @@ use Rattle.engine.proofs.journal.copy_into.Goals as goal
 pub returns-then-command-free : goal.returns-then-command-free
 returns-then-command-free c =
     let a = c.args in
-    rw c.copy_from_slice.ensures.after (sym (copied_whole a.free.now a.command.now c.if-command-free.true))
+    rw c.copy_over.ensures (sym (copied_whole a.free.now a.command.now c.if-command-free.true))
 
 pub returns-else-command-free : goal.returns-else-command-free
 returns-else-command-free c = let a = c.args in sym (copied_nothing a.free.now a.command.now c.if-command-free.false)

@@ -13,15 +13,15 @@ returns c =
     let f = a.floats.now in
     let k = a.clock in
     let old = a.kept.now in
-    let here = c.copy_from_slice in
-    let rest = c.copy_from_slice-2 in
-    let floats = c.copy_from_slice-3 in
+    let here = c.copy_over in
+    let rest = c.copy_over-2 in
+    let floats = c.copy_over-3 in
     let sized : SizedState w f = record { words = omega arith; floats = omega arith } in
     let n : length old ≡ 27 = omega arith in (
-      keeps_slot w f k c.requires sized old n here.new.self rest.new.self floats.new.self
-          here.ensures.after rest.ensures.after floats.ensures.after,
-      keeps_shared w f k c.requires sized old n here.new.self rest.new.self floats.new.self
-          here.ensures.after rest.ensures.after floats.ensures.after,
-      keeps_coded w f k c.requires sized old n here.new.self rest.new.self floats.new.self
-          here.ensures.after rest.ensures.after floats.ensures.after,
+      keeps_slot w f k c.requires sized old n here.new.to rest.new.to floats.new.to
+          here.ensures rest.ensures floats.ensures,
+      keeps_shared w f k c.requires sized old n here.new.to rest.new.to floats.new.to
+          here.ensures rest.ensures floats.ensures,
+      keeps_coded w f k c.requires sized old n here.new.to rest.new.to floats.new.to
+          here.ensures rest.ensures floats.ensures,
     )

@@ -11,13 +11,13 @@ returns c =
     let w = a.words.now in
     let f = a.floats.now in
     let k = a.clock in
-    let here = c.copy_from_slice in
-    let rest = c.copy_from_slice-2 in
-    let floats = c.copy_from_slice-3 in
+    let here = c.copy_over in
+    let rest = c.copy_over-2 in
+    let floats = c.copy_over-3 in
     let sized : SizedState w f = record { words = omega arith; floats = omega arith } in
     let kept : SizedKept a.kept.now a.kept_floats.now = record { words = omega arith; floats = omega arith } in (
-      puts_back w f k c.requires sized a.kept.now a.kept_floats.now kept here.new.self rest.new.self
-          floats.new.self here.auto.self floats.auto.self here.ensures.after rest.ensures.after floats.ensures.after,
-      puts_coded w f k c.requires sized a.kept.now a.kept_floats.now kept here.new.self rest.new.self
-          floats.new.self here.auto.self floats.auto.self here.ensures.after rest.ensures.after floats.ensures.after,
+      puts_back w f k c.requires sized a.kept.now a.kept_floats.now kept here.new.to rest.new.to
+          floats.new.to here.auto.to floats.auto.to here.ensures rest.ensures floats.ensures,
+      puts_coded w f k c.requires sized a.kept.now a.kept_floats.now kept here.new.to rest.new.to
+          floats.new.to here.auto.to floats.auto.to here.ensures rest.ensures floats.ensures,
     )

@@ -68,11 +68,11 @@ returns-then-not-same_state c =
 
 -- ---- the last command is taken back in the rows of the replay, which are copied
 
-pub copy_from_slice-requires : goal.copy_from_slice-requires
-copy_from_slice-requires c = omega arith
+pub copy_over-requires : goal.copy_over-requires
+copy_over-requires c = omega arith
 
-pub copy_from_slice-requires-2 : goal.copy_from_slice-requires-2
-copy_from_slice-requires-2 c = omega arith
+pub copy_over-requires-2 : goal.copy_over-requires-2
+copy_over-requires-2 c = omega arith
 
 pub slice_bounds-clear-count : goal.slice_bounds-clear-count
 unfolding shared_from shared_of
@@ -128,7 +128,7 @@ returns c =
     last.new.kept_floats c.in-Some.ensures.0
     (sym c.same_state.ensures ∙ not-false _ c.if-not-same_state.false-raw)
     c.no_event.result c.no_event.ensures c.put_back.new.words c.put_back.new.floats c.put_back.ensures.0
-    (c.put_back.ensures.1 c.in-Some.ensures.1.2 c.in-Some.ensures.1.3) c.copy_from_slice.new.self c.copy_from_slice.ensures.after
-    c.copy_from_slice-2.new.self c.copy_from_slice-2.ensures.after _
+    (c.put_back.ensures.1 c.in-Some.ensures.1.2 c.in-Some.ensures.1.3) c.copy_over.new.to c.copy_over.ensures
+    c.copy_over-2.new.to c.copy_over-2.ensures _
     (cleared_journal a.stream.now a.journal.now clear.new.bytes c.in-Some.last.place applied within
     within-journal clear.ensures)

@@ -1,15 +1,23 @@
--- `checks::intervals_fault` meets its contract: the hazard uses pairs, or none.
-use mathlib.Core.Path.{sym, ◌∙◌}
-use Rattle.hazards.specs.Rates.{lent_pairs}
-use Rattle.hazards.proofs.CheckLaws.{used_intervals, single_intervals}
+-- `checks::intervals_fault` meets its contract: each constructor.
+use Rattle.hazards.specs.Checks.{intervals_fault}
 use Rattle.hazards.proofs.checks.intervals_fault.Goals as goal
 
-pub returns-then-uses_pairs : goal.returns-then-uses_pairs
-returns-then-uses_pairs c =
-    let a = c.args in
-    c.pairs_fault.ensures ∙ used_intervals a.hazard (lent_pairs a.pairs) (sym c.uses_pairs.ensures ∙ c.if-uses_pairs.true)
+pub returns-in-Zero : goal.returns-in-Zero
+unfolding intervals_fault
+returns-in-Zero c = rw c.in-Zero.is c.unused_fault.ensures
 
-pub returns-else-uses_pairs : goal.returns-else-uses_pairs
-returns-else-uses_pairs c =
-    let a = c.args in
-    c.unused_fault.ensures ∙ single_intervals a.hazard (lent_pairs a.pairs) (sym c.uses_pairs.ensures ∙ c.if-uses_pairs.false)
+pub returns-in-Constant : goal.returns-in-Constant
+unfolding intervals_fault
+returns-in-Constant c = rw c.in-Constant.is c.unused_fault-in-Constant.ensures
+
+pub returns-in-Gompertz : goal.returns-in-Gompertz
+unfolding intervals_fault
+returns-in-Gompertz c = rw c.in-Gompertz.is c.unused_fault-in-Gompertz.ensures
+
+pub returns-in-Piecewise : goal.returns-in-Piecewise
+unfolding intervals_fault
+returns-in-Piecewise c = rw c.in-Piecewise.is c.pairs_fault.ensures
+
+pub returns-in-Weibull : goal.returns-in-Weibull
+unfolding intervals_fault
+returns-in-Weibull c = rw c.in-Weibull.is c.unused_fault-in-Weibull.ensures
