@@ -79,7 +79,6 @@ pub struct Evaluated {
 
 // 0 hazard_at, 1 cumulative_hazard, else invert_cumulative_hazard.
 // Kept: lists and the C interface give the operation as a byte.
-#[inline(always)]
 pub fn evaluate(
     op: u8,
     hazard: LentHazard<'_>,
