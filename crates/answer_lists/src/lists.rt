@@ -21,11 +21,8 @@ fn read_some<R: Read>(list: &mut R, bytes: &mut [u8]) -> io::Result<usize>
     for _ in 0..u64::MAX {
         match list.read(bytes) {
             Ok(count) => return Ok(count),
-            Err(e) => {
-                if e.kind() != ErrorKind::Interrupted {
-                    return Err(e);
-                }
-            }
+            Err(e) if e.kind() != ErrorKind::Interrupted => return Err(e),
+            Err(_) => {}
         }
     }
     Err(io::Error::from(ErrorKind::TimedOut))
